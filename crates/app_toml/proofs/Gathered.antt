@@ -4,7 +4,7 @@ use Rattle.std.specs.BTreeMap.{BTreeMap, get_by_text}
 use Rattle.std.specs.BTreeSet.{BTreeSet}
 use Rattle.std.specs.List.{list_any}
 use Rattle.std.specs.Str.{bytes_eq}
-use Rattle.std.proofs.lemmas.Bool.{cases_Bool}
+use Rattle.std.proofs.lemmas.Bool.{cases_Bool, or_right, or_parts}
 use Rattle.std.proofs.lemmas.List.{append_assoc, drop_more, map-append}
 use Rattle.std.proofs.Math.Seq.{take-suc}
 use Rattle.toml.specs.Data.{Members}
@@ -15,7 +15,7 @@ use Rattle.app_toml.specs.Crossed.{has_task, is_among, notifications_of}
 use Rattle.app_toml.specs.Known.{HasJust, IsKept}
 use Rattle.app_toml.specs.Places.{Text}
 use Rattle.app_toml.specs.Values.{each_in, table_of}
-use Rattle.app_toml.proofs.Walks.{or_false, same_text}
+use Rattle.app_toml.proofs.Walks.{same_text}
 
 swapped : (a b c : Bool) → (a || (b || c)) ≡ (b || (a || c))
 swapped true true c = refl
@@ -92,14 +92,10 @@ notes_new ts t h e =
     notes_more t.name ts t ∙ ap (λ b. cond b (notifications_of t.name ts) (cond (bytes_eq t.name t.name) t.notifications [])) h
     ∙ ap (λ b. cond b t.notifications []) e
 
-or_true : (a b : Bool) → b ≡ true → (a || b) ≡ true
-or_true true b e = refl
-or_true false b e = e
-
 pub kept_known : {A : Type 0} (known : BTreeSet (String A)) (name : Text) (ts : List TaskData) (t : TaskData)
     → IsKept (Some known) name ts → IsKept (Some known) name (ts ++ t ∷ [])
 kept_known known name ts t kept = (
-  any_more (λ s. bytes_eq s.name name) ts t ∙ or_true (bytes_eq t.name name) (has_task name ts) kept.0,
+  any_more (λ s. bytes_eq s.name name) ts t ∙ or_right (bytes_eq t.name name) (has_task name ts) kept.0,
   λ bit. kept.1 bit ∙ ap (is_among bit) (sym (notes_stay name ts t kept.0)),
 )
 
@@ -138,7 +134,7 @@ kept_is (Some known) name ts kept = sym kept.0
 pub none_named : (name : Text) (ts : List TaskData) → has_task name ts ≡ false → notifications_of name ts ≡ []
 none_named name [] e = refl
 none_named name (t ∷ ts) e =
-    let parts = or_false (bytes_eq t.name name) (has_task name ts) e in
+    let parts = or_parts (bytes_eq t.name name) (has_task name ts) e in
     ap (λ b. cond b t.notifications (notifications_of name ts)) parts.0 ∙ none_named name ts parts.1
 
 pub kept_added : {A : Type 0} (old new : Text → Option (BTreeSet (String A))) (known : BTreeSet (String A)) (name : Text) (ts : List TaskData) (t : TaskData)

@@ -1,9 +1,9 @@
 -- Where no cause of 2 to 6 holds, each value has its form.
 use Rattle.std.proofs.Common.{◌≡◌, ◌+◌, ◌<◌, ◌≤◌, ◌==◌, ◌&&◌, ℕ, pos, negsuc, List, [], length, Bool, true, false, nat_le, nat_lt, Option, None, Some, option_map, refl, subst, sym, arith, lit<, cond}
 use Rattle.std.specs.Prelude.{All, codes, unwrap_or, option_and_then}
-use Rattle.std.proofs.lemmas.Bool.{leb-true, lt-ltb}
+use Rattle.std.proofs.lemmas.Bool.{leb-true, lt-ltb, and_parts}
 use Rattle.std.proofs.lemmas.Bool.Decides.{nat_tests}
-use Rattle.std.proofs.lemmas.List.Elements.{All-cons}
+use Rattle.std.proofs.lemmas.List.Elements.{All-cons, All-nil}
 use Rattle.toml.specs.Data.{Data, string, integer, float, boolean, datetime, array, table, Items, no_items, item, Members, no_members, as_array, as_integer, as_table, get_member}
 use Rattle.app_toml.specs.declared.forms.Form.TheVariants.{Number, Name, Filled, Names}
 use Rattle.app_toml.specs.Accepted.{IsAccepted, IsDevice, IsInterrupt, IsName, IsRegion, IsTask, IsWithin}
@@ -31,16 +31,12 @@ filled_if : (b : Bool) (site : Site) → cond b (refuse 6 site) None ≡ None �
 filled_if true site e = cc
 filled_if false site e = refl
 
-both_true : (a b : Bool) → (a && b) ≡ true → (a ≡ true) × (b ≡ true)
-both_true true b e = (refl, e)
-both_true false b e = cc
-
 pub number_kept : (low high : ℕ) (site : Site) (d : Option Data) → high < 4294967296
     → found_fault (needed [] (Number (pos low) (pos high))) site d ≡ None
     → IsWithin low high (small (option_and_then as_integer d))
 number_kept low high site None lt e = cc
 number_kept low high site (Some (integer (pos n))) lt e =
-    let tests = both_true (nat_le low n) (nat_le n high) (none_if (nat_le low n && nat_le n high) site e) in
+    let tests = and_parts (nat_le low n) (nat_le n high) (none_if (nat_le low n && nat_le n high) site e) in
     let low_n = leb-true low n tests.0 in
     let n_high = leb-true n high tests.1 in
     let fits : n < 4294967296 = omega arith in
@@ -78,14 +74,11 @@ filled_kept site (Some (datetime t)) e = cc
 filled_kept site (Some (array ds)) e = cc
 filled_kept site (Some (table ms)) e = cc
 
-none_of : {T : Type 0} (P : T → Type 0) → All P []
-none_of P k d lt = absurd (omega (arith, lt))
-
 entry_kept : (site : Site) (d : Data) → name_fault site d ≡ None → IsName (text_of d)
 entry_kept site d e = name_kept site (Some d) e
 
 entries_kept : (site : Site) (k : ℕ) (ds : Items) → names_fault site k ds ≡ None → All IsName (texts_of ds)
-entries_kept site k no_items e = none_of IsName
+entries_kept site k no_items e = All-nil IsName
 entries_kept site k (item d ds) e =
     let parts = both_none (name_fault (at_entry k site) d) (names_fault site (k + 1) ds) e in
     All-cons IsName (text_of d) (texts_of ds) (entry_kept (at_entry k site) d parts.0)
@@ -93,7 +86,7 @@ entries_kept site k (item d ds) e =
 
 pub names_kept : (site : Site) (d : Option Data) → found_fault (optional [] Names) site d ≡ None
     → All IsName (texts_of (unwrap_or (option_and_then as_array d) no_items))
-names_kept site None e = none_of IsName
+names_kept site None e = All-nil IsName
 names_kept site (Some (array ds)) e = entries_kept site 0 ds e
 names_kept site (Some (string s)) e = cc
 names_kept site (Some (integer z)) e = cc
@@ -177,7 +170,7 @@ Keeps P read keys = (site : Site) (d : Data) → table_fault keys site d ≡ Non
 
 each_kept : {T : Type 0} (P : T → Type 0) (read : Members → T) (name : Text) (keys : List KeyRow) → Keeps P read keys
     → (k : ℕ) (ds : Items) → tables_fault name keys k ds ≡ None → All P (each_in read ds)
-each_kept P read name keys keeps k no_items e = none_of P
+each_kept P read name keys keeps k no_items e = All-nil P
 each_kept P read name keys keeps k (item d ds) e =
     let parts = both_none (table_fault keys (index_site name k) d) (tables_fault name keys (k + 1) ds) e in
     All-cons P (read (table_of d)) (each_in read ds) (keeps (index_site name k) d parts.0)
@@ -186,7 +179,7 @@ each_kept P read name keys keeps k (item d ds) e =
 listed_kept : {T : Type 0} (P : T → Type 0) (read : Members → T) (name : Text) (is_needed : Bool) (keys : List KeyRow)
     → Keeps P read keys → (d : Option Data) → listed_found name is_needed keys d ≡ None
     → All P (each_in read (unwrap_or (option_and_then as_array d) no_items))
-listed_kept P read name is_needed keys keeps None e = none_of P
+listed_kept P read name is_needed keys keeps None e = All-nil P
 listed_kept P read name is_needed keys keeps (Some (array ds)) e = each_kept P read name keys keeps 0 ds e
 listed_kept P read name is_needed keys keeps (Some (string s)) e = cc
 listed_kept P read name is_needed keys keeps (Some (integer z)) e = cc

@@ -3,7 +3,7 @@ use Rattle.std.proofs.Common.{◌≡◌, ◌≢◌, ◌<◌, ◌≤◌, ◌+◌,
 use Rattle.std.specs.Prelude.{All, Any, Contains, codes}
 use Rattle.std.specs.List.{list_any}
 use Rattle.std.specs.Str.{bytes_eq}
-use Rattle.std.proofs.lemmas.Bool.{cases_Bool, eqb-true, leb-true, ltb-false}
+use Rattle.std.proofs.lemmas.Bool.{cases_Bool, eqb-true, leb-true, ltb-false, or_parts, and_parts, not-false}
 use Rattle.std.proofs.lemmas.Bool.Decides.{nat_tests}
 use Rattle.std.proofs.lemmas.List.Folds.{Any-from_list_any}
 use Rattle.app_toml.specs.Apps.{AppData, DeviceData, InterruptData, RegionData, TaskData}
@@ -12,7 +12,7 @@ use Rattle.app_toml.specs.Crossed.{bad_device, bad_stack, count_fault, cross_fau
 use Rattle.app_toml.specs.Places.{Site, Text, at_entry, at_key, first_clash, first_fault, head_site, index_site, refuse_if}
 use Rattle.app_toml.specs.Relations.{AreApart, AreDistinct, HasCounts, HasDevices, HasNames, HasOwnNames, HasReferences, HasStarts, IsBeside, IsPlaced, NamesArea, Owns, Relations, no_task, task_in}
 use Rattle.app_toml.proofs.Passed.{both_none, not_refused}
-use Rattle.app_toml.proofs.Walks.{all_clear, all_fail, and_true, any_weaker, contained, differs, each_clear, each_fine, fault_in, not_false, or_false, same_text}
+use Rattle.app_toml.proofs.Walks.{all_clear, all_fail, any_weaker, contained, differs, each_clear, each_fine, fault_in, same_text}
 
 -- ---- names
 
@@ -22,7 +22,7 @@ not_among name names e = all_fail (λ n. bytes_eq n name) (λ n. n ≢ name) (λ
 entry_clear : (earlier : List Text) (site : Site) (before : List Text) (j : ℕ) (name : Text) → entry_twice earlier site before j name ≡ None
     → (is_among name earlier ≡ false) × (is_among name before ≡ false)
 entry_clear earlier site before j name e =
-    or_false (is_among name earlier) (is_among name before) (not_refused (is_among name earlier || is_among name before) 7 (at_entry j site) e)
+    or_parts (is_among name earlier) (is_among name before) (not_refused (is_among name earlier || is_among name before) 7 (at_entry j site) e)
 
 distinct : (earlier : List Text) (site : Site) (names : List Text) → entries_twice earlier site names ≡ None → AreDistinct names
 distinct earlier site names e = all_clear (entry_twice earlier site) (λ m n. m ≢ n)
@@ -57,7 +57,7 @@ region_clear before k r e =
 device_names : (regions : List RegionData) (before : List DeviceData) (k : ℕ) (d : DeviceData) → device_twice regions before k d ≡ None
     → (has_region d.name regions ≡ false) × (has_device d.name before ≡ false)
 device_names regions before k d e =
-    or_false (has_region d.name regions) (has_device d.name before)
+    or_parts (has_region d.name regions) (has_device d.name before)
     (not_refused (has_region d.name regions || has_device d.name before) 7 (device_site k (codes "name")) e)
 
 device_clear : (regions : List RegionData) (before : List DeviceData) (k : ℕ) (d : DeviceData) → device_twice regions before k d ≡ None
@@ -85,7 +85,7 @@ has_names app e =
 -- ---- references
 
 known : (test : Bool) (cause : ℕ) (site : Site) → refuse_if (not test) cause site ≡ None → test ≡ true
-known test cause site e = not_false test (not_refused (not test) cause site e)
+known test cause site e = not-false test (not_refused (not test) cause site e)
 
 fault_known : (fault : Text) (tasks : List TaskData) → unknown_fault_bit fault tasks ≡ None → 1 ≤ length tasks
     → Contains (get_or tasks 0 no_task).notifications fault
@@ -143,7 +143,7 @@ has_references app e some =
 
 -- ---- numbers
 
-not_zero : (n : ℕ) → (n == 0) ≡ false → 1 ≤ n
+pub not_zero : (n : ℕ) → (n == 0) ≡ false → 1 ≤ n
 not_zero n e = grind (arith, nat_tests)
 
 has_counts : (app : AppData) → count_fault app.tasks ≡ None → HasCounts app
@@ -162,10 +162,10 @@ has_counts app e =
 
 priority_cases : (first : Bool) (priority : ℕ) → cond first (not (priority == 0)) (priority == 0) ≡ false
     → (first ≡ true → priority ≡ 0) × (first ≡ false → 1 ≤ priority)
-priority_cases true priority e = (λ same. eqb-true priority 0 (not_false (priority == 0) e), λ other. cc)
+priority_cases true priority e = (λ same. eqb-true priority 0 (not-false (priority == 0) e), λ other. cc)
 priority_cases false priority e = (λ same. cc, λ other. not_zero priority e)
 
-above_zero : (k : ℕ) → 0 < k → (k == 0) ≡ false
+pub above_zero : (k : ℕ) → 0 < k → (k == 0) ≡ false
 above_zero k more = grind (arith, nat_tests)
 
 right_priority : (k priority : ℕ) → is_wrong k priority ≡ false → (k ≡ 0 → priority ≡ 0) × (0 < k → 0 < priority)
@@ -179,8 +179,8 @@ started (t ∷ ts) e some = known t.start 16 (task_site 0 (codes "start")) e
 
 good_stack : (k : ℕ) (t : TaskData) → bad_stack k t ≡ None → (t.stack ≤ t.ram) × (t.stack % 8 ≡ 0)
 good_stack k t e =
-    let tests = or_false (nat_lt t.ram t.stack) (not (t.stack % 8 == 0)) (not_refused (is_bad_stack t.ram t.stack) 17 (task_site k (codes "stack")) e) in
-    (ltb-false t.ram t.stack tests.0, eqb-true (t.stack % 8) 0 (not_false (t.stack % 8 == 0) tests.1))
+    let tests = or_parts (nat_lt t.ram t.stack) (not (t.stack % 8 == 0)) (not_refused (is_bad_stack t.ram t.stack) 17 (task_site k (codes "stack")) e) in
+    (ltb-false t.ram t.stack tests.0, eqb-true (t.stack % 8) 0 (not-false (t.stack % 8 == 0) tests.1))
 
 has_starts : (app : AppData) → start_fault app.tasks ≡ None → 1 ≤ length app.tasks → HasStarts app
 has_starts app e some =
@@ -209,9 +209,9 @@ line_clear before k i e =
 pub placed : (k : ℕ) (d : DeviceData) → bad_device k d ≡ None → IsPlaced d
 placed k d e =
     let all = known (is_placed d) 19 (index_site (codes "device") k) e in
-    let last = and_true (is_size d.size && d.base % d.size == 0 && nat_le 0x40000000 d.base) (nat_le (d.base + d.size) 0x60000000) all in
-    let first = and_true (is_size d.size && d.base % d.size == 0) (nat_le 0x40000000 d.base) last.0 in
-    let size = and_true (is_size d.size) (d.base % d.size == 0) first.0 in
+    let last = and_parts (is_size d.size && d.base % d.size == 0 && nat_le 0x40000000 d.base) (nat_le (d.base + d.size) 0x60000000) all in
+    let first = and_parts (is_size d.size && d.base % d.size == 0) (nat_le 0x40000000 d.base) last.0 in
+    let size = and_parts (is_size d.size) (d.base % d.size == 0) first.0 in
     record {
       size = size.0;
       base = eqb-true (d.base % d.size) 0 size.1;

@@ -1,14 +1,15 @@
 -- Of devices that are kept by their bases, a further one meets one where it meets the last that begins before its end.
 use Rattle.std.proofs.Common.{◌≡◌, ◌∙◌, ◌≢◌, ◌<◌, ◌≤◌, ◌+◌, ◌==◌, ◌&&◌, ◌||◌, ℕ, zero, suc, List, [], ◌∷◌, ◌++◌, get_or, length, map, take, Bool, true, false, inl, inr, nat_lt, Option, Some, None, is_some, refl, sym, ap, subst, arith}
+use Rattle.std.proofs.lemmas.Map.Keys.{ge_from_not_lt}
 use Rattle.std.specs.Prelude.{All, unwrap_or}
 use Rattle.std.specs.BTreeMap.{is_at}
 use Rattle.std.specs.List.{list_any}
 use Rattle.std.specs.Ordering.{is_lt, nat_cmp}
 use Rattle.std.proofs.lemmas.Bool.Decides.{nat_tests}
-use Rattle.std.proofs.lemmas.Bool.{cases_Bool, cases_lt, eq-eqb, eqb-true, false≢true, lt-ltb, ltb-false, ltb-true}
+use Rattle.std.proofs.lemmas.Bool.{cases_Bool, cases_lt, eq-eqb, eqb-true, false≢true, lt-ltb, ltb-false, ltb-true, and_from, and_parts}
 use Rattle.std.specs.declared.cmp.Ordering.TheVariants.{Less}
 use Rattle.std.proofs.lemmas.List.{get_or-map, length-map, take-map}
-use Rattle.std.proofs.lemmas.List.Elements.{All-append, All-cons, All-take}
+use Rattle.std.proofs.lemmas.List.Elements.{All-append, All-cons, All-take, All-nil}
 use Rattle.std.proofs.lemmas.List.Folds.{Any-from_list_any, list_any-from_Any}
 use Rattle.region_check.specs.Sizes.{is_size}
 use Rattle.app_toml.specs.Apps.{DeviceData}
@@ -17,7 +18,7 @@ use Rattle.app_toml.specs.declared.parts.DeviceSpec.{DeviceSpec}
 use Rattle.app_toml.specs.Relations.{IsPlaced}
 use Rattle.app_toml.specs.Sites.{device_of}
 use Rattle.app_toml.proofs.Gathered.{any_more}
-use Rattle.app_toml.proofs.Walks.{and_true, any_weaker, none_of, none_passes}
+use Rattle.app_toml.proofs.Walks.{any_weaker, none_passes}
 
 no_size : is_size 0 ≡ true → ⊥
 unfolding is_size
@@ -29,10 +30,6 @@ positive (suc n) e = omega arith
 
 same_some : (x y : ℕ) → Some x ≡ Some y → x ≡ y
 same_some x y e = ap (λ o. unwrap_or o 0) e
-
-both_true : (a b : Bool) → a ≡ true → b ≡ true → (a && b) ≡ true
-both_true true b e h = h
-both_true false b e h = cc
 
 -- what a map has: just these devices, and ranges that are apart
 abbrev pub Has : (ℕ → Option ℕ) → List DeviceData → Type 0
@@ -50,10 +47,10 @@ met f d kept b s has there below above =
     list_any-from_Any (meets d) kept
     (any_weaker (λ e. (e.base == b && e.size == s) ≡ true) (λ e. meets d e ≡ true)
     (λ e h.
-    let parts = and_true (e.base == b) (e.size == s) h in
+    let parts = and_parts (e.base == b) (e.size == s) h in
     let base = eqb-true e.base b parts.0 in
     let size = eqb-true e.size s parts.1 in
-    both_true (nat_lt d.base (e.base + e.size)) (nat_lt e.base (d.base + d.size))
+    and_from (nat_lt d.base (e.base + e.size)) (nat_lt e.base (d.base + d.size))
     (lt-ltb d.base (e.base + e.size) (omega (arith, base, size, above)))
     (lt-ltb e.base (d.base + d.size) (omega (arith, base, below))))
     kept one)
@@ -66,7 +63,7 @@ clear f d kept has apart =
       | inl some ↦
           let a = Any-from_list_any (meets d) kept some in
           let e = a.1 in
-          let tests = and_true (nat_lt d.base (e.base + e.size)) (nat_lt e.base (d.base + d.size)) a.4 in
+          let tests = and_parts (nat_lt d.base (e.base + e.size)) (nat_lt e.base (d.base + d.size)) a.4 in
           let there = subst (λ y. f y.base ≡ Some y.size) a.3 (has.0 a.0 a.1 a.2) in
           absurd (apart e.base e.size there (ltb-true e.base (d.base + d.size) tests.1) (ltb-true d.base (e.base + e.size) tests.0))
       | inr none ↦ none
@@ -106,7 +103,7 @@ elsewhere : (d : DeviceData) (kept : List DeviceData) → list_any (meets d) kep
 elsewhere d kept none placed some = λ i o lt.
     let e = get_or kept i o in
     let more = positive e.size (placed i o lt).size in
-    λ same. false≢true (sym (none_passes (meets d) kept none i o lt) ∙ both_true (nat_lt d.base (e.base + e.size)) (nat_lt e.base (d.base + d.size))
+    λ same. false≢true (sym (none_passes (meets d) kept none i o lt) ∙ and_from (nat_lt d.base (e.base + e.size)) (nat_lt e.base (d.base + d.size))
     (lt-ltb d.base (e.base + e.size) (omega (arith, same, more))) (lt-ltb e.base (d.base + d.size) (omega (arith, same, some))))
 
 pub kept_more : (f g : ℕ → Option ℕ) (d : DeviceData) (kept : List DeviceData) → ((q : ℕ) → q ≢ d.base → g q ≡ f q) → g d.base ≡ Some d.size
@@ -114,7 +111,7 @@ pub kept_more : (f g : ℕ → Option ℕ) (d : DeviceData) (kept : List DeviceD
 kept_more f g d kept stays here has none placed some =
     let apart = elsewhere d kept none placed some in (
       All-append (λ e. g e.base ≡ Some e.size) kept (d ∷ []) (λ i o lt. stays (get_or kept i o).base (apart i o lt) ∙ has.0 i o lt)
-          (All-cons (λ e. g e.base ≡ Some e.size) d [] here (none_of (λ e. g e.base ≡ Some e.size))),
+          (All-cons (λ e. g e.base ≡ Some e.size) d [] here (All-nil (λ e. g e.base ≡ Some e.size))),
       λ base size there.
           any_more (λ e. e.base == base && e.size == size) kept d
           ∙ elim (cases_Bool (base == d.base)) [
@@ -122,7 +119,7 @@ kept_more f g d kept stays here has none placed some =
                 let at = eqb-true base d.base same in
                 let value = same_some size d.size (sym there ∙ ap g at ∙ here) in
                 ap (λ b. b || list_any (λ e. e.base == base && e.size == size) kept)
-                (both_true (d.base == base) (d.size == size) (eq-eqb d.base base (sym at)) (eq-eqb d.size size (sym value)))
+                (and_from (d.base == base) (d.size == size) (eq-eqb d.base base (sym at)) (eq-eqb d.size size (sym value)))
             | inr other ↦
                 or_last (d.base == base && d.size == size) (list_any (λ e. e.base == base && e.size == size) kept)
                 (has.1 base size (sym (stays base (differs_from base d.base other)) ∙ there))
@@ -169,9 +166,6 @@ away m q other = grind (arith, nat_tests)
 
 pub is_below : (m n : ℕ) → m < n → nat_cmp m n ≡ Less
 is_below m n lt = grind (arith, nat_tests)
-
-pub not_above : (m n : ℕ) → is_lt (nat_cmp m n) ≡ false → n ≤ m
-not_above m n e = grind (arith, nat_tests)
 
 pub placed_at : (devices : List DeviceSpec) (i : ℕ) (d : DeviceSpec) → All IsPlaced (map device_of devices) → i < length devices → d ≡ get_or devices i d → IsPlaced (device_of d)
 placed_at devices i d all lt here =

@@ -1,11 +1,12 @@
 -- What walks over lists say where they refuse nothing.
 use Rattle.std.proofs.Common.{◌≡◌, ◌∙◌, ◌≢◌, ◌<◌, ◌+◌, ◌||◌, ◌&&◌, not, ℕ, zero, suc, List, [], ◌∷◌, ◌++◌, drop, length, get_or, map, Bool, true, false, Option, None, Some, is_some, option_map, refl, ap, sym, subst, arith, length-append, add-zero, zero-add}
+use Rattle.std.proofs.lemmas.Bool.{or_parts, and_parts, not-false}
 use Rattle.std.specs.Prelude.{All, Any, AllPairs, Contains}
 use Rattle.std.specs.List.{list_any}
 use Rattle.std.specs.Str.{bytes_eq}
 use Rattle.std.proofs.lemmas.Bool.Decides.{not_from_Decides}
 use Rattle.std.proofs.lemmas.List.{drop_more, get_or_append_left}
-use Rattle.std.proofs.lemmas.List.Elements.{All-cons}
+use Rattle.std.proofs.lemmas.List.Elements.{All-cons, All-nil}
 use Rattle.std.proofs.lemmas.List.Folds.{Any-from_list_any}
 use Rattle.std.proofs.lemmas.List.Kept.{AllPairs-cons}
 use Rattle.std.proofs.lemmas.Slice.Eq.{bytes_eq-Decides}
@@ -15,25 +16,10 @@ use Rattle.app_toml.proofs.Passed.{both_none}
 
 -- ---- tests
 
-pub or_false : (a b : Bool) → (a || b) ≡ false → (a ≡ false) × (b ≡ false)
-or_false true b e = cc
-or_false false b e = (refl, e)
-
-pub and_true : (a b : Bool) → (a && b) ≡ true → (a ≡ true) × (b ≡ true)
-and_true true b e = (refl, e)
-and_true false b e = cc
-
-pub not_false : (a : Bool) → not a ≡ false → a ≡ true
-not_false true e = refl
-not_false false e = cc
-
-pub none_of : {T : Type 0} (P : T → Type 0) → All P []
-none_of P i d lt = absurd (omega (arith, lt))
-
 pub none_passes : {T : Type 0} (test : T → Bool) (xs : List T) → list_any test xs ≡ false → All (λ x. test x ≡ false) xs
-none_passes test [] e = none_of (λ x. test x ≡ false)
+none_passes test [] e = All-nil (λ x. test x ≡ false)
 none_passes test (x ∷ xs) e =
-    let parts = or_false (test x) (list_any test xs) e in
+    let parts = or_parts (test x) (list_any test xs) e in
     All-cons (λ y. test y ≡ false) x xs parts.0 (none_passes test xs parts.1)
 
 -- what fails the test has the property
@@ -80,7 +66,7 @@ each_fine fault P fact xs e i d lt = fact i (get_or xs i d) (fault_in fault xs e
 pub each_clear : {T : Type 0} (fault : List T → ℕ → T → Option Refusal) (P : T → Type 0)
     → ((before : List T) (k : ℕ) (x : T) → fault before k x ≡ None → P x)
     → (before : List T) (k : ℕ) (xs : List T) → first_clash fault before k xs ≡ None → All P xs
-each_clear fault P fact before k [] e = none_of P
+each_clear fault P fact before k [] e = All-nil P
 each_clear fault P fact before k (x ∷ xs) e =
     let parts = both_none (fault before k x) _ e in
     All-cons P x xs (fact before k x parts.0) (each_clear fault P fact (before ++ x ∷ []) (k + 1) xs parts.1)
@@ -90,7 +76,7 @@ abbrev Beside : {T : Type 0} → (T → T → Type 0) → List T → List T → 
 Beside R before xs = All (λ b. All (R b) xs) before
 
 beside_empty : {T : Type 0} (R : T → T → Type 0) (before : List T) → Beside R before []
-beside_empty R before i d lt = none_of (R (get_or before i d))
+beside_empty R before i d lt = All-nil (R (get_or before i d))
 
 pairs_empty : {T : Type 0} (R : T → T → Type 0) → AllPairs R []
 pairs_empty R i j d lt within = absurd (omega (arith, within))

@@ -63,10 +63,6 @@ abbrev pub or_else : Option Refusal → Option Refusal → Option Refusal
 or_else None next = next
 or_else (Some r) next = Some r
 
-abbrev pub first_refusal : List (Option Refusal) → Option Refusal
-first_refusal [] = None
-first_refusal (r ∷ rs) = or_else r (first_refusal rs)
-
 -- of the items in order, counted from k
 abbrev pub first_fault : {T : Type 0} → (ℕ → T → Option Refusal) → ℕ → List T → Option Refusal
 first_fault fault k [] = None

@@ -7,7 +7,7 @@ use Rattle.thumb_insn.specs.declared.Insn.{Insn}
 use Rattle.thumb_insn.specs.declared.Code.TheVariants.{One, Two}
 use Rattle.thumb_insn.specs.Table.{rows, wide_rows, narrow_of, wide_of}
 use Rattle.thumb_insn.specs.Range.{IsCoded}
-use Rattle.thumb_insn.proofs.InRange.{AllRows, any_row, any_wide, inner, only}
+use Rattle.thumb_insn.proofs.InRange.{AllRows, any_row, any_wide, inner, only, byte}
 use Rattle.thumb_encode.specs.Codes.{fit_of, HasList}
 use Rattle.thumb_encode.proofs.Again.{code_again}
 use Rattle.thumb_encode.proofs.Wide.{two_again}
@@ -18,9 +18,6 @@ coded_fits i (Two first second, f, e) = (two_again first second i f.0 f.1 e).0
 
 plain_list : {i j : Insn} → Some i ≡ Some j → HasList i → HasList j
 plain_list e c = subst HasList (inner e) c
-
-byte : (h : ℕ) → field h 0 8 < 256
-byte h = mod_below (h / 2 ^ 0) 256 (omega arith)
 
 -- one part a row, in the order of the rows
 all_lists : AllRows (λ h i. HasList i) rows

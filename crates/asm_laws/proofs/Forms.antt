@@ -2,7 +2,7 @@
 use Rattle.std.proofs.Common.{◌≡◌, ℕ, zero, suc, ◌+◌, ◌-◌, ◌*◌, ◌/◌, ◌<◌, ◌≤◌, List, [], ◌∷◌, refl, ap, ◌∙◌, arith, true, false, Some, None, decimal, subst, ⊎_elim, nat_lt}
 use Rattle.std.proofs.Math.IntN.{sub_ℕ}
 use Rattle.std.proofs.lemmas.Bool.Decides.{nat_tests}
-use Rattle.std.proofs.lemmas.Bool.{cases_lt}
+use Rattle.std.proofs.lemmas.Bool.{cases_lt, le-ltb, lt-ltb}
 use Rattle.std.specs.Prelude.{ℤ, pos, negsuc, ◌-ℤ◌, ◌+ℤ◌}
 use Rattle.std.specs.List.{list_all}
 use Rattle.thumb_insn.specs.declared.Reg.{Reg}
@@ -53,17 +53,11 @@ regs_within low top f at name d m v t u s q e r h j l k b = say (f v) at name (r
 literal_is : (at i : ℕ) → (at + 4) / 4 * 4 + i < 4294967296 → literal_target at i ≡ (at + 4) / 4 * 4 + i
 literal_is at i h = omega arith
 
-not_below : (a b : ℕ) → b ≤ a → nat_lt a b ≡ false
-not_below a b h = grind (arith, nat_tests)
-
-is_below : (a b : ℕ) → a < b → nat_lt a b ≡ true
-is_below a b h = grind (arith, nat_tests)
-
 sub_pos : (a b n : ℕ) → a ≡ b + n → sub_ℕ a b ≡ pos n
-sub_pos a b n h = rw (not_below a b (omega arith)) (ap pos (omega arith))
+sub_pos a b n h = rw (le-ltb a b (omega arith)) (ap pos (omega arith))
 
 sub_neg : (a b n : ℕ) → a + suc n ≡ b → sub_ℕ a b ≡ negsuc n
-sub_neg a b n h = rw (is_below a b (omega arith)) (ap negsuc (omega arith))
+sub_neg a b n h = rw (lt-ltb a b (omega arith)) (ap negsuc (omega arith))
 
 minus : (x b : ℕ) → 0 < b → pos x -ℤ pos b ≡ sub_ℕ x b
 minus x zero h = absurd (omega arith)

@@ -79,7 +79,7 @@ code_length (Two a b) = refl
 abbrev pub CodesOf : Result Insn Cause → List ℕ → Type 0
 CodesOf r own = (i : Insn) × (r ≡ Ok i) × Codes i own
 
-inner : (r : Result Insn Cause) (i j : Insn) → r ≡ Ok i → r ≡ Ok j → i ≡ j
+pub inner : (r : Result Insn Cause) (i j : Insn) → r ≡ Ok i → r ≡ Ok j → i ≡ j
 inner r i j e f = cc
 
 pub same_code : (r : Result Insn Cause) (own own' : List ℕ) → CodesOf r own → CodesOf r own' → own ≡ own'

@@ -1,6 +1,6 @@
 -- The lists of `push`, `pop`, `stm` and `ldm` are read as these lists.
 use Rattle.std.proofs.Common.{◌≡◌, ℕ, ◌≤◌, length, nat_le, ◌%◌, ◌^◌, ◌<◌, List, [], ◌∷◌, ◌++◌, map, refl, ap, ◌∙◌, sym, arith, Bool, true, false, not, nat_eq, nat_lt, ◌&&◌, ◌||◌, if◌then◌else◌, Option, Some, None, Result, Ok, Err, codes}
-use Rattle.std.proofs.lemmas.Bool.{not-true, agree_below_at, agree_below}
+use Rattle.std.proofs.lemmas.Bool.{not-true, agree_below_at, agree_below, eqb-true, or_from, leb-true, or_parts, and_parts}
 use Rattle.std.proofs.lemmas.Bool.Decides.{nat_tests}
 use Rattle.std.specs.List.{list_all}
 use Rattle.thumb_insn.specs.Fields.{is_listed as has_bit}
@@ -18,11 +18,9 @@ use Rattle.thumb_asm.specs.Operands.{Register, Raised, Registers}
 use Rattle.thumb_asm.specs.Syntax.{Shape, Listed, Block, mnemonic, mnemonics4, mnemonics1, mnemonics2, mnemonics3, shaped}
 use Rattle.thumb_asm.specs.Sizes.{checked, has_bad_count, has_bad_register, has_bad_number, has_bad_list, has_stray, is_no_list, is_raised_wrong, is_listed, mask_of, mask_below, any_below, extra_of}
 use Rattle.thumb_asm.specs.Meaning.{Env, insn_at, fitting}
-use Rattle.thumb_asm.proofs.Bytes.{both}
 use Rattle.thumb_asm.proofs.Lines.{Reads}
-use Rattle.asm_laws.proofs.Numbers.{le_of}
 use Rattle.asm_laws.proofs.Operands.{single, AllBelow, reads_list, reads_reg, reads_raised}
-use Rattle.asm_laws.proofs.Shapes.{IsReadSo, fits, two_false, three_false, low, say}
+use Rattle.asm_laws.proofs.Shapes.{IsReadSo, fits, three_false, low, say}
 
 abbrev pub same_bit : Bool → Bool → Bool
 same_bit a b = if a then b else not b
@@ -37,7 +35,7 @@ is_none (k ∷ ks) = false
 
 below_is : (ks : List ℕ) → list_all (λ k. nat_lt k 16) ks ≡ true → AllBelow ks
 below_is [] h = tt
-below_is (k ∷ ks) h = let e = both (nat_lt k 16) (list_all (λ j. nat_lt j 16) ks) h in let f : k < 16 = grind (arith, nat_tests) in (f, below_is ks e.1)
+below_is (k ∷ ks) h = let e = and_parts (nat_lt k 16) (list_all (λ j. nat_lt j 16) ks) h in let f : k < 16 = grind (arith, nat_tests) in (f, below_is ks e.1)
 
 -- a list of registers that is read as it is, with no other high register than this one
 abbrev pub is_good : ℕ → List ℕ → Bool
@@ -54,12 +52,12 @@ some_reads (k ∷ ks) h b l = reads_list k ks b l
 
 good : (extra : ℕ) (ks : List ℕ) → is_good extra ks ≡ true → Good extra ks
 good extra ks h =
-    let e = both (not (is_none ks) && (nat_le (length (joined (map register_name ks))) 58 && list_all (λ k. nat_lt k 16) ks)) (not (has_stray extra (map single ks)) && not (is_no_list (map single ks))) h in
-    let a = both (not (is_none ks)) (nat_le (length (joined (map register_name ks))) 58 && list_all (λ k. nat_lt k 16) ks) e.0 in
-    let d = both (nat_le (length (joined (map register_name ks))) 58) (list_all (λ k. nat_lt k 16) ks) a.1 in
-    let b = both (not (has_stray extra (map single ks))) (not (is_no_list (map single ks))) e.1 in
+    let e = and_parts (not (is_none ks) && (nat_le (length (joined (map register_name ks))) 58 && list_all (λ k. nat_lt k 16) ks)) (not (has_stray extra (map single ks)) && not (is_no_list (map single ks))) h in
+    let a = and_parts (not (is_none ks)) (nat_le (length (joined (map register_name ks))) 58 && list_all (λ k. nat_lt k 16) ks) e.0 in
+    let d = and_parts (nat_le (length (joined (map register_name ks))) 58) (list_all (λ k. nat_lt k 16) ks) a.1 in
+    let b = and_parts (not (has_stray extra (map single ks))) (not (is_no_list (map single ks))) e.1 in
     record {
-      reads = some_reads ks (not-true _ a.0) (below_is ks d.1) (le_of _ _ d.0);
+      reads = some_reads ks (not-true _ a.0) (below_is ks d.1) (leb-true _ _ d.0);
       stray = not-true _ b.0;
       list = not-true _ b.1;
     }
@@ -113,14 +111,11 @@ pub record Whole (extra : ℕ) (has : Bool) (list : ℕ) : Type 0 where
   pub mask : mask_of (map single (whole_list extra has list)) ≡ list
   pub has_extra : is_listed (map single (whole_list extra has list)) extra ≡ has
 
-same_nat : (a b : ℕ) → nat_eq a b ≡ true → a ≡ b
-same_nat a b h = grind (arith, nat_tests)
-
 whole : (extra : ℕ) (has : Bool) (list : ℕ) → is_right extra has list ≡ true → (nat_eq list 0 && not has) ≡ false → Whole extra has list
 whole extra has list h n =
-    let e = both (is_good extra (whole_list extra has list)) _ (either (nat_eq list 0 && not has) _ h n) in
-    let f = both (nat_eq (mask_of (map single (whole_list extra has list))) list) (same_bit (is_listed (map single (whole_list extra has list)) extra) has) e.1 in
-    record { good = good extra (whole_list extra has list) e.0; mask = same_nat _ _ f.0; has_extra = same_bits _ _ f.1 }
+    let e = and_parts (is_good extra (whole_list extra has list)) _ (either (nat_eq list 0 && not has) _ h n) in
+    let f = and_parts (nat_eq (mask_of (map single (whole_list extra has list))) list) (same_bit (is_listed (map single (whole_list extra has list)) extra) has) e.1 in
+    record { good = good extra (whole_list extra has list) e.0; mask = eqb-true _ _ f.0; has_extra = same_bits _ _ f.1 }
 
 listed_ok : (loads : Bool) (rs : List (ℕ × ℕ)) → has_stray (extra_of loads) rs ≡ false → is_no_list rs ≡ false → checked (Some (Listed loads rs)) ≡ Ok (Some (Listed loads rs))
 unfolding checked has_bad_count has_bad_register has_bad_number has_bad_list
@@ -171,19 +166,16 @@ pub record Blocks (n list : ℕ) : Type 0 where
 
 blocks : (n list : ℕ) → n < 8 → list < 256 → nat_eq list 0 ≡ false → Blocks n list
 blocks n list l h z =
-    let e = both (is_good 0 (low_registers list)) _ (either (nat_eq list 0) _ (agree_below_at is_block (λ k. true) 256 list all_blocks h) z) in
-    let f = both (nat_eq (mask_of (low_list list)) list) (agree_below (is_same_at list) (λ k. true) 8) e.1 in
+    let e = and_parts (is_good 0 (low_registers list)) _ (either (nat_eq list 0) _ (agree_below_at is_block (λ k. true) 256 list all_blocks h) z) in
+    let f = and_parts (nat_eq (mask_of (low_list list)) list) (agree_below (is_same_at list) (λ k. true) 8) e.1 in
     let g = agree_below_at (is_same_at list) (λ k. true) 8 n f.1 l in
-    let s = both (same_bit (is_listed (low_list list) n) (has_bit list n)) (same_bit (any_below (is_listed (low_list list)) n) (nat_lt 0 (list % 2 ^ n))) g in
-    record { good = good 0 (low_registers list) e.0; mask = same_nat _ _ f.0; base = same_bits _ _ s.0; lower = same_bits _ _ s.1 }
-
-or_false : (a b : Bool) → a ≡ false → b ≡ false → (a || b) ≡ false
-or_false a b e f = rw (e, f) refl
+    let s = and_parts (same_bit (is_listed (low_list list) n) (has_bit list n)) (same_bit (any_below (is_listed (low_list list)) n) (nat_lt 0 (list % 2 ^ n))) g in
+    record { good = good 0 (low_registers list) e.0; mask = eqb-true _ _ f.0; base = same_bits _ _ s.0; lower = same_bits _ _ s.1 }
 
 block_ok : (n : Reg) (is_up loads : Bool) (rs : List (ℕ × ℕ)) → is_high n ≡ false → has_stray 0 rs ≡ false → is_no_list rs ≡ false → is_raised_wrong n.number is_up loads rs ≡ false → checked (Some (Block n is_up loads rs)) ≡ Ok (Some (Block n is_up loads rs))
 unfolding checked has_bad_count has_bad_register has_bad_number has_bad_list
 block_ok n is_up loads rs h s l r =
-    pass (is_high n || has_stray 0 rs) (is_no_list rs || is_raised_wrong n.number is_up loads rs) (Block n is_up loads rs) (Ok (Some (Block n is_up loads rs))) (or_false (is_high n) (has_stray 0 rs) h s) (or_false (is_no_list rs) (is_raised_wrong n.number is_up loads rs) l r) refl
+    pass (is_high n || has_stray 0 rs) (is_no_list rs || is_raised_wrong n.number is_up loads rs) (Block n is_up loads rs) (Ok (Some (Block n is_up loads rs))) (or_from (is_high n) (has_stray 0 rs) h s) (or_from (is_no_list rs) (is_raised_wrong n.number is_up loads rs) l r) refl
 
 stm_at : (env : Env) (at list : ℕ) (n : Reg) (rs : List (ℕ × ℕ)) → mask_of rs ≡ list → fit_of (Stm n list) ≡ None → insn_at env at (Block n true false rs) ≡ Ok (Stm n list)
 unfolding insn_at
@@ -216,12 +208,12 @@ ldm_by : (at list : ℕ) (n : Reg) (b : Bool) → has_bit list n.number ≡ b �
 unfolding mnemonic mnemonics1 mnemonics2 mnemonics3 mnemonics4 entry_at shaped
 ldm_by at list n true t h e =
     let f = fits (is_high n || nat_eq list 0) false false e in
-    let l = two_false (is_high n) (nat_eq list 0) f.0 in
+    let l = or_parts (is_high n) (nat_eq list 0) f.0 in
     let b = blocks n.number list (below_eight n l.0) h l.1 in
     say (Ldm n list) at (codes "ldm") (reg_text n) (braces (low_registers list) ∷ []) (Register n) (Registers (low_list list) ∷ []) (Block n false true (low_list list)) (ldm_text at list n true t) refl refl refl (reads_reg n (low n l.0)) (b.good.reads, tt) refl (block_ok n false true (low_list list) l.0 b.good.stray b.good.list (ap not (b.base ∙ t))) (λ env. ldm_at env at list false n (low_list list) b.mask e)
 ldm_by at list n false t h e =
     let f = fits (is_high n || nat_eq list 0) false false e in
-    let l = two_false (is_high n) (nat_eq list 0) f.0 in
+    let l = or_parts (is_high n) (nat_eq list 0) f.0 in
     let b = blocks n.number list (below_eight n l.0) h l.1 in
     say (Ldm n list) at (codes "ldm") (raised n) (braces (low_registers list) ∷ []) (Raised n) (Registers (low_list list) ∷ []) (Block n true true (low_list list)) (ldm_text at list n false t) refl refl refl (reads_raised n (low n l.0)) (b.good.reads, tt) refl (block_ok n true true (low_list list) l.0 b.good.stray b.good.list (b.base ∙ t)) (λ env. ldm_at env at list true n (low_list list) b.mask e)
 

@@ -1,7 +1,7 @@
 -- Numbers in decimal, and targets in hexadecimal, are read as these numbers.
 use Rattle.std.proofs.Common.{◌≡◌, ℕ, ◌≤◌, ◌+◌, ◌*◌, ◌/◌, ◌%◌, ◌<◌, List, [], ◌∷◌, refl, ap, ◌∙◌, arith, Bool, true, false, not, nat_eq, nat_le, nat_lt, ◌&&◌, Option, Some, None, decimal, length}
 use Rattle.std.specs.Prelude.{ℤ, pos, negsuc}
-use Rattle.std.proofs.lemmas.Bool.{not-true}
+use Rattle.std.proofs.lemmas.Bool.{not-true, leb-true, and_parts, and_from}
 use Rattle.std.proofs.lemmas.Bool.Decides.{nat_tests}
 use Rattle.std.proofs.lemmas.Bool.{agree_below_at, agree_below}
 use Rattle.std.specs.Fmt.{digits}
@@ -10,7 +10,7 @@ use Rattle.text_lines.specs.Text.{value_in, hex_number_of, is_hex, digit}
 use Rattle.thumb_insn.specs.Text.{hex_digit, hex_word, place}
 use Rattle.thumb_asm.specs.Chars.{is_nil, strip, strip_front, strip_end, until, from_first, register, register_names, entry_at}
 use Rattle.thumb_asm.specs.Operands.{Operand, Expression as AsExpression, Expr, operand, expression, signed, natural, is_sign, unquoted, term, sum_of}
-use Rattle.thumb_asm.proofs.Bytes.{is_solid, both, join, all_by, plain_of, no_quote, none_is, closed_none}
+use Rattle.thumb_asm.proofs.Bytes.{is_solid, all_by, plain_of, no_quote, none_is, closed_none}
 use Rattle.asm_laws.proofs.Registers.{sixteen}
 use Rattle.asm_laws.proofs.Splits.{Solid, tight_first}
 
@@ -54,16 +54,13 @@ same_number : (n : ℕ) (o : Option Expr) → is_number n o ≡ true → o ≡ S
 same_number n None h = cc
 same_number n (Some e) h = is_unnamed_number n e.name e.number h
 
-pub le_of : (a b : ℕ) → nat_le a b ≡ true → a ≤ b
-le_of a b h = grind (arith, nat_tests)
-
 pub decimal_is : (n : ℕ) → n < 1024 → Decimal n
 decimal_is n h =
     let e = agree_below_at is_right (λ k. true) 1024 n all_right h in
-    let d = both (list_all is_solid (decimal n) && nat_le (length (decimal n)) 10) (not (is_nil (decimal n)) && is_number n (expression (decimal n))) e in
-    let f = both (list_all is_solid (decimal n)) (nat_le (length (decimal n)) 10) d.0 in
-    let g = both (not (is_nil (decimal n))) (is_number n (expression (decimal n))) d.1 in
-    record { some = not-true _ g.0; solid = f.0; is = same_number n (expression (decimal n)) g.1; short = le_of _ _ f.1 }
+    let d = and_parts (list_all is_solid (decimal n) && nat_le (length (decimal n)) 10) (not (is_nil (decimal n)) && is_number n (expression (decimal n))) e in
+    let f = and_parts (list_all is_solid (decimal n)) (nat_le (length (decimal n)) 10) d.0 in
+    let g = and_parts (not (is_nil (decimal n))) (is_number n (expression (decimal n))) d.1 in
+    record { some = not-true _ g.0; solid = f.0; is = same_number n (expression (decimal n)) g.1; short = leb-true _ _ f.1 }
 
 -- Targets.
 
@@ -105,15 +102,15 @@ AllHex (d ∷ ds) = Hex d × AllHex ds
 
 hexes_solid : (ds : List ℕ) → AllHex ds → list_all is_solid (hexes ds) ≡ true
 hexes_solid [] h = refl
-hexes_solid (d ∷ ds) h = join _ _ h.0.solid (hexes_solid ds h.1)
+hexes_solid (d ∷ ds) h = and_from _ _ h.0.solid (hexes_solid ds h.1)
 
 hexes_hex : (ds : List ℕ) → AllHex ds → list_all is_hex (hexes ds) ≡ true
 hexes_hex [] h = refl
-hexes_hex (d ∷ ds) h = join _ _ h.0.hex (hexes_hex ds h.1)
+hexes_hex (d ∷ ds) h = and_from _ _ h.0.hex (hexes_hex ds h.1)
 
 hexes_unmarked : (ds : List ℕ) → AllHex ds → list_all (λ c. not (nat_eq c 33)) (hexes ds) ≡ true
 hexes_unmarked [] h = refl
-hexes_unmarked (d ∷ ds) h = join _ _ (ap not h.0.no_mark) (hexes_unmarked ds h.1)
+hexes_unmarked (d ∷ ds) h = and_from _ _ (ap not h.0.no_mark) (hexes_unmarked ds h.1)
 
 hexes_until : (ds : List ℕ) → AllHex ds → until is_sign (hexes ds) ≡ hexes ds
 unfolding until
@@ -141,10 +138,6 @@ target_alone ds h =
     let e = closed_none 33 (target ds) (hexes_unmarked ds h) in
     let f = unquoted_is (target ds) (AsExpression (target ds)) (hexes_solid ds h) in
     rw (e, f) refl
-
-to_number : Option ℕ → Option Expr
-to_number None = None
-to_number (Some n) = Some (number n)
 
 until_x : (t : List ℕ) → until is_sign (120 ∷ t) ≡ 120 ∷ until is_sign t
 unfolding until

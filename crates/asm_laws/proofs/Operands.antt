@@ -1,6 +1,6 @@
 -- The operands of an instruction's text are read as these operands.
 use Rattle.std.proofs.Common.{◌≡◌, ℕ, ◌≤◌, ◌+◌, length, length-append, arith, ◌<◌, List, [], ◌∷◌, map, refl, ap, ◌∙◌, true, false, Some, codes, decimal}
-use Rattle.std.proofs.lemmas.Bool.{not-true}
+use Rattle.std.proofs.lemmas.Bool.{not-true, leb-true}
 use Rattle.std.specs.List.{list_all}
 use Rattle.thumb_insn.specs.Fields.{reg}
 use Rattle.thumb_insn.specs.declared.Reg.{Reg}
@@ -10,7 +10,7 @@ use Rattle.thumb_asm.specs.Operands.{Operand, Register, Raised, Immediate, Expre
 use Rattle.thumb_asm.proofs.Bytes.{is_solid, is_visible, closed_framed, framed, front_visible}
 use Rattle.thumb_asm.proofs.Lines.{joined_more, Reads, solid_piece, bracket_piece, brace_piece}
 use Rattle.asm_laws.proofs.Registers.{named}
-use Rattle.asm_laws.proofs.Numbers.{le_of, unquoted_is, decimal_is, target_solid, target_alone, digits_of, all_hex, place_is, target}
+use Rattle.asm_laws.proofs.Numbers.{unquoted_is, decimal_is, target_solid, target_alone, digits_of, all_hex, place_is, target}
 use Rattle.asm_laws.proofs.Splits.{Solid, AllSolid, stripped, joined_begins, joined_inner}
 
 solid_reads : (a : List ℕ) (o : Operand) → Solid a → length a ≤ 60 → operand a ≡ Some o → Reads a o
@@ -20,13 +20,13 @@ pub reg_solid : (k : ℕ) → k < 16 → Solid (register_name k)
 reg_solid k h = let e = named k h in record { some = e.some; solid = e.solid }
 
 reg_short : (k : ℕ) → k < 16 → length (register_name k) ≤ 4
-reg_short k h = le_of _ _ (named k h).short
+reg_short k h = leb-true _ _ (named k h).short
 
 pub reads_reg : (r : Reg) → r.number < 16 → Reads (reg_text r) (Register r)
 reads_reg r h = solid_reads (reg_text r) (Register r) (reg_solid r.number h) (let l = reg_short r.number h in omega arith) (named r.number h).alone
 
 pub reads_raised : (r : Reg) → r.number < 16 → Reads (raised r) (Raised r)
-reads_raised r h = let e = named r.number h in solid_reads (raised r) (Raised r) (record { some = e.some_raised; solid = e.solid_raised }) (le_of _ _ e.short_raised) e.raised
+reads_raised r h = let e = named r.number h in solid_reads (raised r) (Raised r) (record { some = e.some_raised; solid = e.solid_raised }) (leb-true _ _ e.short_raised) e.raised
 
 imm_solid : (i : ℕ) → i < 1024 → Solid (imm i)
 imm_solid i h = record { some = refl; solid = (decimal_is i h).solid }

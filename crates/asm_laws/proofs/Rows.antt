@@ -1,7 +1,7 @@
 -- Each instruction's text is read as it, by the rows of the table.
 use Rattle.std.proofs.Common.{◌≡◌, ℕ, zero, suc, ◌+◌, ◌*◌, ◌/◌, ◌<◌, ◌≤◌, List, [], ◌∷◌, refl, ap, arith, Bool, true, false, not, nat_eq, nat_lt, ◌&&◌, ◌||◌, if◌then◌else◌, Some, None, codes, decimal}
 use Rattle.std.specs.Prelude.{ℤ, pos, negsuc, ◌+ℤ◌}
-use Rattle.std.proofs.lemmas.Bool.{not-false}
+use Rattle.std.proofs.lemmas.Bool.{not-false, or_parts}
 use Rattle.std.proofs.lemmas.Bool.Decides.{nat_tests}
 use Rattle.std.specs.Fmt.{digits}
 use Rattle.thumb_insn.specs.Fields.{reg}
@@ -30,7 +30,7 @@ use Rattle.thumb_asm.specs.Sizes.{statement_of, checked, has_bad_count, has_bad_
 use Rattle.thumb_asm.specs.Meaning.{insn_at}
 use Rattle.asm_laws.specs.Reading.{IsAddress}
 use Rattle.asm_laws.proofs.Operands.{reads_reg, reads_apsr, reads_interrupts}
-use Rattle.asm_laws.proofs.Shapes.{IsReadSo, fits, reg_fits, two_false, three_false, low, not_above, fixed_ok, fixed_at, IsNear, say}
+use Rattle.asm_laws.proofs.Shapes.{IsReadSo, fits, reg_fits, three_false, low, not_above, fixed_ok, fixed_at, IsNear, say}
 use Rattle.asm_laws.proofs.Forms.{one_reg, two_regs, three_regs, mem_reg, one_imm, reg_imm, reg_reg_imm, mem_imm, one_within, regs_within, near, aims}
 
 any : (r : Reg) → is_no_register r ≡ false → r.number < 16
@@ -58,16 +58,16 @@ hint_text_is at h l = by_tests (nat_eq h 0) (nat_eq h 1) (nat_eq h 2) (nat_eq h 
 
 pub shift_left : (at : ℕ) (d m : Reg) (by : ℕ) → fit_of (ShiftImm shift.Lsl d m by) ≡ None → IsReadSo (ShiftImm shift.Lsl d m by) at
 unfolding insn_text mnemonic mnemonics1 mnemonics2 mnemonics3 mnemonics4 mnemonics5 mnemonics6 mnemonics7 entry_at shaped
-shift_left at d m zero e = let f = fits (is_high d || is_high m) (nat_lt 31 0) false e in let l = two_false (is_high d) (is_high m) f.0 in two_regs (ShiftImm shift.Lsl d m 0) at (codes "movs") d m refl refl refl refl e (low d l.0) (low m l.1)
-shift_left at d m (suc k) e = let f = fits (is_high d || is_high m) (nat_lt 31 (suc k)) false e in let l = two_false (is_high d) (is_high m) f.0 in let b : suc k ≤ 31 = grind (arith, nat_tests) in regs_within 1 31 (ShiftImm shift.Lsl d m) at (codes "lsls") d m (suc k) (left_text at d m (suc k) (nonzero (suc k) (omega arith))) refl refl refl e (reg_fits (is_high d || is_high m) (nat_lt 31 (suc k)) false (nat_lt 31 0) false e) (low d l.0) (low m l.1) (omega arith) b (omega arith)
+shift_left at d m zero e = let f = fits (is_high d || is_high m) (nat_lt 31 0) false e in let l = or_parts (is_high d) (is_high m) f.0 in two_regs (ShiftImm shift.Lsl d m 0) at (codes "movs") d m refl refl refl refl e (low d l.0) (low m l.1)
+shift_left at d m (suc k) e = let f = fits (is_high d || is_high m) (nat_lt 31 (suc k)) false e in let l = or_parts (is_high d) (is_high m) f.0 in let b : suc k ≤ 31 = grind (arith, nat_tests) in regs_within 1 31 (ShiftImm shift.Lsl d m) at (codes "lsls") d m (suc k) (left_text at d m (suc k) (nonzero (suc k) (omega arith))) refl refl refl e (reg_fits (is_high d || is_high m) (nat_lt 31 (suc k)) false (nat_lt 31 0) false e) (low d l.0) (low m l.1) (omega arith) b (omega arith)
 
 pub shift_right : (at : ℕ) (d m : Reg) (by : ℕ) → fit_of (ShiftImm shift.Lsr d m by) ≡ None → IsReadSo (ShiftImm shift.Lsr d m by) at
 unfolding insn_text mnemonic mnemonics1 mnemonics2 mnemonics3 mnemonics4 mnemonics5 mnemonics6 mnemonics7 entry_at shaped
-shift_right at d m by e = let f = fits (is_high d || is_high m) (nat_eq by 0 || nat_lt 32 by) false e in let l = two_false (is_high d) (is_high m) f.0 in let g = two_false (nat_eq by 0) (nat_lt 32 by) f.1 in let a : 1 ≤ by = grind (arith, nat_tests) in let b : by ≤ 32 = grind (arith, nat_tests) in regs_within 1 32 (ShiftImm shift.Lsr d m) at (codes "lsrs") d m by refl refl refl refl e (reg_fits (is_high d || is_high m) (nat_eq by 0 || nat_lt 32 by) false (nat_eq 0 0 || nat_lt 32 0) false e) (low d l.0) (low m l.1) a b (omega arith)
+shift_right at d m by e = let f = fits (is_high d || is_high m) (nat_eq by 0 || nat_lt 32 by) false e in let l = or_parts (is_high d) (is_high m) f.0 in let g = or_parts (nat_eq by 0) (nat_lt 32 by) f.1 in let a : 1 ≤ by = grind (arith, nat_tests) in let b : by ≤ 32 = grind (arith, nat_tests) in regs_within 1 32 (ShiftImm shift.Lsr d m) at (codes "lsrs") d m by refl refl refl refl e (reg_fits (is_high d || is_high m) (nat_eq by 0 || nat_lt 32 by) false (nat_eq 0 0 || nat_lt 32 0) false e) (low d l.0) (low m l.1) a b (omega arith)
 
 pub shift_signed : (at : ℕ) (d m : Reg) (by : ℕ) → fit_of (ShiftImm shift.Asr d m by) ≡ None → IsReadSo (ShiftImm shift.Asr d m by) at
 unfolding insn_text mnemonic mnemonics1 mnemonics2 mnemonics3 mnemonics4 mnemonics5 mnemonics6 mnemonics7 entry_at shaped
-shift_signed at d m by e = let f = fits (is_high d || is_high m) (nat_eq by 0 || nat_lt 32 by) false e in let l = two_false (is_high d) (is_high m) f.0 in let g = two_false (nat_eq by 0) (nat_lt 32 by) f.1 in let a : 1 ≤ by = grind (arith, nat_tests) in let b : by ≤ 32 = grind (arith, nat_tests) in regs_within 1 32 (ShiftImm shift.Asr d m) at (codes "asrs") d m by refl refl refl refl e (reg_fits (is_high d || is_high m) (nat_eq by 0 || nat_lt 32 by) false (nat_eq 0 0 || nat_lt 32 0) false e) (low d l.0) (low m l.1) a b (omega arith)
+shift_signed at d m by e = let f = fits (is_high d || is_high m) (nat_eq by 0 || nat_lt 32 by) false e in let l = or_parts (is_high d) (is_high m) f.0 in let g = or_parts (nat_eq by 0) (nat_lt 32 by) f.1 in let a : 1 ≤ by = grind (arith, nat_tests) in let b : by ≤ 32 = grind (arith, nat_tests) in regs_within 1 32 (ShiftImm shift.Asr d m) at (codes "asrs") d m by refl refl refl refl e (reg_fits (is_high d || is_high m) (nat_eq by 0 || nat_lt 32 by) false (nat_eq 0 0 || nat_lt 32 0) false e) (low d l.0) (low m l.1) a b (omega arith)
 
 pub adds_reg : (at : ℕ) (d n m : Reg) → fit_of (AddsReg d n m) ≡ None → IsReadSo (AddsReg d n m) at
 unfolding insn_text mnemonic mnemonics1 mnemonics2 mnemonics3 mnemonics4 mnemonics5 mnemonics6 mnemonics7 entry_at shaped
@@ -79,11 +79,11 @@ subs_reg at d n m e = let f = fits (is_high d || is_high n || is_high m) false f
 
 pub adds_few : (at : ℕ) (d n : Reg) (i : ℕ) → fit_of (AddsImm3 d n i) ≡ None → IsReadSo (AddsImm3 d n i) at
 unfolding insn_text mnemonic mnemonics1 mnemonics2 mnemonics3 mnemonics4 mnemonics5 mnemonics6 mnemonics7 entry_at shaped
-adds_few at d n i e = let f = fits (is_high d || is_high n) (nat_lt 7 i) false e in let l = two_false (is_high d) (is_high n) f.0 in reg_reg_imm (AddsImm3 d n) at (codes "adds") d n i refl refl refl refl e (reg_fits (is_high d || is_high n) (nat_lt 7 i) false (nat_lt 7 0) false e) (low d l.0) (low n l.1) (not_above 7 i 1024 f.1 (omega arith))
+adds_few at d n i e = let f = fits (is_high d || is_high n) (nat_lt 7 i) false e in let l = or_parts (is_high d) (is_high n) f.0 in reg_reg_imm (AddsImm3 d n) at (codes "adds") d n i refl refl refl refl e (reg_fits (is_high d || is_high n) (nat_lt 7 i) false (nat_lt 7 0) false e) (low d l.0) (low n l.1) (not_above 7 i 1024 f.1 (omega arith))
 
 pub subs_few : (at : ℕ) (d n : Reg) (i : ℕ) → fit_of (SubsImm3 d n i) ≡ None → IsReadSo (SubsImm3 d n i) at
 unfolding insn_text mnemonic mnemonics1 mnemonics2 mnemonics3 mnemonics4 mnemonics5 mnemonics6 mnemonics7 entry_at shaped
-subs_few at d n i e = let f = fits (is_high d || is_high n) (nat_lt 7 i) false e in let l = two_false (is_high d) (is_high n) f.0 in reg_reg_imm (SubsImm3 d n) at (codes "subs") d n i refl refl refl refl e (reg_fits (is_high d || is_high n) (nat_lt 7 i) false (nat_lt 7 0) false e) (low d l.0) (low n l.1) (not_above 7 i 1024 f.1 (omega arith))
+subs_few at d n i e = let f = fits (is_high d || is_high n) (nat_lt 7 i) false e in let l = or_parts (is_high d) (is_high n) f.0 in reg_reg_imm (SubsImm3 d n) at (codes "subs") d n i refl refl refl refl e (reg_fits (is_high d || is_high n) (nat_lt 7 i) false (nat_lt 7 0) false e) (low d l.0) (low n l.1) (not_above 7 i 1024 f.1 (omega arith))
 
 pub movs_imm : (at : ℕ) (d : Reg) (i : ℕ) → fit_of (MovsImm d i) ≡ None → IsReadSo (MovsImm d i) at
 unfolding insn_text mnemonic mnemonics1 mnemonics2 mnemonics3 mnemonics4 mnemonics5 mnemonics6 mnemonics7 entry_at shaped
@@ -103,22 +103,22 @@ subs_imm at d i e = let f = fits (is_high d) (nat_lt 255 i) false e in reg_imm (
 
 pub operate : (at : ℕ) (o : Op) (d m : Reg) → fit_of (Data o d m) ≡ None → IsReadSo (Data o d m) at
 unfolding insn_text mnemonic mnemonics1 mnemonics2 mnemonics3 mnemonics4 mnemonics5 mnemonics6 mnemonics7 entry_at shaped
-operate at op.Ands d m e = let f = fits (is_high d || is_high m) false false e in let l = two_false (is_high d) (is_high m) f.0 in two_regs (Data op.Ands d m) at (codes "ands") d m refl refl refl refl e (low d l.0) (low m l.1)
-operate at op.Eors d m e = let f = fits (is_high d || is_high m) false false e in let l = two_false (is_high d) (is_high m) f.0 in two_regs (Data op.Eors d m) at (codes "eors") d m refl refl refl refl e (low d l.0) (low m l.1)
-operate at op.Lsls d m e = let f = fits (is_high d || is_high m) false false e in let l = two_false (is_high d) (is_high m) f.0 in two_regs (Data op.Lsls d m) at (codes "lsls") d m refl refl refl refl e (low d l.0) (low m l.1)
-operate at op.Lsrs d m e = let f = fits (is_high d || is_high m) false false e in let l = two_false (is_high d) (is_high m) f.0 in two_regs (Data op.Lsrs d m) at (codes "lsrs") d m refl refl refl refl e (low d l.0) (low m l.1)
-operate at op.Asrs d m e = let f = fits (is_high d || is_high m) false false e in let l = two_false (is_high d) (is_high m) f.0 in two_regs (Data op.Asrs d m) at (codes "asrs") d m refl refl refl refl e (low d l.0) (low m l.1)
-operate at op.Adcs d m e = let f = fits (is_high d || is_high m) false false e in let l = two_false (is_high d) (is_high m) f.0 in two_regs (Data op.Adcs d m) at (codes "adcs") d m refl refl refl refl e (low d l.0) (low m l.1)
-operate at op.Sbcs d m e = let f = fits (is_high d || is_high m) false false e in let l = two_false (is_high d) (is_high m) f.0 in two_regs (Data op.Sbcs d m) at (codes "sbcs") d m refl refl refl refl e (low d l.0) (low m l.1)
-operate at op.Rors d m e = let f = fits (is_high d || is_high m) false false e in let l = two_false (is_high d) (is_high m) f.0 in two_regs (Data op.Rors d m) at (codes "rors") d m refl refl refl refl e (low d l.0) (low m l.1)
-operate at op.Tst d m e = let f = fits (is_high d || is_high m) false false e in let l = two_false (is_high d) (is_high m) f.0 in two_regs (Data op.Tst d m) at (codes "tst") d m refl refl refl refl e (low d l.0) (low m l.1)
-operate at op.Rsbs d m e = let f = fits (is_high d || is_high m) false false e in let l = two_false (is_high d) (is_high m) f.0 in regs_within 0 0 (λ i. Data op.Rsbs d m) at (codes "rsbs") d m 0 refl refl refl refl e (reg_fits (is_high d || is_high m) false false false false e) (low d l.0) (low m l.1) (omega arith) (omega arith) (omega arith)
-operate at op.Cmp d m e = let f = fits (is_high d || is_high m) false false e in let l = two_false (is_high d) (is_high m) f.0 in two_regs (Data op.Cmp d m) at (codes "cmp") d m refl refl refl (ap (λ b. Some (Fixed (if b then CmpHigh d m else Data op.Cmp d m))) f.0) e (low d l.0) (low m l.1)
-operate at op.Cmn d m e = let f = fits (is_high d || is_high m) false false e in let l = two_false (is_high d) (is_high m) f.0 in two_regs (Data op.Cmn d m) at (codes "cmn") d m refl refl refl refl e (low d l.0) (low m l.1)
-operate at op.Orrs d m e = let f = fits (is_high d || is_high m) false false e in let l = two_false (is_high d) (is_high m) f.0 in two_regs (Data op.Orrs d m) at (codes "orrs") d m refl refl refl refl e (low d l.0) (low m l.1)
-operate at op.Muls d m e = let f = fits (is_high d || is_high m) false false e in let l = two_false (is_high d) (is_high m) f.0 in two_regs (Data op.Muls d m) at (codes "muls") d m refl refl refl refl e (low d l.0) (low m l.1)
-operate at op.Bics d m e = let f = fits (is_high d || is_high m) false false e in let l = two_false (is_high d) (is_high m) f.0 in two_regs (Data op.Bics d m) at (codes "bics") d m refl refl refl refl e (low d l.0) (low m l.1)
-operate at op.Mvns d m e = let f = fits (is_high d || is_high m) false false e in let l = two_false (is_high d) (is_high m) f.0 in two_regs (Data op.Mvns d m) at (codes "mvns") d m refl refl refl refl e (low d l.0) (low m l.1)
+operate at op.Ands d m e = let f = fits (is_high d || is_high m) false false e in let l = or_parts (is_high d) (is_high m) f.0 in two_regs (Data op.Ands d m) at (codes "ands") d m refl refl refl refl e (low d l.0) (low m l.1)
+operate at op.Eors d m e = let f = fits (is_high d || is_high m) false false e in let l = or_parts (is_high d) (is_high m) f.0 in two_regs (Data op.Eors d m) at (codes "eors") d m refl refl refl refl e (low d l.0) (low m l.1)
+operate at op.Lsls d m e = let f = fits (is_high d || is_high m) false false e in let l = or_parts (is_high d) (is_high m) f.0 in two_regs (Data op.Lsls d m) at (codes "lsls") d m refl refl refl refl e (low d l.0) (low m l.1)
+operate at op.Lsrs d m e = let f = fits (is_high d || is_high m) false false e in let l = or_parts (is_high d) (is_high m) f.0 in two_regs (Data op.Lsrs d m) at (codes "lsrs") d m refl refl refl refl e (low d l.0) (low m l.1)
+operate at op.Asrs d m e = let f = fits (is_high d || is_high m) false false e in let l = or_parts (is_high d) (is_high m) f.0 in two_regs (Data op.Asrs d m) at (codes "asrs") d m refl refl refl refl e (low d l.0) (low m l.1)
+operate at op.Adcs d m e = let f = fits (is_high d || is_high m) false false e in let l = or_parts (is_high d) (is_high m) f.0 in two_regs (Data op.Adcs d m) at (codes "adcs") d m refl refl refl refl e (low d l.0) (low m l.1)
+operate at op.Sbcs d m e = let f = fits (is_high d || is_high m) false false e in let l = or_parts (is_high d) (is_high m) f.0 in two_regs (Data op.Sbcs d m) at (codes "sbcs") d m refl refl refl refl e (low d l.0) (low m l.1)
+operate at op.Rors d m e = let f = fits (is_high d || is_high m) false false e in let l = or_parts (is_high d) (is_high m) f.0 in two_regs (Data op.Rors d m) at (codes "rors") d m refl refl refl refl e (low d l.0) (low m l.1)
+operate at op.Tst d m e = let f = fits (is_high d || is_high m) false false e in let l = or_parts (is_high d) (is_high m) f.0 in two_regs (Data op.Tst d m) at (codes "tst") d m refl refl refl refl e (low d l.0) (low m l.1)
+operate at op.Rsbs d m e = let f = fits (is_high d || is_high m) false false e in let l = or_parts (is_high d) (is_high m) f.0 in regs_within 0 0 (λ i. Data op.Rsbs d m) at (codes "rsbs") d m 0 refl refl refl refl e (reg_fits (is_high d || is_high m) false false false false e) (low d l.0) (low m l.1) (omega arith) (omega arith) (omega arith)
+operate at op.Cmp d m e = let f = fits (is_high d || is_high m) false false e in let l = or_parts (is_high d) (is_high m) f.0 in two_regs (Data op.Cmp d m) at (codes "cmp") d m refl refl refl (ap (λ b. Some (Fixed (if b then CmpHigh d m else Data op.Cmp d m))) f.0) e (low d l.0) (low m l.1)
+operate at op.Cmn d m e = let f = fits (is_high d || is_high m) false false e in let l = or_parts (is_high d) (is_high m) f.0 in two_regs (Data op.Cmn d m) at (codes "cmn") d m refl refl refl refl e (low d l.0) (low m l.1)
+operate at op.Orrs d m e = let f = fits (is_high d || is_high m) false false e in let l = or_parts (is_high d) (is_high m) f.0 in two_regs (Data op.Orrs d m) at (codes "orrs") d m refl refl refl refl e (low d l.0) (low m l.1)
+operate at op.Muls d m e = let f = fits (is_high d || is_high m) false false e in let l = or_parts (is_high d) (is_high m) f.0 in two_regs (Data op.Muls d m) at (codes "muls") d m refl refl refl refl e (low d l.0) (low m l.1)
+operate at op.Bics d m e = let f = fits (is_high d || is_high m) false false e in let l = or_parts (is_high d) (is_high m) f.0 in two_regs (Data op.Bics d m) at (codes "bics") d m refl refl refl refl e (low d l.0) (low m l.1)
+operate at op.Mvns d m e = let f = fits (is_high d || is_high m) false false e in let l = or_parts (is_high d) (is_high m) f.0 in two_regs (Data op.Mvns d m) at (codes "mvns") d m refl refl refl refl e (low d l.0) (low m l.1)
 
 five_false : (a b c d e : Bool) → (a || b || c || d || e) ≡ false → (a ≡ false) × (b ≡ false) × (c ≡ false) × (d ≡ false) × (e ≡ false)
 five_false true b c d e h = cc
@@ -137,15 +137,15 @@ cmp_high at n m e = let f = fits (is_no_register n || is_no_register m || (not (
 
 pub mov_high : (at : ℕ) (d m : Reg) → fit_of (MovHigh d m) ≡ None → IsReadSo (MovHigh d m) at
 unfolding insn_text mnemonic mnemonics1 mnemonics2 mnemonics3 mnemonics4 mnemonics5 mnemonics6 mnemonics7 entry_at shaped
-mov_high at d m e = let f = fits (is_no_register d || is_no_register m) false false e in let l = two_false (is_no_register d) (is_no_register m) f.0 in two_regs (MovHigh d m) at (codes "mov") d m refl refl refl refl e (any d l.0) (any m l.1)
+mov_high at d m e = let f = fits (is_no_register d || is_no_register m) false false e in let l = or_parts (is_no_register d) (is_no_register m) f.0 in two_regs (MovHigh d m) at (codes "mov") d m refl refl refl refl e (any d l.0) (any m l.1)
 
 pub bx : (at : ℕ) (m : Reg) → fit_of (Bx m) ≡ None → IsReadSo (Bx m) at
 unfolding insn_text mnemonic mnemonics1 mnemonics2 mnemonics3 mnemonics4 mnemonics5 mnemonics6 mnemonics7 entry_at shaped
-bx at m e = let f = fits (is_no_register m || is m 15) false false e in let l = two_false (is_no_register m) (is m 15) f.0 in one_reg (Bx m) at (codes "bx") m refl refl refl refl e (any m l.0)
+bx at m e = let f = fits (is_no_register m || is m 15) false false e in let l = or_parts (is_no_register m) (is m 15) f.0 in one_reg (Bx m) at (codes "bx") m refl refl refl refl e (any m l.0)
 
 pub blx : (at : ℕ) (m : Reg) → fit_of (Blx m) ≡ None → IsReadSo (Blx m) at
 unfolding insn_text mnemonic mnemonics1 mnemonics2 mnemonics3 mnemonics4 mnemonics5 mnemonics6 mnemonics7 entry_at shaped
-blx at m e = let f = fits (is_no_register m || is m 15) false false e in let l = two_false (is_no_register m) (is m 15) f.0 in one_reg (Blx m) at (codes "blx") m refl refl refl refl e (any m l.0)
+blx at m e = let f = fits (is_no_register m || is m 15) false false e in let l = or_parts (is_no_register m) (is m 15) f.0 in one_reg (Blx m) at (codes "blx") m refl refl refl refl e (any m l.0)
 
 pub ldr_near : (at : ℕ) (d : Reg) (i : ℕ) → fit_of (LdrLiteral d i) ≡ None → (at + 4) / 4 * 4 + i < 4294967296 → IsReadSo (LdrLiteral d i) at
 unfolding insn_text mnemonic mnemonics1 mnemonics2 mnemonics3 mnemonics4 mnemonics5 mnemonics6 mnemonics7 entry_at shaped
@@ -171,9 +171,9 @@ load_reg at load.SignedByte t n m e = let f = fits (is_high t || is_high n || is
 
 pub store_imm : (at : ℕ) (s : Size) (t n : Reg) (i : ℕ) → fit_of (StoreImm s t n i) ≡ None → IsReadSo (StoreImm s t n i) at
 unfolding insn_text mnemonic mnemonics1 mnemonics2 mnemonics3 mnemonics4 mnemonics5 mnemonics6 mnemonics7 entry_at shaped
-store_imm at size.Word t n i e = let f = fits (is_high t || is_high n) (nat_lt 124 i) (is_no_multiple i 4) e in let l = two_false (is_high t) (is_high n) f.0 in mem_imm (StoreImm size.Word t n) at (codes "str") t n i refl refl refl (ap (λ b. Some (Filled (decimal i) (if b then StoreSp t else StoreImm size.Word t n))) (not_sp n l.1)) e (reg_fits (is_high t || is_high n) (nat_lt 124 i) (is_no_multiple i 4) (nat_lt 124 0) (is_no_multiple 0 4) e) (low t l.0) (low n l.1) (not_above 124 i 1024 f.1 (omega arith))
-store_imm at size.Half t n i e = let f = fits (is_high t || is_high n) (nat_lt 62 i) (is_no_multiple i 2) e in let l = two_false (is_high t) (is_high n) f.0 in mem_imm (StoreImm size.Half t n) at (codes "strh") t n i refl refl refl refl e (reg_fits (is_high t || is_high n) (nat_lt 62 i) (is_no_multiple i 2) (nat_lt 62 0) (is_no_multiple 0 2) e) (low t l.0) (low n l.1) (not_above 62 i 1024 f.1 (omega arith))
-store_imm at size.Byte t n i e = let f = fits (is_high t || is_high n) (nat_lt 31 i) (is_no_multiple i 1) e in let l = two_false (is_high t) (is_high n) f.0 in mem_imm (StoreImm size.Byte t n) at (codes "strb") t n i refl refl refl refl e (reg_fits (is_high t || is_high n) (nat_lt 31 i) (is_no_multiple i 1) (nat_lt 31 0) (is_no_multiple 0 1) e) (low t l.0) (low n l.1) (not_above 31 i 1024 f.1 (omega arith))
+store_imm at size.Word t n i e = let f = fits (is_high t || is_high n) (nat_lt 124 i) (is_no_multiple i 4) e in let l = or_parts (is_high t) (is_high n) f.0 in mem_imm (StoreImm size.Word t n) at (codes "str") t n i refl refl refl (ap (λ b. Some (Filled (decimal i) (if b then StoreSp t else StoreImm size.Word t n))) (not_sp n l.1)) e (reg_fits (is_high t || is_high n) (nat_lt 124 i) (is_no_multiple i 4) (nat_lt 124 0) (is_no_multiple 0 4) e) (low t l.0) (low n l.1) (not_above 124 i 1024 f.1 (omega arith))
+store_imm at size.Half t n i e = let f = fits (is_high t || is_high n) (nat_lt 62 i) (is_no_multiple i 2) e in let l = or_parts (is_high t) (is_high n) f.0 in mem_imm (StoreImm size.Half t n) at (codes "strh") t n i refl refl refl refl e (reg_fits (is_high t || is_high n) (nat_lt 62 i) (is_no_multiple i 2) (nat_lt 62 0) (is_no_multiple 0 2) e) (low t l.0) (low n l.1) (not_above 62 i 1024 f.1 (omega arith))
+store_imm at size.Byte t n i e = let f = fits (is_high t || is_high n) (nat_lt 31 i) (is_no_multiple i 1) e in let l = or_parts (is_high t) (is_high n) f.0 in mem_imm (StoreImm size.Byte t n) at (codes "strb") t n i refl refl refl refl e (reg_fits (is_high t || is_high n) (nat_lt 31 i) (is_no_multiple i 1) (nat_lt 31 0) (is_no_multiple 0 1) e) (low t l.0) (low n l.1) (not_above 31 i 1024 f.1 (omega arith))
 
 pub store_sp : (at : ℕ) (t : Reg) (i : ℕ) → fit_of (StoreSp t i) ≡ None → IsReadSo (StoreSp t i) at
 unfolding insn_text mnemonic mnemonics1 mnemonics2 mnemonics3 mnemonics4 mnemonics5 mnemonics6 mnemonics7 entry_at shaped
@@ -181,9 +181,9 @@ store_sp at t i e = let f = fits (is_high t) (nat_lt 1020 i) (is_no_multiple i 4
 
 pub load_imm : (at : ℕ) (s : Size) (t n : Reg) (i : ℕ) → fit_of (LoadImm s t n i) ≡ None → IsReadSo (LoadImm s t n i) at
 unfolding insn_text mnemonic mnemonics1 mnemonics2 mnemonics3 mnemonics4 mnemonics5 mnemonics6 mnemonics7 entry_at shaped
-load_imm at size.Word t n i e = let f = fits (is_high t || is_high n) (nat_lt 124 i) (is_no_multiple i 4) e in let l = two_false (is_high t) (is_high n) f.0 in mem_imm (LoadImm size.Word t n) at (codes "ldr") t n i refl refl refl (ap (λ b. Some (Filled (decimal i) (if b then LoadSp t else LoadImm size.Word t n))) (not_sp n l.1)) e (reg_fits (is_high t || is_high n) (nat_lt 124 i) (is_no_multiple i 4) (nat_lt 124 0) (is_no_multiple 0 4) e) (low t l.0) (low n l.1) (not_above 124 i 1024 f.1 (omega arith))
-load_imm at size.Half t n i e = let f = fits (is_high t || is_high n) (nat_lt 62 i) (is_no_multiple i 2) e in let l = two_false (is_high t) (is_high n) f.0 in mem_imm (LoadImm size.Half t n) at (codes "ldrh") t n i refl refl refl refl e (reg_fits (is_high t || is_high n) (nat_lt 62 i) (is_no_multiple i 2) (nat_lt 62 0) (is_no_multiple 0 2) e) (low t l.0) (low n l.1) (not_above 62 i 1024 f.1 (omega arith))
-load_imm at size.Byte t n i e = let f = fits (is_high t || is_high n) (nat_lt 31 i) (is_no_multiple i 1) e in let l = two_false (is_high t) (is_high n) f.0 in mem_imm (LoadImm size.Byte t n) at (codes "ldrb") t n i refl refl refl refl e (reg_fits (is_high t || is_high n) (nat_lt 31 i) (is_no_multiple i 1) (nat_lt 31 0) (is_no_multiple 0 1) e) (low t l.0) (low n l.1) (not_above 31 i 1024 f.1 (omega arith))
+load_imm at size.Word t n i e = let f = fits (is_high t || is_high n) (nat_lt 124 i) (is_no_multiple i 4) e in let l = or_parts (is_high t) (is_high n) f.0 in mem_imm (LoadImm size.Word t n) at (codes "ldr") t n i refl refl refl (ap (λ b. Some (Filled (decimal i) (if b then LoadSp t else LoadImm size.Word t n))) (not_sp n l.1)) e (reg_fits (is_high t || is_high n) (nat_lt 124 i) (is_no_multiple i 4) (nat_lt 124 0) (is_no_multiple 0 4) e) (low t l.0) (low n l.1) (not_above 124 i 1024 f.1 (omega arith))
+load_imm at size.Half t n i e = let f = fits (is_high t || is_high n) (nat_lt 62 i) (is_no_multiple i 2) e in let l = or_parts (is_high t) (is_high n) f.0 in mem_imm (LoadImm size.Half t n) at (codes "ldrh") t n i refl refl refl refl e (reg_fits (is_high t || is_high n) (nat_lt 62 i) (is_no_multiple i 2) (nat_lt 62 0) (is_no_multiple 0 2) e) (low t l.0) (low n l.1) (not_above 62 i 1024 f.1 (omega arith))
+load_imm at size.Byte t n i e = let f = fits (is_high t || is_high n) (nat_lt 31 i) (is_no_multiple i 1) e in let l = or_parts (is_high t) (is_high n) f.0 in mem_imm (LoadImm size.Byte t n) at (codes "ldrb") t n i refl refl refl refl e (reg_fits (is_high t || is_high n) (nat_lt 31 i) (is_no_multiple i 1) (nat_lt 31 0) (is_no_multiple 0 1) e) (low t l.0) (low n l.1) (not_above 31 i 1024 f.1 (omega arith))
 
 pub load_sp : (at : ℕ) (t : Reg) (i : ℕ) → fit_of (LoadSp t i) ≡ None → IsReadSo (LoadSp t i) at
 unfolding insn_text mnemonic mnemonics1 mnemonics2 mnemonics3 mnemonics4 mnemonics5 mnemonics6 mnemonics7 entry_at shaped
@@ -203,13 +203,13 @@ sp_sub at i e = let f = fits false (nat_lt 508 i) (is_no_multiple i 4) e in reg_
 
 pub change : (at : ℕ) (b : Bytes) (d m : Reg) → fit_of (Change b d m) ≡ None → IsReadSo (Change b d m) at
 unfolding insn_text mnemonic mnemonics1 mnemonics2 mnemonics3 mnemonics4 mnemonics5 mnemonics6 mnemonics7 entry_at shaped
-change at bytes.Sxth d m e = let f = fits (is_high d || is_high m) false false e in let l = two_false (is_high d) (is_high m) f.0 in two_regs (Change bytes.Sxth d m) at (codes "sxth") d m refl refl refl refl e (low d l.0) (low m l.1)
-change at bytes.Sxtb d m e = let f = fits (is_high d || is_high m) false false e in let l = two_false (is_high d) (is_high m) f.0 in two_regs (Change bytes.Sxtb d m) at (codes "sxtb") d m refl refl refl refl e (low d l.0) (low m l.1)
-change at bytes.Uxth d m e = let f = fits (is_high d || is_high m) false false e in let l = two_false (is_high d) (is_high m) f.0 in two_regs (Change bytes.Uxth d m) at (codes "uxth") d m refl refl refl refl e (low d l.0) (low m l.1)
-change at bytes.Uxtb d m e = let f = fits (is_high d || is_high m) false false e in let l = two_false (is_high d) (is_high m) f.0 in two_regs (Change bytes.Uxtb d m) at (codes "uxtb") d m refl refl refl refl e (low d l.0) (low m l.1)
-change at bytes.Rev d m e = let f = fits (is_high d || is_high m) false false e in let l = two_false (is_high d) (is_high m) f.0 in two_regs (Change bytes.Rev d m) at (codes "rev") d m refl refl refl refl e (low d l.0) (low m l.1)
-change at bytes.Rev16 d m e = let f = fits (is_high d || is_high m) false false e in let l = two_false (is_high d) (is_high m) f.0 in two_regs (Change bytes.Rev16 d m) at (codes "rev16") d m refl refl refl refl e (low d l.0) (low m l.1)
-change at bytes.Revsh d m e = let f = fits (is_high d || is_high m) false false e in let l = two_false (is_high d) (is_high m) f.0 in two_regs (Change bytes.Revsh d m) at (codes "revsh") d m refl refl refl refl e (low d l.0) (low m l.1)
+change at bytes.Sxth d m e = let f = fits (is_high d || is_high m) false false e in let l = or_parts (is_high d) (is_high m) f.0 in two_regs (Change bytes.Sxth d m) at (codes "sxth") d m refl refl refl refl e (low d l.0) (low m l.1)
+change at bytes.Sxtb d m e = let f = fits (is_high d || is_high m) false false e in let l = or_parts (is_high d) (is_high m) f.0 in two_regs (Change bytes.Sxtb d m) at (codes "sxtb") d m refl refl refl refl e (low d l.0) (low m l.1)
+change at bytes.Uxth d m e = let f = fits (is_high d || is_high m) false false e in let l = or_parts (is_high d) (is_high m) f.0 in two_regs (Change bytes.Uxth d m) at (codes "uxth") d m refl refl refl refl e (low d l.0) (low m l.1)
+change at bytes.Uxtb d m e = let f = fits (is_high d || is_high m) false false e in let l = or_parts (is_high d) (is_high m) f.0 in two_regs (Change bytes.Uxtb d m) at (codes "uxtb") d m refl refl refl refl e (low d l.0) (low m l.1)
+change at bytes.Rev d m e = let f = fits (is_high d || is_high m) false false e in let l = or_parts (is_high d) (is_high m) f.0 in two_regs (Change bytes.Rev d m) at (codes "rev") d m refl refl refl refl e (low d l.0) (low m l.1)
+change at bytes.Rev16 d m e = let f = fits (is_high d || is_high m) false false e in let l = or_parts (is_high d) (is_high m) f.0 in two_regs (Change bytes.Rev16 d m) at (codes "rev16") d m refl refl refl refl e (low d l.0) (low m l.1)
+change at bytes.Revsh d m e = let f = fits (is_high d || is_high m) false false e in let l = or_parts (is_high d) (is_high m) f.0 in two_regs (Change bytes.Revsh d m) at (codes "revsh") d m refl refl refl refl e (low d l.0) (low m l.1)
 
 pub bkpt : (at i : ℕ) → fit_of (Bkpt i) ≡ None → IsReadSo (Bkpt i) at
 unfolding insn_text mnemonic mnemonics1 mnemonics2 mnemonics3 mnemonics4 mnemonics5 mnemonics6 mnemonics7 entry_at shaped

@@ -1,7 +1,7 @@
 -- Which instruction a shape is, and that it is accepted.
 use Rattle.std.proofs.Common.{◌≡◌, ℕ, length, not, ◌&&◌, ◌+◌, ◌*◌, ◌/◌, ◌<◌, ◌≤◌, List, ◌∷◌, refl, arith, Bool, true, false, nat_le, nat_lt, ◌||◌, Some, None, Ok}
 use Rattle.std.specs.Prelude.{ℤ, pos, negsuc, ◌-ℤ◌}
-use Rattle.std.proofs.lemmas.Bool.{not-true}
+use Rattle.std.proofs.lemmas.Bool.{not-true, leb-true, or_parts, and_parts}
 use Rattle.std.proofs.lemmas.Bool.Decides.{nat_tests}
 use Rattle.std.specs.List.{list_all}
 use Rattle.thumb_insn.specs.declared.Reg.{Reg}
@@ -13,9 +13,9 @@ use Rattle.thumb_asm.specs.Operands.{Operand, ◌>>=◌, expression}
 use Rattle.thumb_asm.specs.Syntax.{Shape, Fixed, Filled, Within, Aimed, Near, mnemonic, shaped}
 use Rattle.thumb_asm.specs.Sizes.{checked, has_bad_count, has_bad_register, has_bad_number, has_bad_list, is_register_fit}
 use Rattle.thumb_asm.specs.Meaning.{Env, insn_at, value}
-use Rattle.thumb_asm.proofs.Bytes.{is_solid, is_plain, both, all_by, allowed_of}
+use Rattle.thumb_asm.proofs.Bytes.{is_solid, is_plain, all_by, allowed_of}
 use Rattle.thumb_asm.proofs.Lines.{Reads, AllRead, Line, line_shape}
-use Rattle.asm_laws.proofs.Numbers.{le_of, number}
+use Rattle.asm_laws.proofs.Numbers.{number}
 use Rattle.asm_laws.specs.Reading.{IsRead}
 
 -- What a fit tells.
@@ -31,10 +31,6 @@ reg_fits true o a p q e = cc
 reg_fits false o a true q e = refl
 reg_fits false o a false true e = refl
 reg_fits false o a false false e = refl
-
-pub two_false : (a b : Bool) → (a || b) ≡ false → (a ≡ false) × (b ≡ false)
-two_false true b e = cc
-two_false false b e = (refl, e)
 
 pub three_false : (a b d : Bool) → (a || b || d) ≡ false → (a ≡ false) × (b ≡ false) × (d ≡ false)
 three_false true b d e = cc
@@ -129,5 +125,5 @@ read_so i at text s t l g = record {
 -- a line of a word and operands is the instruction of its shape
 pub say : (i : Insn) (at : ℕ) (name x : List ℕ) (xs : List (List ℕ)) (o : Operand) (os : List Operand) (s : Shape) → insn_text i at ≡ line name (x ∷ xs) → is_word name ≡ true → list_all is_solid name ≡ true → nat_le (length xs) 2 ≡ true → Reads x o → AllRead xs os → (mnemonic name >>= λ m. shaped m (o ∷ os)) ≡ Some s → checked (Some s) ≡ Ok (Some s) → ((env : Env) → insn_at env at s ≡ Ok i) → IsReadSo i at
 say i at name x xs o os s t n h v r rs e f g =
-    let w = both (not (is_nil name)) (nat_le (length name) 9) n in
-    read_so i at (line name (x ∷ xs)) s t (line_shape name x xs o os s (not-true _ w.0) h (le_of _ _ w.1) (le_of _ _ v) r rs e f) g
+    let w = and_parts (not (is_nil name)) (nat_le (length name) 9) n in
+    read_so i at (line name (x ∷ xs)) s t (line_shape name x xs o os s (not-true _ w.0) h (leb-true _ _ w.1) (leb-true _ _ v) r rs e f) g

@@ -1,5 +1,6 @@
 -- A source is assembled to as many bytes as its lines take.
 use Rattle.std.proofs.Common.{◌≡◌, ℕ, ◌+◌, ◌*◌, List, [], ◌∷◌, length, length-append, mul-zero, mul-suc, add_comm, refl, ap, ◌∙◌, sym, subst, Bool, true, false, Option, Some, None, Result, Ok, Err, ℤ}
+use Rattle.std.proofs.lemmas.Bool.{or_parts}
 use Rattle.std.specs.Prelude.{is_some}
 use Rattle.std.specs.List.{list_any}
 use Rattle.thumb_encode.proofs.Decodes.{sized}
@@ -13,8 +14,7 @@ use Rattle.thumb_asm.specs.Sizes.{shape_size, statement_of, natural_part, paddin
 use Rattle.thumb_asm.specs.Meaning.{Env, Names, env_of, value, value_bytes, data_bytes, insn_at, Means, Spells, Lays}
 use Rattle.thumb_asm.specs.Assembly.{Assembles}
 use Rattle.thumb_asm.specs.Causes.{when, is_unknown, shape_cause, second_group, second_in, at_line, size_by, line_size, labels_from, first_in, first_cause}
-use Rattle.thumb_asm.proofs.Bytes.{neither}
-use Rattle.thumb_asm.proofs.Values.{repeat_length}
+use Rattle.thumb_asm.proofs.Values.{repeat_length, known_length}
 use Rattle.thumb_asm.specs.Passes.{size_from}
 use Rattle.asm_laws.proofs.Steady.{Steady, IsSteady, steady_statement}
 use Rattle.asm_laws.proofs.Lengths.{Alike, CodesOf, number_length, data_length, coded_length, shape_long, insn_long}
@@ -44,15 +44,11 @@ below k (Some c) later h = cc
 
 -- Data, of which every value is known.
 
-known_length : (k : ℕ) (o : Option ℤ) → is_unknown o ≡ false → length (value_bytes k o) ≡ k
-known_length k None h = cc
-known_length k (Some z) h = number_length k z
-
 data_sized : (env : Env) (k : ℕ) (es : List (List ℕ)) → list_any (λ e. is_unknown (value env e)) es ≡ false → length (data_bytes env k es) ≡ k * length es
 unfolding data_bytes
 data_sized env k [] h = sym (mul-zero k)
 data_sized env k (e ∷ es) h =
-    let n = neither (is_unknown (value env e)) (list_any (λ d. is_unknown (value env d)) es) h in
+    let n = or_parts (is_unknown (value env e)) (list_any (λ d. is_unknown (value env d)) es) h in
     length-append (value_bytes k (value env e)) (data_bytes env k es)
     ∙ ap (λ m. m + length (data_bytes env k es)) (known_length k (value env e) n.0)
     ∙ ap (λ m. k + m) (data_sized env k es n.1)

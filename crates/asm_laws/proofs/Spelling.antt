@@ -7,9 +7,7 @@ use Rattle.thumb_asm.specs.Syntax.{Shape, Fixed, Filled, Within, Aimed, Near, Mi
 use Rattle.thumb_asm.specs.Meaning.{Env, insn_at, Codes, Means, Spells}
 use Rattle.thumb_asm.specs.Causes.{second_group, shape_cause, insn_cause}
 use Rattle.asm_laws.specs.Reading.{IsRead, IsSpelled, IsAccepted}
-
-inner : (r : Result Insn Cause) (i j : Insn) → r ≡ Ok i → r ≡ Ok j → i ≡ j
-inner r i j e f = cc
+use Rattle.asm_laws.proofs.Lengths.{inner}
 
 -- a result that is this instruction, with what holds of it
 held : (P : Insn → Type 0) (r : Result Insn Cause) (i : Insn) → r ≡ Ok i → (P i → (j : Insn) × (r ≡ Ok j) × P j) × (((j : Insn) × (r ≡ Ok j) × P j) → P i)

@@ -1,11 +1,12 @@
 -- Texts between commas in brackets and braces.
 use Rattle.std.proofs.Common.{◌≡◌, ℕ, List, [], ◌∷◌, ◌++◌, map, refl, ap, ◌∙◌, sym, true, false, nat_eq, append-nil}
+use Rattle.std.proofs.lemmas.Bool.{and_parts}
 use Rattle.std.specs.List.{list_all}
 use Rattle.text_lines.specs.Text.{with_first}
 use Rattle.thumb_insn.specs.Text.{joined}
 use Rattle.thumb_asm.specs.Chars.{is_nil, strip_end, strip, starts_by}
 use Rattle.thumb_asm.specs.Operands.{split_by, stripped_by}
-use Rattle.thumb_asm.proofs.Bytes.{is_visible, is_solid, is_inner, both, all_by, all_append, inner_of, visible_of, front_visible, front_blank, starts_append, ends_solid, with_text, text_first, comma_of}
+use Rattle.thumb_asm.proofs.Bytes.{is_visible, is_solid, is_inner, all_by, all_append, inner_of, visible_of, front_visible, front_blank, starts_append, ends_solid, with_text, text_first, comma_of}
 use Rattle.thumb_asm.proofs.Lines.{joined_more, spaced}
 
 -- a text of solid bytes, at least one
@@ -19,7 +20,7 @@ AllSolid (x ∷ xs) = Solid x × AllSolid xs
 
 begins : (a : List ℕ) → Solid a → starts_by is_visible a ≡ true
 begins [] h = let e = h.some in cc
-begins (c ∷ cs) h = visible_of c (both (is_solid c) (list_all is_solid cs) h.solid).0
+begins (c ∷ cs) h = visible_of c (and_parts (is_solid c) (list_all is_solid cs) h.solid).0
 
 one : (c : ℕ) (cs : List ℕ) → nat_eq c 44 ≡ false → split_by 44 (c ∷ cs) ≡ with_first c (split_by 44 cs)
 unfolding split_by
@@ -27,7 +28,7 @@ one c cs h = rw h refl
 
 splits : (t rest : List ℕ) → list_all is_solid t ≡ true → split_by 44 (t ++ rest) ≡ with_text t (split_by 44 rest)
 splits [] rest h = refl
-splits (c ∷ cs) rest h = let e = both (is_solid c) (list_all is_solid cs) h in one c (cs ++ rest) (comma_of c e.0) ∙ ap (with_first c) (splits cs rest e.1)
+splits (c ∷ cs) rest h = let e = and_parts (is_solid c) (list_all is_solid cs) h in one c (cs ++ rest) (comma_of c e.0) ∙ ap (with_first c) (splits cs rest e.1)
 
 none : split_by 44 [] ≡ [] ∷ []
 unfolding split_by

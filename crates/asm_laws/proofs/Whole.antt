@@ -1,5 +1,6 @@
 -- A text of one line that is an instruction.
 use Rattle.std.proofs.Common.{◌≡◌, ℕ, ◌+◌, ◌≤◌, List, [], ◌∷◌, ◌++◌, length, refl, ap, ◌∙◌, sym, subst, arith, Bool, true, false, nat_eq, nat_lt, if◌then◌else◌, Some, None, Ok, append-nil}
+use Rattle.std.proofs.lemmas.Bool.{le-ltb, and_parts}
 use Rattle.std.proofs.lemmas.Bool.Decides.{nat_tests}
 use Rattle.std.specs.List.{list_all}
 use Rattle.text_lines.specs.Text.{lines_of, with_first}
@@ -12,22 +13,21 @@ use Rattle.thumb_asm.specs.Sizes.{statement_of, shape_size}
 use Rattle.thumb_asm.specs.Meaning.{Env, Names, env_of, own_label, insn_at, Codes, Spells, Lays}
 use Rattle.thumb_asm.specs.Assembly.{Assembles}
 use Rattle.thumb_asm.specs.Causes.{second_group, first_group, first_in, second_in, labels_from, first_cause, line_size}
-use Rattle.thumb_asm.proofs.Bytes.{both}
 use Rattle.asm_laws.specs.Reading.{IsAssembled}
 use Rattle.asm_laws.proofs.Shapes.{IsReadSo}
 use Rattle.asm_laws.proofs.Spelling.{spelled, accepted}
 
-no_feed : (c : ℕ) → is_allowed c ≡ true → nat_eq c 10 ≡ false
+pub no_feed : (c : ℕ) → is_allowed c ≡ true → nat_eq c 10 ≡ false
 no_feed c h = grind (arith, nat_tests)
 
-no_return : (c : ℕ) → is_allowed c ≡ true → nat_eq c 13 ≡ false
+pub no_return : (c : ℕ) → is_allowed c ≡ true → nat_eq c 13 ≡ false
 no_return c h = grind (arith, nat_tests)
 
 one_line : (t : List ℕ) → is_nil t ≡ false → list_all is_allowed t ≡ true → lines_of t ≡ t ∷ []
 unfolding lines_of
 one_line [] h k = cc
-one_line (c ∷ []) h k = let e = both (is_allowed c) true k in rw (no_feed c e.0, no_return c e.0) refl
-one_line (c ∷ d ∷ ds) h k = let e = both (is_allowed c) (list_all is_allowed (d ∷ ds)) k in rw (no_feed c e.0, no_return c e.0) (ap (with_first c) (one_line (d ∷ ds) refl e.1))
+one_line (c ∷ []) h k = let e = and_parts (is_allowed c) true k in rw (no_feed c e.0, no_return c e.0) refl
+one_line (c ∷ d ∷ ds) h k = let e = and_parts (is_allowed c) (list_all is_allowed (d ∷ ds)) k in rw (no_feed c e.0, no_return c e.0) (ap (with_first c) (one_line (d ∷ ds) refl e.1))
 
 some_text : (t : List ℕ) (s : Shape) → statement_of (parts t).statement ≡ Ok (Some s) → is_nil t ≡ false
 unfolding statement_of parts before after strip strip_front strip_end
@@ -57,9 +57,6 @@ line_small : (env : Env) (at next : ℕ) (t : List ℕ) (s : Shape) (i : Insn) �
 unfolding line_size
 line_small env at next t s i h e = rw h (size_small env at next s i e)
 
-not_over : (m n : ℕ) → n ≤ m → nat_lt m n ≡ false
-not_over m n h = grind (arith, nat_tests)
-
 no_first : (given earlier : Env) (at used : ℕ) (t : List ℕ) (s : Shape) → nat_lt 255 (length t) ≡ false → list_all is_allowed t ≡ true → (parts t).label ≡ None → statement_of (parts t).statement ≡ Ok (Some s) → nat_lt 1048576 (used + line_size (at + used) t) ≡ false → first_group given at earlier used t ≡ None
 unfolding first_group
 no_first given earlier at used t s a b l e z = rw (a, b, l, e, z) refl
@@ -87,7 +84,7 @@ assembled i at p given h =
     let e = p.read.1.1 in
     let lines = one_line (insn_text i at) (some_text (insn_text i at) s e) p.allowed in
     let small = line_small given at (at + 0) (insn_text i at) s i e (p.read.1.2 given) in
-    let first = no_first given (entry_at []) at 0 (insn_text i at) s (not_over 255 (length (insn_text i at)) p.short) p.allowed p.read.0 e (not_over 1048576 (0 + line_size (at + 0) (insn_text i at)) (omega arith)) in
+    let first = no_first given (entry_at []) at 0 (insn_text i at) s (le-ltb 255 (length (insn_text i at)) p.short) p.allowed p.read.0 e (le-ltb 1048576 (0 + line_size (at + 0) (insn_text i at)) (omega arith)) in
     let cause = no_cause given at (insn_text i at) first (λ env. accepted i at p.read env h) in (
       ap (λ ls. first_cause ls at given) lines ∙ cause,
       λ own c. subst (λ ls. Assembles ls at given own (λ name. None)) (sym lines) (record {

@@ -1,7 +1,8 @@
 -- Lines one after another: a text of good lines is good.
 use Rattle.std.proofs.Common.{◌≡◌, ℕ, ◌≤◌, inl, inr, Bool, true, false, eqb, ◌||◌, List, [], ◌∷◌, ◌++◌, map, refl, sym, subst, ap, ◌∙◌, arith, append_assoc, append-nil}
+use Rattle.std.proofs.lemmas.List.{map_push}
 use Rattle.std.specs.List.{list_all}
-use Rattle.std.proofs.lemmas.Bool.{false≢true}
+use Rattle.std.proofs.lemmas.Bool.{false≢true, or_right, and_parts}
 use Rattle.std.proofs.lemmas.List.Elements.{Contains-push_cases, Contains-append_left}
 use Rattle.kernel_abi.specs.declared.Note.{Note}
 use Rattle.text_lines.specs.Text.{with_first}
@@ -19,7 +20,6 @@ use Rattle.audit_laws.specs.Told.{told_by, IsLine}
 use Rattle.audit_laws.proofs.Fitting.{AreFitNotes}
 use Rattle.audit_laws.specs.Whole.{notes_text, notes_told, AreGoodSayings, AreLines, joined, IsLastLine, AreLastLines}
 use Rattle.trace_audit.proofs.Adding.{good_none, good_push}
-use Rattle.audit_laws.proofs.Decimals.{both}
 use Rattle.audit_laws.proofs.Spelled.{note_read}
 
 -- ## where lines end
@@ -45,7 +45,7 @@ cut_nothing = refl
 pub cut_line : (text rest : List ℕ) → list_all is_printable text ≡ true → lines_of (text ++ 10 ∷ rest) ≡ text ∷ lines_of rest
 cut_line [] rest h = cut_end rest
 cut_line (c ∷ cs) rest h =
-    let two = both (is_printable c) (list_all is_printable cs) h in
+    let two = and_parts (is_printable c) (list_all is_printable cs) h in
     cut_more c (cs ++ 10 ∷ rest) (no_lf c two.0) ∙ ap (with_first c) (cut_line cs rest two.1)
 
 -- one line and what follows
@@ -74,10 +74,6 @@ read_notes last (n ∷ notes) rest h =
     ∙ ap (λ xs. tells n ∷ xs) (read_notes n.0 notes rest h.4)
 
 -- ## the notes
-
-map_push : {A B : Type 0} (f : A → B) (xs : List A) (x : A) → map f (xs ++ x ∷ []) ≡ map f xs ++ f x ∷ []
-map_push f [] x = refl
-map_push f (y ∷ ys) x = ap (λ zs. f y ∷ zs) (map_push f ys x)
 
 map_joined : {A B : Type 0} (f : A → B) (xs ys : List A) → map f (xs ++ ys) ≡ map f xs ++ map f ys
 map_joined f [] ys = refl
@@ -151,17 +147,13 @@ or_more : (b x y : Bool) → (x ≡ true → y ≡ true) → (b || x) ≡ true �
 or_more true x y h e = refl
 or_more false x y h e = h e
 
-or_true : (b y : Bool) → y ≡ true → (b || y) ≡ true
-or_true true y h = refl
-or_true false y h = h
-
 any_push : (before : List Line) (l : Line) → has_ended before ≡ true → has_ended (before ++ l ∷ []) ≡ true
 any_push [] l h = absurd (false≢true h)
 any_push (x ∷ before) l h = or_more (is_end x) (has_ended before) (has_ended (before ++ l ∷ [])) (λ e. any_push before l e) h
 
 any_here : (before : List Line) → has_ended (before ++ line.Ends ∷ []) ≡ true
 any_here [] = refl
-any_here (x ∷ before) = or_true (is_end x) (has_ended (before ++ line.Ends ∷ [])) (any_here before)
+any_here (x ∷ before) = or_right (is_end x) (has_ended (before ++ line.Ends ∷ [])) (any_here before)
 
 last_nothing : (told : List Saying) (l : Line) → IsLastLine told l → said l ≡ saying.Nothing
 last_nothing told (line.Tells turn s) h = absurd h

@@ -5,7 +5,7 @@ use Rattle.std.specs.List.{list_all}
 use Rattle.std.specs.Int.{IsInRange}
 use Rattle.std.proofs.lemmas.Str.Parse.{IsNumeralModel, IsDigitsTest, WeighsDigits, numerals_by_weight}
 use Rattle.std.proofs.lemmas.Fmt.{digits_decimal, digits_value-decimal, decimal_nonempty, first_decimal, decimal_digit}
-use Rattle.std.proofs.lemmas.Bool.{false≢true}
+use Rattle.std.proofs.lemmas.Bool.{false≢true, and_parts, and_from}
 use Rattle.std.proofs.lemmas.Bool.Decides.{nat_tests, eqb_tells}
 use Rattle.text_lines.specs.Text.{is_digit, digit, value_in, number_of}
 use Rattle.trace_audit.specs.Texts.{has_leading_zero, plain_number}
@@ -16,18 +16,11 @@ digit_range c h = grind (arith, nat_tests)
 range_digit : (c : ℕ) → IsInRange 48 57 c → is_digit c ≡ true
 range_digit c h = grind (arith, nat_tests)
 
-pub both : (a b : Bool) → (a && b) ≡ true → (a ≡ true) × (b ≡ true)
-both true b h = (refl, h)
-both false b h = absurd (false≢true h)
-
-and_so : (a b : Bool) → a ≡ true → b ≡ true → (a && b) ≡ true
-and_so a b p q = rw (p, q) refl
-
 tests : IsDigitsTest (λ ds. list_all is_digit ds ≡ true)
 tests = record {
   empty = refl;
-  parts = λ c cs h. let p = both (is_digit c) (list_all is_digit cs) h in (digit_range c p.0, p.1);
-  more = λ c cs r h. and_so (is_digit c) (list_all is_digit cs) (range_digit c r) h;
+  parts = λ c cs h. let p = and_parts (is_digit c) (list_all is_digit cs) h in (digit_range c p.0, p.1);
+  more = λ c cs r h. and_from (is_digit c) (list_all is_digit cs) (range_digit c r) h;
 }
 
 digit_of : (c : ℕ) → IsInRange 48 57 c → digit c ≡ c - 48

@@ -1,5 +1,6 @@
 -- The line that ends the turns, and the lines after it, are read as what they say.
 use Rattle.std.proofs.Common.{◌≡◌, ◌≢◌, ℕ, suc, ◌+◌, ◌-◌, ◌^◌, ◌<◌, Bool, true, false, cond, eqb, ltb, ◌&&◌, ◌||◌, List, [], ◌∷◌, ◌++◌, length, take, drop, get_or, Option, Some, None, refl, sym, subst, ap, ◌∙◌, arith, length-append, add-one}
+use Rattle.std.proofs.lemmas.Bool.{and_parts, ltb-true, or_right}
 use Rattle.std.specs.Prelude.{decimal, codes, unwrap_or, bytes_eq, is_some, option_map}
 use Rattle.std.specs.List.{list_all}
 use Rattle.std.proofs.lemmas.Bool.Decides.{nat_tests}
@@ -11,9 +12,9 @@ use Rattle.trace_audit.specs.declared.reading.Wait.TheVariants as wait
 use Rattle.trace_audit.specs.Texts.{plain_number, most_number, most_time}
 use Rattle.trace_audit.specs.Fields.{Form, form, is_number, is_low_hex, is_hex, is_any_of, behind, number_in, is_number_behind, is_timer, is_of, are_of, form_named, last_forms, turn_forms, end_form}
 use Rattle.trace_audit.specs.Meaning.{read, fits, fitting, form_of, told, turn_line, wait_by, wait_of, shown_by, shown, row_of, or_else, last_line, end_line}
-use Rattle.audit_laws.proofs.Decimals.{both, number_back}
+use Rattle.audit_laws.proofs.Decimals.{number_back}
 use Rattle.audit_laws.proofs.Spelling.{IsWord, spaced, words_back}
-use Rattle.audit_laws.proofs.Reading.{decimal_word, small, short, number_of_word, hex_word, of_number, of_time, of_word, of_row, all_of, plain, or_right, AreHex, hex_fields, hex_fit, hex_words, by_words, read_words}
+use Rattle.audit_laws.proofs.Reading.{decimal_word, small, short, number_of_word, hex_word, of_number, of_time, of_word, of_row, all_of, plain, AreHex, hex_fields, hex_fit, hex_words, by_words, read_words}
 
 -- ## the end
 
@@ -146,19 +147,16 @@ abbrev are_short : ℕ → List Form → Bool
 are_short n [] = true
 are_short n (f ∷ fs) = ltb (length f.name) n && are_short n fs
 
-below : (a b : ℕ) → ltb a b ≡ true → a < b
-below a b h = grind (arith, nat_tests)
-
 none_named : (w : List ℕ) (fs : List Form) → are_short (length w) fs ≡ true → form_named w fs ≡ None
 none_named w [] h = refl
 none_named w (f ∷ fs) h =
-    let p = both (ltb (length f.name) (length w)) (are_short (length w) fs) h in
-    let lt = below (length f.name) (length w) p.0 in
+    let p = and_parts (ltb (length f.name) (length w)) (are_short (length w) fs) h in
+    let lt = ltb-true (length f.name) (length w) p.0 in
     ap (λ b. cond b (Some f) (form_named w fs)) (apart_lengths w f.name (λ e. absurd (omega arith))) ∙ none_named w fs p.1
 
 pub hex_length : (n : ℕ) (w : List ℕ) → is_hex n w ≡ true → length w ≡ n
 unfolding is_hex
-hex_length n w h = same (length w) n (both (eqb (length w) n) (list_all is_low_hex w) h).0
+hex_length n w h = same (length w) n (and_parts (eqb (length w) n) (list_all is_low_hex w) h).0
   where
     same : (a b : ℕ) → eqb a b ≡ true → a ≡ b
     same a b h = grind (arith, nat_tests)

@@ -12,6 +12,7 @@ use Rattle.trace_audit.specs.Fields.{form, is_hex, is_any_of, is_of, has_text}
 use Rattle.trace_audit.specs.Meaning.{read, fits, number_at, is_answer, moves_nothing}
 use Rattle.audit_laws.proofs.Spelling.{IsWord, spaced, words_then_text}
 use Rattle.audit_laws.proofs.Reading.{decimal_word, small, short, number_of_word, hex_word, of_number, of_time, of_word, of_byte, all_of, plain, all_and_text, AreHex, hex_fields, hex_fit, hex_words, turn_read, read_words, spelled_read}
+use Rattle.text_lines.proofs.Digits.{positive}
 
 pub tick_back : (t now : ℕ) → t < 2 ^ 32 → now < 2 ^ 64 → read (decimal t ++ spaced (codes "tick" ∷ decimal now ∷ [])) ≡ line.Tells t saying.Nothing
 tick_back t now h a = spelled_read t (codes "tick") (decimal now ∷ []) (form (codes "tick") kind.Plain (field.Time ∷ [])) h refl (decimal_word now a, tt) refl (plain (field.Time ∷ []) (decimal now ∷ []) (of_time now a, tt))
@@ -121,12 +122,9 @@ never_none (c ∷ cs) e = by (eqb c 32) (words_of cs) e
     by false [] e = absurd cc
     by false (w ∷ ws) e = absurd cc
 
-one_more : (n : ℕ) → ltb 0 (suc n) ≡ true
-one_more n = grind arith
-
 with_text : (c : ℕ) (ws : List (List ℕ)) → has_text (with_first c ws) ≡ true
 with_text c [] = refl
-with_text c (w ∷ []) = one_more (length w)
+with_text c (w ∷ []) = positive (length w)
 with_text c (w ∷ v ∷ ws) = refl
 
 space_text : (ws : List (List ℕ)) → (ws ≡ [] → ⊥) → has_text ([] ∷ ws) ≡ true

@@ -2,7 +2,7 @@
 use Rattle.std.proofs.Common.{◌≡◌, ℕ, suc, zero, ◌-◌, ◌^◌, ◌<◌, ◌⊎◌, inl, inr, Bool, true, false, cond, eqb, ◌&&◌, ◌||◌, List, [], ◌∷◌, ◌++◌, length, Some, None, refl, ap, ◌∙◌, arith}
 use Rattle.std.specs.Prelude.{decimal, codes, bytes_eq, is_some, unwrap_or, option_map}
 use Rattle.std.specs.List.{list_all}
-use Rattle.std.proofs.lemmas.Bool.{false≢true}
+use Rattle.std.proofs.lemmas.Bool.{false≢true, and_parts, or_left, or_right}
 use Rattle.std.proofs.lemmas.Bool.Decides.{nat_tests}
 use Rattle.text_lines.specs.Text.{is_digit}
 use Rattle.trace_audit.specs.declared.forms.Field.{Field}
@@ -12,7 +12,7 @@ use Rattle.trace_audit.specs.declared.reading.Line.TheVariants as line
 use Rattle.trace_audit.specs.Texts.{words_of, plain_number, most_number}
 use Rattle.trace_audit.specs.Fields.{Form, is_number, is_low_hex, is_hex, is_any_of, is_of, are_of, has_text, form_named, turn_forms, end_form}
 use Rattle.trace_audit.specs.Meaning.{saying_of, fits, fitting, form_of, told, turn_line, or_else, last_line, end_line, read}
-use Rattle.audit_laws.proofs.Decimals.{both, number_back, all_digits}
+use Rattle.audit_laws.proofs.Decimals.{number_back, all_digits}
 use Rattle.audit_laws.proofs.Spelling.{is_in_word, IsWord, AreWords, spaced, words_back, all_weaker}
 
 -- ## words
@@ -28,7 +28,7 @@ decimal_word n h = all_weaker is_digit is_in_word digit_in_word (decimal n) (all
 
 pub hex_word : (n : ℕ) (w : List ℕ) → is_hex n w ≡ true → IsWord w
 unfolding is_hex
-hex_word n w h = all_weaker is_low_hex is_in_word hex_in_word w (both (eqb (length w) n) (list_all is_low_hex w) h).1
+hex_word n w h = all_weaker is_low_hex is_in_word hex_in_word w (and_parts (eqb (length w) n) (list_all is_low_hex w) h).1
 
 -- ## fields
 
@@ -60,14 +60,6 @@ of_row w h = h
 pub of_byte : (w : List ℕ) → is_hex 2 w ≡ true → is_of field.Byte w ≡ true
 unfolding is_of
 of_byte w h = h
-
-or_left : (a b : Bool) → a ≡ true → (a || b) ≡ true
-or_left true b h = refl
-or_left false b h = absurd (false≢true h)
-
-pub or_right : (a b : Bool) → b ≡ true → (a || b) ≡ true
-or_right true b h = refl
-or_right false b h = h
 
 pub of_code : (w : List ℕ) → (is_hex 4 w ≡ true) ⊎ (is_hex 8 w ≡ true) → is_of field.Code w ≡ true
 unfolding is_of
@@ -138,7 +130,7 @@ read_words text words e = ap by_words e
 -- a number is no name
 not_named : (w : List ℕ) (c : ℕ) (cs : List ℕ) → list_all is_digit w ≡ true → 57 < c → bytes_eq w (c ∷ cs) ≡ false
 not_named [] c cs h lt = refl
-not_named (d ∷ w) c cs h lt = let first : eqb d c ≡ false = apart d c (both (is_digit d) (list_all is_digit w) h).0 lt in ap (λ b. b && bytes_eq w cs) first
+not_named (d ∷ w) c cs h lt = let first : eqb d c ≡ false = apart d c (and_parts (is_digit d) (list_all is_digit w) h).0 lt in ap (λ b. b && bytes_eq w cs) first
   where
     apart : (d c : ℕ) → is_digit d ≡ true → 57 < c → eqb d c ≡ false
     apart d c h lt = grind (arith, nat_tests)

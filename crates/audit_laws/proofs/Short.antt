@@ -88,7 +88,7 @@ listened_length Kernel fit = omega arith
 listened_length (One index) fit = ten index fit
 
 -- an end, up to a bound of its own
-under : (w : List ℕ) (m : ℕ) → length w ≤ m → m ≤ 160 → length w ≤ 160
+pub under : (w : List ℕ) (m : ℕ) → length w ≤ m → m ≤ 160 → length w ≤ 160
 under w m h k = omega arith
 
 tick_short : (t now : ℕ) → t < 2 ^ 32 → now < 2 ^ 64 → length (tick_line t now) ≤ 160

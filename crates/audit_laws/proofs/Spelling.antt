@@ -1,11 +1,11 @@
 -- Words with a space before each, and that they are cut there again.
 use Rattle.std.proofs.Common.{◌≡◌, ℕ, Bool, true, false, eqb, List, [], ◌∷◌, ◌++◌, refl, ap, ◌∙◌, arith, append-nil, append_assoc}
+use Rattle.std.proofs.lemmas.Bool.{and_parts}
 use Rattle.std.specs.List.{list_all}
 use Rattle.std.proofs.lemmas.Bool.Decides.{nat_tests}
 use Rattle.text_lines.specs.Text.{with_first, is_between}
 use Rattle.trace_audit.specs.Texts.{pieces_of, words_of}
 use Rattle.trace_audit.specs.Verdicts.{is_printable}
-use Rattle.audit_laws.proofs.Decimals.{both}
 
 -- a byte of a word: printable, and no space
 abbrev pub is_in_word : ℕ → Bool
@@ -41,11 +41,11 @@ piece_none = refl
 -- a word and what follows at a space
 word_then : (w rest : List ℕ) → IsWord w → words_of (w ++ 32 ∷ rest) ≡ w ∷ words_of rest
 word_then [] rest h = piece_space rest
-word_then (c ∷ w) rest h = let p = both (is_in_word c) (list_all is_in_word w) h in piece_more c (w ++ 32 ∷ rest) p.0 ∙ ap (with_first c) (word_then w rest p.1)
+word_then (c ∷ w) rest h = let p = and_parts (is_in_word c) (list_all is_in_word w) h in piece_more c (w ++ 32 ∷ rest) p.0 ∙ ap (with_first c) (word_then w rest p.1)
 
 word_last : (w : List ℕ) → IsWord w → words_of w ≡ w ∷ []
 word_last [] h = piece_none
-word_last (c ∷ w) h = let p = both (is_in_word c) (list_all is_in_word w) h in piece_more c w p.0 ∙ ap (with_first c) (word_last w p.1)
+word_last (c ∷ w) h = let p = and_parts (is_in_word c) (list_all is_in_word w) h in piece_more c w p.0 ∙ ap (with_first c) (word_last w p.1)
 
 -- words are cut where they were joined
 pub words_back : (w : List ℕ) (ws : List (List ℕ)) → IsWord w → AreWords ws → words_of (w ++ spaced ws) ≡ w ∷ ws
@@ -61,11 +61,11 @@ words_then_text w (v ∷ ws) text h hs = ap words_of (ap (λ r. w ++ 32 ∷ r) (
 
 pub all_weaker : (p q : ℕ → Bool) → ((c : ℕ) → p c ≡ true → q c ≡ true) → (xs : List ℕ) → list_all p xs ≡ true → list_all q xs ≡ true
 all_weaker p q so [] h = refl
-all_weaker p q so (x ∷ xs) h = let two = both (p x) (list_all p xs) h in rw (so x two.0, all_weaker p q so xs two.1) refl
+all_weaker p q so (x ∷ xs) h = let two = and_parts (p x) (list_all p xs) h in rw (so x two.0, all_weaker p q so xs two.1) refl
 
 pub all_joined : (p : ℕ → Bool) (xs ys : List ℕ) → list_all p xs ≡ true → list_all p ys ≡ true → list_all p (xs ++ ys) ≡ true
 all_joined p [] ys h k = k
-all_joined p (x ∷ xs) ys h k = let two = both (p x) (list_all p xs) h in rw (two.0, all_joined p xs ys two.1 k) refl
+all_joined p (x ∷ xs) ys h k = let two = and_parts (p x) (list_all p xs) h in rw (two.0, all_joined p xs ys two.1 k) refl
 
 word_printable : (c : ℕ) → is_in_word c ≡ true → is_printable c ≡ true
 word_printable c h = grind (arith, nat_tests)

@@ -3,7 +3,7 @@
 use Rattle.std.proofs.Common.{◌≡◌, ◌+◌, ◌*◌, ◌/◌, ◌%◌, ◌^◌, ◌<◌, ◌≤◌, ℕ, suc, Bool, true, false, cond, ◌&&◌, ltb, List, [], ◌∷◌, length, Option, Some, None, refl, sym, ◌∙◌, ap, arith}
 use Rattle.std.specs.Prelude.{filter, Result, Ok, Err}
 use Rattle.std.specs.List.{list_all}
-use Rattle.std.proofs.lemmas.Bool.{false≢true, leb-true, leb-false}
+use Rattle.std.proofs.lemmas.Bool.{false≢true, leb-true, leb-false, lt-ltb, le-ltb}
 use Rattle.std.proofs.lemmas.Bool.Decides.{nat_tests}
 use Rattle.kernel_abi.specs.declared.Fault.{Fault}
 use Rattle.kernel_abi.specs.declared.Note.{Note}
@@ -63,16 +63,10 @@ coded at code (decoded.Wide i) f e = (sym (ap (λ (x : Fetched). x.code) (ok_sam
 coded at code decoded.Illegal f e = err_ok e
 coded at code decoded.NeedsSecond f e = err_ok e
 
-below : (a b : ℕ) → a < b → ltb a b ≡ true
-below a b h = grind (arith, nat_tests)
-
-not_below : (a b : ℕ) → b ≤ a → ltb a b ≡ false
-not_below a b h = grind (arith, nat_tests)
-
 narrow_code : (first : ℕ) → is_wide first ≡ false → code_decoded first ≡ decoded_of first None
 narrow_code first narrow =
     let lt = leb-false 29 (first / 2048) narrow in
-    ap (λ b. cond b (decoded_of first None) (decoded_of (first / 2 ^ 16) (Some (first % 2 ^ 16)))) (below first (2 ^ 16) (omega arith))
+    ap (λ b. cond b (decoded_of first None) (decoded_of (first / 2 ^ 16) (Some (first % 2 ^ 16)))) (lt-ltb first (2 ^ 16) (omega arith))
 
 high_half : (first second : ℕ) → second < 65536 → (first * 2 ^ 16 + second) / 2 ^ 16 ≡ first
 high_half first second lt = omega arith
@@ -84,7 +78,7 @@ wide_code : (first second : ℕ) → is_wide first ≡ true → second < 65536 �
 wide_code first second wide lt =
     let code = first * 2 ^ 16 + second in
     let ge = leb-true 29 (first / 2048) wide in
-    ap (λ b. cond b (decoded_of code None) (decoded_of (code / 2 ^ 16) (Some (code % 2 ^ 16)))) (not_below code (2 ^ 16) (omega arith))
+    ap (λ b. cond b (decoded_of code None) (decoded_of (code / 2 ^ 16) (Some (code % 2 ^ 16)))) (le-ltb code (2 ^ 16) (omega arith))
     ∙ ap (λ a. decoded_of a (Some (code % 2 ^ 16))) (high_half first second lt)
     ∙ ap (λ a. decoded_of first (Some a)) (low_half first second lt)
 

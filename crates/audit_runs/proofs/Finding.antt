@@ -1,23 +1,21 @@
 -- The open call of a client as calls come and go.
 use Rattle.std.proofs.Common.{◌≡◌, ◌≢◌, ℕ, inl, inr, Bool, true, false, cond, eqb, not, List, [], ◌∷◌, ◌++◌, map, Option, Some, None, refl, sym, ap, ◌∙◌}
 use Rattle.std.specs.Prelude.{Contains, find, filter, option_map}
-use Rattle.std.proofs.lemmas.Bool.{false≢true}
+use Rattle.std.proofs.lemmas.Bool.{false≢true, eq-eqb, eqb-true}
 use Rattle.std.proofs.lemmas.Bool.Decides.{eqb_tells}
 use Rattle.task_table.specs.State.{Call}
 use Rattle.task_table.specs.declared.slot.Phase.TheVariants.{Offered, Taken}
 use Rattle.task_table.specs.Effects.{taken_from}
 use Rattle.task_table.proofs.Keeps.{found_in, not_found}
 use Rattle.audit_runs.specs.Spoken.{is_taken, open_of, held_of}
-
-none_some : {A P : Type 0} {a : A} → None ≡ Some a → P
-none_some e = cc
+use Rattle.task_table.proofs.Clients.{no_some}
 
 push_none : (p : Call → Bool) (xs : List Call) (y : Call) → find p xs ≡ None → find p (xs ++ y ∷ []) ≡ cond (p y) (Some y) None
 push_none p [] y e = refl
 push_none p (x ∷ xs) y e = go (p x) e (push_none p xs y)
   where
     go : (b : Bool) → cond b (Some x) (find p xs) ≡ None → (find p xs ≡ None → find p (xs ++ y ∷ []) ≡ cond (p y) (Some y) None) → cond b (Some x) (find p (xs ++ y ∷ [])) ≡ cond (p y) (Some y) None
-    go true e later = none_some (sym e)
+    go true e later = no_some (sym e)
     go false e later = later e
 
 push_other : (p : Call → Bool) (xs : List Call) (y : Call) → p y ≡ false → find p (xs ++ y ∷ []) ≡ find p xs
@@ -56,17 +54,11 @@ of_client i c = eqb c.client.index i
 other_client : (i j : ℕ) → i ≢ j → eqb i j ≡ false
 other_client i j ne = elim (eqb_tells i j) [ inl e ↦ absurd (ne e.1) | inr e ↦ e.0 ]
 
-same_client : (i j : ℕ) → i ≡ j → eqb i j ≡ true
-same_client i j e = elim (eqb_tells i j) [ inl h ↦ h.0 | inr h ↦ absurd (h.1 e) ]
-
-tells_same : (i j : ℕ) → eqb i j ≡ true → i ≡ j
-tells_same i j h = elim (eqb_tells i j) [ inl e ↦ e.1 | inr e ↦ absurd (false≢true (sym e.0 ∙ h)) ]
-
 -- ## one more call
 
 pub held_offer : (calls : List Call) (k : Call) → k.phase ≡ Offered → find (of_client k.client.index) calls ≡ None → held_of (calls ++ k ∷ []) k.client.index ≡ Some (record { call = k.number; taken = false })
 held_offer calls k phase free =
-    ap open_of (push_none (of_client k.client.index) calls k free ∙ ap (λ b. cond b (Some k) None) (same_client k.client.index k.client.index refl))
+    ap open_of (push_none (of_client k.client.index) calls k free ∙ ap (λ b. cond b (Some k) None) (eq-eqb k.client.index k.client.index refl))
     ∙ ap (λ p. Some (record { call = k.number; taken = is_taken p })) phase
 
 pub held_offer_other : (calls : List Call) (k : Call) (j : ℕ) → j ≢ k.client.index → held_of (calls ++ k ∷ []) j ≡ held_of calls j
@@ -77,7 +69,7 @@ held_offer_other calls k j ne = ap open_of (push_other (of_client j) calls k (ot
 pub held_take : (calls : List Call) (k : Call) → find (of_client k.client.index) calls ≡ Some k → held_of (map (taken_from k.client.index) calls) k.client.index ≡ Some (record { call = k.number; taken = true })
 held_take calls k found =
     ap open_of (find_map (of_client k.client.index) (taken_from k.client.index) (λ x. refl) calls ∙ ap (option_map (taken_from k.client.index)) found)
-    ∙ ap (λ b. Some (record { call = k.number; taken = is_taken (cond b Taken k.phase) })) (same_client k.client.index k.client.index refl)
+    ∙ ap (λ b. Some (record { call = k.number; taken = is_taken (cond b Taken k.phase) })) (eq-eqb k.client.index k.client.index refl)
 
 pub held_take_other : (calls : List Call) (i j : ℕ) → j ≢ i → held_of (map (taken_from i) calls) j ≡ held_of calls j
 held_take_other calls i j ne = ap open_of (find_map (of_client j) (taken_from i) (λ x. refl) calls) ∙ go (find (of_client j) calls) refl
@@ -85,7 +77,7 @@ held_take_other calls i j ne = ap open_of (find_map (of_client j) (taken_from i)
     go : (o : Option Call) → find (of_client j) calls ≡ o → open_of (option_map (taken_from i) o) ≡ open_of o
     go None e = refl
     go (Some d) e =
-        let at : d.client.index ≡ j = tells_same d.client.index j (found_in (of_client j) calls d e).1 in
+        let at : d.client.index ≡ j = eqb-true d.client.index j (found_in (of_client j) calls d e).1 in
         ap (λ b. Some (record { call = d.number; taken = is_taken (cond b Taken d.phase) })) (other_client d.client.index i (λ same. ne (sym at ∙ same)))
 
 -- ## a call is closed
@@ -94,7 +86,7 @@ pub held_close : (calls : List Call) (i : ℕ) → held_of (filter (λ c. not (e
 held_close calls i = ap open_of (find_gone (of_client i) calls)
 
 pub held_close_other : (calls : List Call) (i j : ℕ) → j ≢ i → held_of (filter (λ c. not (eqb c.client.index i)) calls) j ≡ held_of calls j
-held_close_other calls i j ne = ap open_of (find_kept (of_client j) (λ c. not (eqb c.client.index i)) (λ x e. ap not (other_client x.client.index i (λ same. ne (sym (tells_same x.client.index j e) ∙ same)))) calls)
+held_close_other calls i j ne = ap open_of (find_kept (of_client j) (λ c. not (eqb c.client.index i)) (λ x e. ap not (other_client x.client.index i (λ same. ne (sym (eqb-true x.client.index j e) ∙ same)))) calls)
 
 -- ## what is there is found
 
@@ -102,5 +94,5 @@ pub found_here : (calls : List Call) (k : Call) → ((c d : Call) → Contains c
 found_here calls k unique here = go (find (of_client k.client.index) calls) refl
   where
     go : (o : Option Call) → find (of_client k.client.index) calls ≡ o → find (of_client k.client.index) calls ≡ Some k
-    go None e = absurd (not_found (of_client k.client.index) calls k e here (same_client k.client.index k.client.index refl))
-    go (Some d) e = let r = found_in (of_client k.client.index) calls d e in e ∙ ap Some (unique d k r.0 here (tells_same d.client.index k.client.index r.1))
+    go None e = absurd (not_found (of_client k.client.index) calls k e here (eq-eqb k.client.index k.client.index refl))
+    go (Some d) e = let r = found_in (of_client k.client.index) calls d e in e ∙ ap Some (unique d k r.0 here (eqb-true d.client.index k.client.index r.1))

@@ -3,7 +3,7 @@ use Rattle.std.proofs.Common.{◌≡◌, ℕ, zero, suc, inl, inr, sym, ◌+◌,
 use Rattle.std.specs.Prelude.{codes, decimal, Contains}
 use Rattle.std.specs.List.{list_all, flat_map, range_with_len}
 use Rattle.std.specs.Option.{option_map_or}
-use Rattle.std.proofs.lemmas.Bool.{false≢true}
+use Rattle.std.proofs.lemmas.Bool.{false≢true, eqb-true}
 use Rattle.std.proofs.lemmas.Bool.Decides.{nat_tests, eqb_tells}
 use Rattle.region_check.specs.declared.Region.{Region}
 use Rattle.mem_banks.specs.Memory.{Memory, IsWithin}
@@ -118,9 +118,6 @@ region_shown : (m : Memory) (r : Region) → r.size < 2 ^ 32 → IsShown (region
 unfolding region_text region_line
 region_shown m r fit = shown_then (mem_line r.base r.size) (rows_text m r.base (row_count r)) (shown_line (mem_line r.base r.size) (mem_read r.base r.size fit) (mem_short r.base r.size fit)) (rows_shown m r.base (row_count r))
 
-begins : (a b : ℕ) → eqb a b ≡ true → a ≡ b
-begins a b e = elim (eqb_tells a b) [ inl h ↦ h.1 | inr h ↦ absurd (false≢true (sym h.0 ∙ e)) ]
-
 module _ (g : Setup) (m : Memory) (placed : ArePlaced g m) where
   -- below the devices each lies in flash or in RAM
   size_fits : (i : ℕ) (r : Region) → Contains (setup_at g i).regions r → r.base < 0x40000000 → r.size < 2 ^ 32
@@ -140,7 +137,7 @@ module _ (g : Setup) (m : Memory) (placed : ArePlaced g m) where
   found_fit base r low e =
       let found = found_in (begins_at base) (regions_of g) r e in
       let own = region_of_task g.tasks r found.0 in
-      size_fits own.0 r own.1 (omega (arith, begins r.base base found.1, low))
+      size_fits own.0 r own.1 (omega (arith, eqb-true r.base base found.1, low))
 
   place_shown : (k : ℕ) → k < 1024 → IsShown (place_text g m k)
   place_shown k few = by (region_at g (0x20000000 + 256 * k)) refl

@@ -1,7 +1,7 @@
 -- The notes of a run are right: for information nothing moves, the index of a device is small, and the code of an instruction is one.
 use Rattle.std.proofs.Common.{◌≡◌, ◌<◌, ℕ, zero, suc, Bool, true, false, ◌&&◌, arith, min, List, [], ◌∷◌, ◌++◌, Option, Some, None, refl, sym, subst}
 use Rattle.std.specs.List.{list_all}
-use Rattle.std.proofs.lemmas.Bool.{false≢true, ltb-true}
+use Rattle.std.proofs.lemmas.Bool.{false≢true, ltb-true, and_parts}
 use Rattle.kernel_abi.specs.declared.Borrow.{Borrow}
 use Rattle.kernel_abi.specs.declared.Borrow.TheVariants as borrow
 use Rattle.kernel_abi.specs.declared.Ending.{Ending}
@@ -155,13 +155,9 @@ note_right note.Idle lent heard = tt
 note_right (note.Low registers) lent heard = tt
 note_right (note.High registers n z c v) lent heard = tt
 
-two_true : (a b : Bool) → (a && b) ≡ true → (a ≡ true) × (b ≡ true)
-two_true true b h = (refl, h)
-two_true false b h = absurd (false≢true h)
-
 notes_right : (n : ℕ) (ns : List Note) → AreLent ns → list_all hears ns ≡ true → AreRight (at_turn n ns)
 notes_right n [] lent heard = tt
-notes_right n (x ∷ ns) lent heard = let two = two_true (hears x) (list_all hears ns) heard in (note_right x lent.0 two.0, notes_right n ns lent.1 two.1)
+notes_right n (x ∷ ns) lent heard = let two = and_parts (hears x) (list_all hears ns) heard in (note_right x lent.0 two.0, notes_right n ns lent.1 two.1)
 
 right_joined : (xs ys : List (ℕ × Note)) → AreRight xs → AreRight ys → AreRight (xs ++ ys)
 right_joined [] ys h k = k

@@ -25,7 +25,7 @@ use Rattle.audit_laws.specs.Whole.{notes_text, notes_told, AreInOrder, AreRight,
 use Rattle.audit_laws.proofs.Fitting.{fit_notes}
 use Rattle.audit_laws.proofs.Assembled.{text_good}
 use Rattle.audit_laws.proofs.Fine.{text_fine}
-use Rattle.audit_laws.proofs.Short.{end_short, task_short, low_words_short, high_words_short}
+use Rattle.audit_laws.proofs.Short.{end_short, task_short, low_words_short, high_words_short, under}
 use Rattle.audit_laws.proofs.Ended.{end_read, task_read, last_low_read, last_high_read}
 use Rattle.audit_runs.specs.Spoken.{sayings, wait_in, wait_by_call, IsSpoken}
 use Rattle.audit_runs.specs.Last.{IsFitLast, AreShown}
@@ -149,9 +149,6 @@ last_more told (l ∷ ls) ms h k = (h.0, last_more told ls ms h.1 k)
 
 -- ## none is too long
 
-longer : (w : List ℕ) (m : ℕ) → length w ≤ m → m ≤ 160 → length w ≤ 160
-longer w m h k = omega arith
-
 tasks_short : (s : State) (is : List ℕ) → AreFitTasks s is → AreShort (texts_at s is)
 unfolding texts_at
 tasks_short s [] fit = tt
@@ -159,7 +156,7 @@ tasks_short s (i ∷ is) fit =
     let f = fit.0 in
     let t = task_at s i in (
       task_short i (t.births % 64) t.health _ (wait_by_call (call_of s i)) t.posted t.timer f.index (few_births t.births) f.health (wait_is (call_of s i) (listen_of s i) f.call) f.timer,
-      (longer (low_of t) 76 (low_words_short _ f.low) (omega arith), (longer (high_of t) 82 (high_words_short _ t.flags.n t.flags.z t.flags.c t.flags.v f.high) (omega arith), tasks_short s is fit.1)),
+      (under (low_of t) 76 (low_words_short _ f.low) (omega arith), (under (high_of t) 82 (high_words_short _ t.flags.n t.flags.z t.flags.c t.flags.v f.high) (omega arith), tasks_short s is fit.1)),
     )
 
 -- ## the whole

@@ -179,10 +179,6 @@ unfolding with_processor with_task noted task_at
 out-with_cpu c registers flags None t = refl
 out-with_cpu c registers flags (Some x) t = refl
 
-devices-with_cpu : (c : ℕ) (registers : List ℕ) (flags : Flags) (ds : List DeviceData) (t : Turn) → with_devices ds (with_processor c registers flags t) ≡ with_processor c registers flags (with_devices ds t)
-unfolding with_processor with_task with_devices task_at
-devices-with_cpu c registers flags ds t = refl
-
 store-with_cpu : (c : ℕ) (registers : List ℕ) (flags : Flags) (t : Turn) (a v : ℕ) → device_stored a v (with_processor c registers flags t) ≡ with_processor c registers flags (device_stored a v t)
 unfolding device_stored with_processor with_task with_devices task_at
 store-with_cpu c registers flags t a v = out-with_cpu c registers flags (device_out t.state.devices a v) _

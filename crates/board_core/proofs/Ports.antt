@@ -1,7 +1,7 @@
 -- What the ports of a task give.
 use Rattle.std.proofs.Common.{◌≡◌, ◌+◌, ◌≤◌, ◌<◌, ℕ, zero, suc, Bool, true, false, not, ◌||◌, cond, List, [], ◌∷◌, ◌++◌, length, get_or, set, None, refl, sym, ◌∙◌, ap, subst, arith, leb, below_more, length-append}
 use Rattle.std.specs.Prelude.{Contains, filter}
-use Rattle.std.proofs.lemmas.Bool.{leb-true, le-leb, false≢true}
+use Rattle.std.proofs.lemmas.Bool.{leb-true, le-leb, false≢true, or_left, or_right, and_parts}
 use Rattle.region_check.specs.declared.Region.{Region}
 use Rattle.region_check.specs.declared.Right.{Right}
 use Rattle.region_check.specs.declared.Right.TheVariants.{Read}
@@ -17,14 +17,6 @@ use Rattle.std.proofs.lemmas.List.{set-get_or, get_or_append_left}
 use Rattle.std.proofs.Math.Seq.{get_or-append_seam}
 use Rattle.board_core.specs.Ports.{ArePorts, AllPorts}
 use Rattle.board_core.specs.Sights.{is_port, ports_of, in_port}
-use Rattle.board_core.proofs.WindowCovers.{both}
-
-first_or : (p q : Bool) → p ≡ true → (p || q) ≡ true
-first_or p q e = rw e refl
-
-second_or : (p q : Bool) → q ≡ true → (p || q) ≡ true
-second_or true q e = refl
-second_or false q e = e
 
 given_by : (right : Right) (r : Region) (a : ℕ) → has_right r.rights right ≡ true → r.base ≤ a → a < r.base + r.size → gives right a r ≡ true
 given_by right r a has low high =
@@ -37,8 +29,8 @@ pub each_byte : (regions : List Region) (right : Right) (r : Region) (a : ℕ) �
 each_byte [] right r a (i, lt, same) has low high = absurd (omega (arith, lt))
 each_byte (x ∷ xs) right r a (zero, lt, same) has low high =
     let is : x ≡ r = same in
-    first_or (gives right a x) (may_use xs right a) (ap (gives right a) is ∙ given_by right r a has low high)
-each_byte (x ∷ xs) right r a (suc i, lt, same) has low high = second_or (gives right a x) (may_use xs right a) (each_byte xs right r a (i, omega arith, same) has low high)
+    or_left (gives right a x) (may_use xs right a) (ap (gives right a) is ∙ given_by right r a has low high)
+each_byte (x ∷ xs) right r a (suc i, lt, same) has low high = or_right (gives right a x) (may_use xs right a) (each_byte xs right r a (i, omega arith, same) has low high)
 
 -- one of them has all of the bytes
 found : (ports : List Region) (a n : ℕ) → in_port ports a n ≡ true → (r : Region) × Contains ports r × (spans r a n ≡ true)
@@ -54,10 +46,10 @@ pub read_there : (g : Setup) (c : ℕ) (ports : List Region) → ((r : Region) �
 read_there g c ports are a n e =
     let f = found ports a n e in
     let here = are f.0 f.1 in
-    let range = both _ _ f.2 in
+    let range = and_parts _ _ f.2 in
     let low = leb-true f.0.base a range.0 in
     let high = leb-true (a + n) (f.0.base + f.0.size) range.1 in
-    let legible = both f.0.rights.device f.0.rights.read here.1 in
+    let legible = and_parts f.0.rights.device f.0.rights.read here.1 in
     find_range_none (λ b. not (may g c Read b)) a n (λ b from below. ap not (each_byte (setup_at g c).regions Read f.0 b here.0 legible.1 (omega (arith, low, from)) (omega (arith, high, below))))
 
 -- what passes a test is one of the list, and passes it

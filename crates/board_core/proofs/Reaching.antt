@@ -79,7 +79,7 @@ put_none t a n v e d = rw (e, d) refl
 took_device : (t : Turn) (a : ℕ) → is_device a ≡ true → took t a ≡ device_taken a t
 took_device t a d = rw d refl
 
-took_none : (t : Turn) (a : ℕ) → is_device a ≡ false → took t a ≡ t
+pub took_none : (t : Turn) (a : ℕ) → is_device a ≡ false → took t a ≡ t
 took_none t a d = rw d refl
 
 -- a load changes a list of no devices no way

@@ -1,7 +1,7 @@
 -- Instructions on end over what a task sees are its turns.
 use Rattle.std.proofs.Common.{◌≡◌, ◌+◌, ◌≤◌, ◌<◌, ℕ, zero, suc, Bool, true, false, ◌&&◌, cond, List, [], ◌∷◌, length, Some, None, refl, sym, ◌∙◌, ap, subst, arith, ltb, inl, inr, ◌⊎◌, set, get_or}
 use Rattle.std.specs.Prelude.{fold, Contains, Result, Ok, Err}
-use Rattle.std.proofs.lemmas.Bool.{ltb-true, ltb-false, false≢true}
+use Rattle.std.proofs.lemmas.Bool.{ltb-true, ltb-false, false≢true, and_parts}
 use Rattle.std.proofs.lemmas.List.{set-set, set-get_or}
 use Rattle.kernel_abi.specs.declared.Fault.{Fault}
 use Rattle.kernel_abi.specs.Devices.{DeviceData, device_number, devices_loaded}
@@ -38,7 +38,7 @@ use Rattle.board_model.proofs.Counts.{counted_turn}
 use Rattle.board_model.proofs.Further.{last_turn}
 use Rattle.board_core.specs.Sights.{Sight, is_read, in_port, refused_at, held_at, moved_at, GoesOnWithin, GoesOnBeside, Polls}
 use Rattle.board_core.specs.Windowed.{IsSight, IsFetchedIn, runner, later, with_window, AreTurns}
-use Rattle.board_core.proofs.WindowCovers.{all_there, both, granted, held_same, fetched_same}
+use Rattle.board_core.proofs.WindowCovers.{all_there, granted, held_same, fetched_same}
 use Rattle.board_core.proofs.Ports.{read_there}
 use Rattle.board_core.proofs.WindowTurns.{carried_next, first_inside, rest_inside, move_keeps, HasPlaces, places_of, places_on, own_memory, own_again, own_same, one_put, window_again, plain_turn, acted_notes, one_turn, fetched_there, code_still}
 
@@ -54,7 +54,7 @@ module _ (g : Setup) (c : ℕ) (s : State) (o : Sight) (sight : IsSight g c s o)
       read Execute h there = absurd (false≢true h)
 
       by : (b : Bool) → cond b (given (is_read r && in_port o.ports a n) a) (refused_by o.view a n r) ≡ None → refusals g c a n r ≡ None
-      by true e = let two = both _ _ (all_there _ a e) in read r two.0 two.1
+      by true e = let two = and_parts _ _ (all_there _ a e) in read r two.0 two.1
       by false e = granted g c s.memory o.view sight.window a n r e
 
   held_there : (a n : ℕ) → or_zero (device_number o.devices a n) ≡ or_zero (device_number s.devices a n)

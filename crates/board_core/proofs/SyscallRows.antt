@@ -6,17 +6,15 @@ use Rattle.task_table.specs.State.{Setup, Turn}
 use Rattle.task_table.specs.Reading.{register}
 use Rattle.task_table.specs.Rows.{misused}
 use Rattle.task_table.specs.Syscalls.{syscalls, meaning_among, syscall_made}
+use Rattle.run_script.proofs.Coming.{is_other}
 
 made_by : (g : Setup) (c n : ℕ) (t : Turn) → n ≡ register t.state c 11 → meaning_among syscalls n g c t ≡ syscall_made g c t
 unfolding syscall_made
 made_by g c n t e = ap (λ i. meaning_among syscalls i g c t) e
 
-not_equal : (n m : ℕ) → n ≢ m → (n == m) ≡ false
-not_equal n m h = grind arith
-
 -- a number above those that there are is none of them
 none_of : (n m : ℕ) → 13 < n → m ≤ 13 → (n == m) ≡ false
-none_of n m above few = not_equal n m (λ e. omega arith)
+none_of n m above few = is_other n m (λ e. omega arith)
 
 module _ (g : Setup) (c : ℕ) (t : Turn) (n : ℕ) (at : n ≡ register t.state c 11) (P : Turn → Type 0) where
   -- the system call whose number it is

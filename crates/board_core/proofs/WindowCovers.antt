@@ -1,6 +1,6 @@
 -- What a window gives, the task's regions give too, and where it may be read it holds what memory holds.
 use Rattle.std.proofs.Common.{◌≡◌, ◌+◌, ◌-◌, ◌≤◌, ◌<◌, ℕ, zero, suc, Bool, true, false, not, if◌then◌else◌, ◌&&◌, ◌||◌, List, length, take, drop, Some, None, refl, sym, ◌∙◌, ap, arith, leb, inl, inr, ◌⊎◌}
-use Rattle.std.proofs.lemmas.Bool.{leb-true, false≢true}
+use Rattle.std.proofs.lemmas.Bool.{leb-true, false≢true, and_parts}
 use Rattle.region_check.specs.declared.Right.{Right}
 use Rattle.region_check.specs.declared.Right.TheVariants.{Read, Write, Execute}
 use Rattle.region_check.proofs.FirstBad.{find_range_none}
@@ -14,17 +14,11 @@ use Rattle.board_model.specs.Turn.{may, refusals, is_device, held}
 use Rattle.board_model.proofs.Held.{no_device_below, held_in_memory, held_nothing}
 use Rattle.board_core.specs.Windowed.{IsWindow}
 use Rattle.mem_banks.proofs.Windows.{number_inside}
-
-no_some : {A P : Type 0} {a : A} → Some a ≡ None → P
-no_some e = cc
+use Rattle.task_table.proofs.Waiting.{no_some}
 
 pub all_there : (b : Bool) (a : ℕ) → given b a ≡ None → b ≡ true
 all_there true a e = refl
 all_there false a e = no_some e
-
-pub both : (a b : Bool) → (a && b) ≡ true → (a ≡ true) × (b ≡ true)
-both true b h = (refl, h)
-both false b h = absurd (false≢true h)
 
 pub either : (a b : Bool) → (a || b) ≡ true → (a ≡ true) ⊎ ((a ≡ false) × (b ≡ true))
 either true b h = inl refl
@@ -46,7 +40,7 @@ read_from v a n e = by (has v.ram_base v.ram a n) (has v.flash_base v.flash a n)
 
 pub inside : (base : ℕ) (bytes : List ℕ) (a n : ℕ) → has base bytes a n ≡ true → (base ≤ a) × (a + n ≤ base + length bytes)
 inside base bytes a n h =
-    let two = both (leb base a) (leb (a + n) (base + length bytes)) h in
+    let two = and_parts (leb base a) (leb (a + n) (base + length bytes)) h in
     (leb-true base a two.0, leb-true (a + n) (base + length bytes) two.1)
 
 module _ (g : Setup) (c : ℕ) (m : Memory) (v : View) (w : IsWindow g c m v) where
@@ -62,7 +56,7 @@ module _ (g : Setup) (c : ℕ) (m : Memory) (v : View) (w : IsWindow g c m v) wh
     where
       by : (has v.ram_base v.ram a n ≡ true) ⊎ ((has v.ram_base v.ram a n ≡ false) × ((v.area_writable && has v.area_base v.area a n) ≡ true)) → refusals g c a n Write ≡ None
       by (inl h) = each Write v.ram_base v.ram a n w.written h
-      by (inr h) = let two = both v.area_writable (has v.area_base v.area a n) h.1 in each Write v.area_base v.area a n (w.area_written two.0) two.1
+      by (inr h) = let two = and_parts v.area_writable (has v.area_base v.area a n) h.1 in each Write v.area_base v.area a n (w.area_written two.0) two.1
   granted a n Read e = by (read_from v a n e)
     where
       by : ReadFrom v a n → refusals g c a n Read ≡ None

@@ -1,7 +1,7 @@
 -- Instructions on end within a window are turns.
 use Rattle.std.proofs.Common.{◌≡◌, ◌+◌, ◌-◌, ◌≤◌, ◌<◌, ℕ, zero, suc, true, false, List, [], ◌∷◌, length, Option, Some, refl, sym, ◌∙◌, ap, subst, arith, leb, inl, inr, length-take, length-drop}
 use Rattle.std.specs.Prelude.{fold, Result, Ok, Err, Contains}
-use Rattle.std.proofs.lemmas.Bool.{le-leb}
+use Rattle.std.proofs.lemmas.Bool.{le-leb, and_parts}
 use Rattle.std.proofs.lemmas.List.{length-append, same_lists, places}
 use Rattle.kernel_abi.specs.declared.Fault.{Fault}
 use Rattle.kernel_abi.specs.Devices.{DeviceData}
@@ -34,7 +34,9 @@ use Rattle.board_model.proofs.Outside.{no_event}
 use Rattle.board_core.specs.Windowed.{IsWindow, later, with_window, IsFetchedIn}
 use Rattle.mem_banks.specs.Windows.{IsInRam, AreApart}
 use Rattle.mem_banks.proofs.Windows.{written_inside, written_same, region_written, same_ram_length, same_flash_length, bytes_below, bytes_beside}
-use Rattle.board_core.proofs.WindowCovers.{either, both, inside, widens, loads_below}
+use Rattle.board_core.proofs.WindowCovers.{either, inside, widens, loads_below}
+use Rattle.mem_banks.proofs.ReadPieces.{pasted_whole}
+use Rattle.board_core.proofs.Reaching.{took_none}
 
 -- ## the instruction of the turn
 
@@ -93,7 +95,7 @@ data IsLanding (v : View) (x : Store) : Type 0 where
 landing : (v : View) (x : Store) → may_write v x.addr x.bytes ≡ true → IsLanding v x
 landing v x h = elim (either (has v.ram_base v.ram x.addr x.bytes) _ h) [
   | inl here ↦ in_data here
-  | inr rest ↦ in_further rest.0 (both v.area_writable _ rest.1).1
+  | inr rest ↦ in_further rest.0 (and_parts v.area_writable _ rest.1).1
 ]
 
 -- bytes written over those of the RAM, or of the area, leave the rest
@@ -155,10 +157,6 @@ pub record HasMoved (m : Memory) (t u : Turn) : Type 0 where
   pub notes : u.notes ≡ t.notes
   pub devices : u.state.devices ≡ t.state.devices
 
--- a load that is of no device changes nothing
-took_none : (t : Turn) (a : ℕ) → is_device a ≡ false → took t a ≡ t
-took_none t a e = rw e refl
-
 -- a store in the RAM is noted nowhere, and changes the memory
 put_there : (t : Turn) (x : Store) → is_ram t.state.memory x.addr x.bytes ≡ true → HasMoved (with_bytes t.state.memory x.addr (bytes_of x.value x.bytes)) t (put t x)
 unfolding stored
@@ -178,10 +176,6 @@ write_before m a b ys zs x y le =
 pub write_order : (m : Memory) (a b : ℕ) (ys zs : List ℕ) → IsInRam m (a, length ys) → IsInRam m (b, length zs) → AreApart (a, length ys) (b, length zs) → with_bytes (with_bytes m a ys) b zs ≡ with_bytes (with_bytes m b zs) a ys
 write_order m a b ys zs x y (inl le) = write_before m a b ys zs x y le
 write_order m a b ys zs x y (inr le) = sym (write_before m b a zs ys y x le)
-
--- other bytes over all of a region
-pasted_whole : (xs ys : List ℕ) → length ys ≡ length xs → pasted xs 0 ys ≡ ys
-pasted_whole xs ys e = same_lists _ _ (simp (length-append, length-take, length-drop) (omega (arith, e))) (λ i d u. grind (arith, places, e))
 
 written_again : (m : Memory) (base : ℕ) (xs ys : List ℕ) → IsInRam m (base, length xs) → length ys ≡ length xs → with_bytes (with_bytes m base xs) base ys ≡ with_bytes m base ys
 written_again m base xs ys h e =
@@ -347,10 +341,6 @@ acted_state g c s d ms m e f =
 pub acted_notes : (g : Setup) (c : ℕ) (s : State) (d : Cpu) (ms : List Move) → (fold moved (begun s) ms).notes ≡ [] → (ended (acted g c (Next d ms) (begun s))).notes ≡ []
 unfolding ended with_processor
 acted_notes g c s d ms e = e
-
-begun_same : (s : State) → ((begun s).state ≡ s) × ((begun s).notes ≡ [])
-unfolding begun
-begun_same s = (refl, refl)
 
 pub one_turn : (x : Scenario) (s : State) (c : ℕ) (v w : View) (d : Cpu) → chosen x.setup s ≡ Some c → events_of x.script s.turn ≡ [] → IsWindow x.setup c s.memory v → ArePlaced x.setup s.memory → GoesOn v (cpu_of (task_at s c)) w d → IsGone x s c v w d
 unfolding begun task_at

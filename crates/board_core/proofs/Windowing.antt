@@ -2,8 +2,8 @@
 use Rattle.words_core.specs.Regs.{reg_at, stack_pointer, program_counter}
 use Rattle.std.proofs.Common.{◌≡◌, ◌≢◌, ◌⊎◌, inl, inr, ◌+◌, ◌-◌, ◌%◌, ◌≤◌, ◌<◌, ℕ, zero, suc, Bool, true, false, not, cond, eqb, ◌&&◌, List, [], ◌∷◌, length, Option, Some, None, refl, sym, ◌∙◌, ap, subst, arith, get_or, Vec, Global}
 use Rattle.std.specs.Prelude.{Contains, Ok, find, map, vec_items, vec_len}
-use Rattle.std.proofs.lemmas.Bool.{leb-true, ltb-true, eq-eqb, eqb-true, false≢true}
-use Rattle.std.proofs.lemmas.List.{set-set, length-map, get_or-map}
+use Rattle.std.proofs.lemmas.Bool.{leb-true, ltb-true, eq-eqb, eqb-true, false≢true, not-true, and_parts}
+use Rattle.std.proofs.lemmas.List.{set-set, length-map, get_or-map, nil_from_length}
 use Rattle.region_check.specs.declared.Region.{Region}
 use Rattle.region_check.specs.declared.Right.{Right}
 use Rattle.region_check.specs.declared.Right.TheVariants.{Read, Write, Execute}
@@ -61,7 +61,6 @@ use Rattle.board_core.specs.Ports.{AllPorts}
 use Rattle.board_core.specs.Stands.{Stands, turns_of}
 use Rattle.board_core.specs.Advanced.{HasGlidden, IsCallPast}
 use Rattle.board_core.proofs.Loading.{rest_of, context_cpu, context_memory, loaded_by}
-use Rattle.region_check.proofs.Spanning.{both}
 use Rattle.region_check.specs.Spans.{spans}
 use Rattle.board_core.proofs.Skipping.{quiet_before, quiet_begun, begun_board}
 use Rattle.board_core.proofs.Turning.{rested, rested_as, none_of}
@@ -97,32 +96,24 @@ record IsArea (stack r : Region) : Type 0 where
   above : 0x20000000 ≤ r.base
   other : r.base ≡ stack.base → r.size ≡ stack.size → ⊥
 
-is_false : (b : Bool) → not b ≡ true → b ≡ false
-is_false true e = absurd (false≢true e)
-is_false false e = refl
-
 spanned : (r : Region) (a n : ℕ) → spans r a n ≡ true → (r.base ≤ a) × (a + n ≤ r.base + r.size)
-spanned r a n h = let two = both _ _ h in (leb-true _ _ two.0, leb-true _ _ two.1)
+spanned r a n h = let two = and_parts _ _ h in (leb-true _ _ two.0, leb-true _ _ two.1)
 
 flash_at : (at : ℕ) (r : Region) → is_flash_at at r ≡ true → IsFlashAt at r
 flash_at at r h =
-    let three = both _ _ h in
-    let two = both _ _ three.0 in
-    let one = both _ _ two.0 in
+    let three = and_parts _ _ h in
+    let two = and_parts _ _ three.0 in
+    let one = and_parts _ _ two.0 in
     let range = spanned r at 2 one.0 in
-    record { to = range.1; from = range.0; execute = one.1; no_device = is_false _ two.1; below = ltb-true _ _ three.1 }
-
--- PC lies within its region
-pub pc_inside : (at : ℕ) (r : Region) → is_flash_at at r ≡ true → (r.base ≤ at) × (at ≤ r.base + r.size)
-pc_inside at r h = let f = flash_at at r h in (f.from, omega (arith, f.to))
+    record { to = range.1; from = range.0; execute = one.1; no_device = not-true _ two.1; below = ltb-true _ _ three.1 }
 
 ram_at : (at : ℕ) (r : Region) → is_ram_at at r ≡ true → IsRamAt at r
 ram_at at r h =
-    let five = both _ _ h in
-    let four = both _ _ five.0 in
-    let three = both _ _ four.0 in
-    let two = both _ _ three.0 in
-    let one = both _ _ two.0 in
+    let five = and_parts _ _ h in
+    let four = and_parts _ _ five.0 in
+    let three = and_parts _ _ four.0 in
+    let two = and_parts _ _ three.0 in
+    let one = and_parts _ _ two.0 in
     let range = spanned r at 0 one.0 in
     record {
       from = range.0;
@@ -130,7 +121,7 @@ ram_at at r h =
       some = ltb-true _ _ one.1;
       read = two.1;
       write = three.1;
-      no_device = is_false _ four.1;
+      no_device = not-true _ four.1;
       above = leb-true _ _ five.1;
     }
 
@@ -143,14 +134,14 @@ same_spans a b c d h e f =
 
 area_at : (stack r : Region) → is_area stack r ≡ true → IsArea stack r
 area_at stack r h =
-    let four = both _ _ h in
-    let three = both _ _ four.0 in
-    let two = both _ _ three.0 in
-    let one = both _ _ two.0 in
+    let four = and_parts _ _ h in
+    let three = and_parts _ _ four.0 in
+    let two = and_parts _ _ three.0 in
+    let one = and_parts _ _ two.0 in
     record {
       some = ltb-true _ _ one.1;
       read = two.1;
-      no_device = is_false _ three.1;
+      no_device = not-true _ three.1;
       above = leb-true _ _ one.0;
       other = same_spans r.base stack.base r.size stack.size four.1;
     }
@@ -691,12 +682,8 @@ made_by {X} {H} shown breakpoints x u b0 m m' task n until calls st0 holds next 
 
 -- ## the ports of a board
 
-none_in : {A : Type 0} (xs : List A) → length xs ≡ 0 → xs ≡ []
-none_in [] e = refl
-none_in (x ∷ xs) e = absurd (omega (arith, e))
-
 pub no_list : (v : Vec Region Global) → true ≡ eqb (vec_len v) 0 → v.items ≡ []
-no_list v e = none_in v.items (sym v.ok.0 ∙ eqb-true (vec_len v) 0 (sym e))
+no_list v e = nil_from_length v.items (sym v.ok.0 ∙ eqb-true (vec_len v) 0 (sym e))
 
 module _ {X : Type 0} {H : X → Type 0} (shown : Shows X H) (x : Scenario) (s : State) (b : Board X H) (st : Stands shown x b s) where
   -- there is a list for each task

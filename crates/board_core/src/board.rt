@@ -96,8 +96,8 @@ impl Board {
         ensures few { length (notes_of self.new) ≤ turn_notes }
         ensures turns { turns_of self.new ≡ turns_of self.old + 1 }
 
-        // Each byte is written on a ground where its writer may, no call is touched but an open one, and with any
-        // memory that agrees on what the turn reads it would have done the same.
+        // Each byte is written on a ground where its writer may, a device is reached only where it may, no call is touched but an
+        // open one, and with any memory that agrees on what the turn reads it would have done the same.
         ensures grounds { (x : Scenario) (s : State) → Stands shown x self.old s → IsGroundedTurn All x s }
         ensures reads { (x : Scenario) (s : State) → Stands shown x self.old s → DependsOnReads All x s }
 
@@ -125,6 +125,19 @@ impl Board {
         // Where no event is due, what is known of the next one stays, and so does the choice where nothing was noted.
         ensures due { self.old.due ≢ Some (turns_of self.old) → self.new.due ≡ self.old.due }
         ensures kept { self.old.due ≢ Some (turns_of self.old) → notes_of self.new ≡ [] → self.new.choice ≡ self.old.choice }
+
+        // Each byte is written on a ground where its writer may, a device is reached only where it may, no call is touched but an
+        // open one, and with any memory that agrees on what the turn reads it would have done the same.
+        ensures grounds { (x : Scenario) (s : State) → Stands shown x self.old s → IsGroundedTurn level x s }
+        ensures reads { (x : Scenario) (s : State) → Stands shown x self.old s → DependsOnReads level x s }
+
+        // A task that faults changes nothing else, and one whose system call names an earlier birth of a task is answered, and
+        // nothing else changes.
+        ensures faults { (x : Scenario) (s : State) → Stands shown x self.old s → (c : ℕ) → IsFaulting level x s c → ChangesNothingElse level x s c }
+        ensures dead_ids { (x : Scenario) (s : State) → Stands shown x self.old s → IsDeadTurn level x s }
+        // What others do leaves a loner alone, and its own turn goes by what it has for itself.
+        ensures loners { (x : Scenario) (s : State) → Stands shown x self.old s → LeavesLoners level x s }
+        ensures alone { (x : Scenario) (s : State) → Stands shown x self.old s → LonersDecide level x s }
     {
         self.begin();
         self.turns += 1;

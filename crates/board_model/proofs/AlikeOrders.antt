@@ -25,22 +25,12 @@ use Rattle.board_model.specs.Alike.{Viewer, IsAttentive, seen_call, seen_from, s
 use Rattle.board_model.proofs.Alike.{call_alike, listen_alike, count_alike, bytes_alike}
 use Rattle.board_model.proofs.AlikeRows.{by_test, by_same, by_case, the_task, alike-noted, alike-noted_always, alike-task, alike-stored, alike-fold, alike-given, alike-closed, alike-no_listen, alike-returned, alike-faulted, alike-misused, alike-denied, alike-goes_on_with, args, generation_same}
 use Rattle.board_model.proofs.Sight.{IsOpen, checked_seen}
+use Rattle.task_table.proofs.OrderChains.{each_found}
 
 -- what holds of each order of a list holds of the one that is found in it
 abbrev EachOrder : (Order → Type 0) → List Order → Type 0
 EachOrder P [] = Unit {0}
 EachOrder P (order ∷ orders) = P order × EachOrder P orders
-
-each_found : (P : Order → Type 0) (list : List Order) (number : ℕ) → EachOrder P list → IfSome (find (λ (o : Order). eqb o.number number) list) P
-each_found P [] number each = tt
-each_found P (o ∷ list) number each = go (eqb o.number number) each.0 (each_found P list number each.1)
-  where
-    later : Option Order
-    later = find (λ (p : Order). eqb p.number number) list
-
-    go : (b : Bool) → P o → IfSome later P → IfSome (cond b (Some o) later) P
-    go true here rest = here
-    go false here rest = rest
 
 -- a message of the length that an order asks for
 fits : (a b : Bool) → not (a && b) ≡ false → a ≡ true

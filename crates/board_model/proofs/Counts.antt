@@ -12,10 +12,13 @@ use Rattle.task_table.specs.Start.{begun}
 use Rattle.task_table.specs.Sane.{Sane, IsCounted}
 use Rattle.task_table.specs.Counts.{AreCounts}
 use Rattle.task_table.proofs.Counting.{time-aside, counts_same, chain_counts}
+use Rattle.task_table.proofs.Starts.{counted-start}
 use Rattle.task_table.proofs.Outside.{outside-ticked, now-ticked, aside-interrupted, outside-fed, now-fed}
 use Rattle.board_model.specs.declared.outcomes.Level.{Level}
-use Rattle.board_model.specs.Script.{Scenario}
+use Rattle.board_model.specs.Run.{run}
+use Rattle.board_model.specs.Script.{Scenario, start_of}
 use Rattle.board_model.specs.Turn.{noted_at, happened, after_events, with_current, turn_of, ended, turn}
+use Rattle.board_model.proofs.RunKeeps.{state_run}
 use Rattle.board_model.proofs.TurnChains.{turn_chain, sane-after_events, idle-aside}
 
 -- at most so many ticks later
@@ -69,3 +72,11 @@ turn_more level x s sane =
     let later = later-after_events x s in
     let same = turn_counts level x s sane (chosen x.setup (after_events x s).state) refl in
     omega (arith, later.turn, same.turn)
+
+-- ## a run
+
+pub counted_run : (level : Level) (x : Scenario) (n : ℕ) (s : State) → Sane x.setup s → ((turn : ℕ) → length (events_of x.script turn) ≤ 9) → IsCounted s → IsCounted (run level x n s).last
+counted_run level x n s h few counted = state_run level x IsCounted (λ z sane now. counted_turn level x z sane (few z.turn) now) n s h counted
+
+pub counted_first : (x : Scenario) → IsCounted (start_of x)
+counted_first x = let h = counted-start x.setup in record { some = h.some; calls = h.calls; now = h.now }

@@ -1,25 +1,30 @@
 -- The turn of a task that makes a system call, and of one whose call names an earlier birth of a task.
 use Rattle.words_core.specs.Regs.{program_counter}
-use Rattle.std.proofs.Common.{◌≡◌, ◌+◌, ◌<◌, ◌≤◌, ℕ, true, false, List, [], ◌∷◌, length, refl, ◌∙◌, ap, arith}
+use Rattle.std.proofs.Common.{◌≡◌, ◌+◌, ◌<◌, ◌≤◌, ℕ, Bool, true, false, cond, not, ◌&&◌, ◌||◌, eqb, ltb, bit_and, is_some, Option, List, [], ◌∷◌, length, refl, ◌∙◌, ap, arith}
 use Rattle.std.specs.Prelude.{Result, Ok}
-use Rattle.kernel_abi.specs.Faults.{usage_fault_by}
+use Rattle.std.proofs.lemmas.Bool.{ne_eqb}
+use Rattle.kernel_abi.specs.Arguments.{send_args, reply_args}
+use Rattle.kernel_abi.specs.Faults.{usage_fault_by, usage_number, access_number}
 use Rattle.kernel_abi.specs.Ids.{index_of}
+use Rattle.kernel_abi.specs.declared.Access.TheVariants.{KernelRead, KernelWrite}
 use Rattle.kernel_abi.specs.declared.Fault.{Fault}
 use Rattle.kernel_abi.specs.declared.Health.TheVariants.{Faulted}
 use Rattle.kernel_abi.specs.declared.Note.TheVariants as note
+use Rattle.kernel_abi.specs.declared.Usage.TheVariants.{BadTaskIndex, InvalidSlice, BadReason}
 use Rattle.kernel_abi.specs.declared.syscalls.Syscall.{Syscall}
+use Rattle.region_check.specs.declared.Right.TheVariants.{Read, Write}
 use Rattle.kernel_abi.specs.declared.syscalls.Syscall.TheVariants.{Send, Recv, Reply, BorrowRead, BorrowWrite, BorrowInfo, RefreshTaskId, Post, ReplyFault}
 use Rattle.thumb_insn.specs.declared.Insn.TheVariants.{Svc}
 use Rattle.thumb_exec.specs.Effect.{effect}
 use Rattle.thumb_exec.specs.Fetch.{fetched}
 use Rattle.thumb_exec.specs.declared.fetch.Fetched.{Fetched}
 use Rattle.task_table.specs.State.{Setup, State, Task, Turn}
-use Rattle.task_table.specs.Reading.{task_at, register, arguments, is_ready, is_out, is_dead, present_id, dead_code_for, is_faulted}
-use Rattle.task_table.specs.Effects.{noted, faulted}
-use Rattle.task_table.specs.Rows.{syscall_noted, goes_on, goes_on_with}
+use Rattle.task_table.specs.Reading.{task_at, register, arguments, is_ready, is_out, is_dead, is_valid, bad_byte, best_sender, present_id, dead_code_for, is_faulted}
+use Rattle.task_table.specs.Effects.{noted, faulted, given, returned, past_syscall, bits_cleared, with_task}
+use Rattle.task_table.specs.Rows.{syscall_noted, goes_on, goes_on_with, misused, denied, asked, buffer_of, takes_bits, message_received, received}
 use Rattle.task_table.specs.Sane.{Sane}
-use Rattle.task_table.specs.Sends.{refreshed}
-use Rattle.task_table.specs.Syscalls.{syscall_made}
+use Rattle.task_table.specs.Sends.{last_reason, message_of, reply_room, table_of, refreshed, sent, reply_faulted}
+use Rattle.task_table.specs.Syscalls.{syscall_made, is_to_kernel}
 use Rattle.task_table.specs.DeadIds.{Calls, IsAnsweredAlone, IsDeadId, recipient, sender, client, lender, asked_lender, posted_to}
 use Rattle.task_table.proofs.DeadRows as dead
 use Rattle.task_table.proofs.RowChains.{stay-syscall_made}
@@ -28,7 +33,7 @@ use Rattle.board_model.specs.declared.outcomes.Level.{Level}
 use Rattle.board_model.specs.declared.outcomes.Level.TheVariants as level_of
 use Rattle.board_model.specs.Script.{Scenario}
 use Rattle.board_model.specs.Turn.{refusals, held, noted_at, stepped_by, stepped, after_events, with_current, with_registers_noted, ended, turn}
-use Rattle.board_model.specs.DeadCalls.{MakesCall, IsSameButForResults, OnlyAnswers, OnlyFaults, IsDeadTurn, old_id}
+use Rattle.board_model.specs.DeadCalls.{MakesCall, IsClosedTo, IsSameButForResults, OnlyAnswers, OnlyFaults, IsDeadTurn, old_id, NamesDead, by_send, by_recv, by_reply, by_reply_fault, by_read, by_write, by_info, by_post, TouchesNoMemory}
 use Rattle.board_model.proofs.Events.{fresh-after_events}
 use Rattle.board_model.proofs.TurnChains.{chosen_is, as_current, sane-after_events}
 use Rattle.board_model.proofs.FaultFrames.{task-faulted}
@@ -104,6 +109,86 @@ answered_over c n values s v u w e f devices h = rw f record {
 refresh_is : (g : Setup) (c : ℕ) (t : Turn) → Calls RefreshTaskId c t → is_out t.state (old_id t.state c) ≡ false → syscall_made g c t ≡ goes_on_with c (present_id t.state (index_of (old_id t.state c)) ∷ []) t
 unfolding syscall_made refreshed
 refresh_is g c t e inside = rw (e, inside) refl
+
+-- ## a row that touches no memory
+
+-- memory stays, and nothing more was written
+record IsQuiet (t u : Turn) : Type 0 where
+  memory : u.state.memory ≡ t.state.memory
+  writes : u.writes ≡ t.writes
+
+-- so it is, or the caller faults at once
+data StaysOrFaults (g : Setup) (c : ℕ) (t u : Turn) : Type 0 where
+  stays : IsQuiet t u → StaysOrFaults g c t u
+  fails : (f : Fault) → u ≡ faulted g c f t → StaysOrFaults g c t u
+
+on_quiet : (c : ℕ) (t : Turn) → IsQuiet t (goes_on c t)
+unfolding returned past_syscall noted with_task
+on_quiet c t = record { memory = refl; writes = refl }
+
+goes_quiet : (c : ℕ) (values : List ℕ) (t : Turn) → IsQuiet t (goes_on_with c values t)
+unfolding given returned past_syscall noted with_task
+goes_quiet c values t = record { memory = refl; writes = refl }
+
+bits_quiet : (c mask : ℕ) (t : Turn) → IsQuiet t (takes_bits c mask t)
+unfolding bits_cleared given returned past_syscall noted with_task
+bits_quiet c mask t = record { memory = refl; writes = refl }
+
+module _ (g : Setup) (c : ℕ) (t : Turn) where
+  misuses : (usage : ℕ) → StaysOrFaults g c t (misused g c usage t)
+  misuses usage = fails (usage_fault_by usage) refl
+
+  denies : (y : ℕ) (bad : Option ℕ) → StaysOrFaults g c t (denied g c y bad t)
+  denies y bad = fails _ refl
+
+  either : {u v : Turn} (b : Bool) → StaysOrFaults g c t u → StaysOrFaults g c t v → StaysOrFaults g c t (cond b u v)
+  either true h k = h
+  either false h k = k
+
+  sent_row : IsDeadId t.state (recipient t.state c) → StaysOrFaults g c t (sent g c t)
+  unfolding sent
+  sent_row d =
+      let x = send_args (arguments t.state c) in
+      let id = x.recipient.number in
+      either (is_out t.state id || eqb (index_of id) c) (misuses (usage_number BadTaskIndex))
+      (either (not (is_valid (message_of x)) || (not (is_valid (reply_room x)) || not (is_valid (table_of x)))) (misuses (usage_number InvalidSlice))
+      (either (is_some (bad_byte g c Read (message_of x))) (denies (access_number KernelRead) (bad_byte g c Read (message_of x)))
+      (either (is_some (bad_byte g c Write (reply_room x))) (denies (access_number KernelWrite) (bad_byte g c Write (reply_room x)))
+      (rw d.dead (stays (goes_quiet c (dead_code_for t.state id ∷ 0 ∷ []) t))))))
+
+  sent_stays : Calls Send c t → is_to_kernel t.state c ≡ false → IsDeadId t.state (recipient t.state c) → StaysOrFaults g c t (syscall_made g c t)
+  unfolding syscall_made
+  sent_stays e task d = rw (e, task) (sent_row d)
+
+  message_row : (best : Option ℕ) → IsClosedTo t.state c → IsDeadId t.state (sender t.state c) → StaysOrFaults g c t (message_received c best t)
+  message_row best closed d =
+      let task = ne_eqb _ _ closed.task in
+      rw (closed.closed, task, d.dead) (stays (goes_quiet c (dead_code_for t.state (sender t.state c) ∷ 0 ∷ 0 ∷ 0 ∷ 0 ∷ 0 ∷ []) t))
+
+  received_row : (best : Option ℕ) → IsClosedTo t.state c → IsDeadId t.state (sender t.state c) → StaysOrFaults g c t (received g c best t)
+  unfolding received
+  received_row best closed d =
+      let x = asked t.state c in
+      let id = x.sender.number in
+      either (not (is_valid (buffer_of x))) (misuses (usage_number InvalidSlice))
+      (either (is_some (bad_byte g c Write (buffer_of x))) (denies (access_number KernelWrite) (bad_byte g c Write (buffer_of x)))
+      (either (x.closed && not (eqb id 0xFFFF) && (is_out t.state id || eqb (index_of id) c)) (misuses (usage_number BadTaskIndex))
+      (either (not (eqb (bit_and (task_at t.state c).posted x.mask) 0)) (stays (bits_quiet c x.mask t)) (message_row best closed d))))
+
+  received_stays : Calls Recv c t → IsClosedTo t.state c → IsDeadId t.state (sender t.state c) → StaysOrFaults g c t (syscall_made g c t)
+  unfolding syscall_made
+  received_stays e closed d = rw e (received_row (best_sender g t.state c) closed d)
+
+  reply_faulted_row : IsDeadId t.state (client t.state c) → StaysOrFaults g c t (reply_faulted g c t)
+  unfolding reply_faulted
+  reply_faulted_row d =
+      let x = reply_args (arguments t.state c) in
+      either (is_out t.state x.client.number) (misuses (usage_number BadTaskIndex))
+      (either (ltb last_reason x.code) (misuses (usage_number BadReason)) (rw d.dead (stays (on_quiet c t))))
+
+  reply_faulted_stays : Calls ReplyFault c t → IsDeadId t.state (client t.state c) → StaysOrFaults g c t (syscall_made g c t)
+  unfolding syscall_made
+  reply_faulted_stays e d = rw e (reply_faulted_row d)
 
 module _ (level : Level) (x : Scenario) (s : State) (sane : Sane x.setup s) where
   abbrev t : Turn
@@ -203,3 +288,33 @@ module _ (level : Level) (x : Scenario) (s : State) (sane : Sane x.setup s) wher
     no_reason = λ c h d many. faults c ReplyFault (usage_fault_by 10) h (dead.dead-no_reason x.setup c (row c h.code) (calls c ReplyFault h) (same_id c h.code client d refl) (rw (row_state c h.code) many));
     refresh = λ c h inside. with_values c RefreshTaskId _ h (omega arith) (refresh_is x.setup c (row c h.code) (calls c RefreshTaskId h) (same_old c h.code inside) ∙ ap (λ (k : ℕ). goes_on_with c (k ∷ []) (row c h.code)) (same_present c h.code));
   }
+
+  -- ## memory, whatever row decides
+
+  quiet : (c : ℕ) (call : Syscall) (h : MakesCall x s c call) → IsQuiet (row c h.code) (syscall_made x.setup c (row c h.code)) → TouchesNoMemory level x s
+  quiet c call h q =
+      let made = syscall_made x.setup c (row c h.code) in
+      let e = call_is level x s c call h in
+      let fresh = fresh-after_events x s in
+      record {
+        memory = ap (λ (u : Turn). u.state.memory) e ∙ ap (λ (u : State). u.memory) (over level c made) ∙ q.memory ∙ ap (λ (u : State). u.memory) (row_state c h.code) ∙ fresh.memory;
+        writes = ap (λ (u : Turn). u.writes) e ∙ over-writes level c made ∙ q.writes ∙ begins-writes level c h.code t ∙ fresh.writes;
+      }
+
+  by_row : (c : ℕ) (call : Syscall) (h : MakesCall x s c call) → StaysOrFaults x.setup c (row c h.code) (syscall_made x.setup c (row c h.code)) → TouchesNoMemory level x s
+  by_row c call h (stays q) = quiet c call h q
+  by_row c call h (fails f e) = let o = faults c call f h e in record { memory = o.nothing.state.memory ∙ (fresh-after_events x s).memory; writes = o.nothing.writes }
+
+  goes : (c : ℕ) (call : Syscall) (values : List ℕ) (h : MakesCall x s c call) → syscall_made x.setup c (row c h.code) ≡ goes_on_with c values (row c h.code) → TouchesNoMemory level x s
+  goes c call values h e = quiet c call h (rw e (goes_quiet c values (row c h.code)))
+
+  pub dead_memory : (c : ℕ) → NamesDead x s c → TouchesNoMemory level x s
+  unfolding arguments task_at register
+  dead_memory c (by_send h task d) = by_row c Send h (sent_stays x.setup c (row c h.code) (calls c Send h) (rw (row_state c h.code) task) (same_id c h.code recipient d refl))
+  dead_memory c (by_recv h closed d) = by_row c Recv h (received_stays x.setup c (row c h.code) (calls c Recv h) (rw (row_state c h.code) record { closed = closed.closed; task = closed.task }) (same_id c h.code sender d refl))
+  dead_memory c (by_reply h d) = quiet c Reply h (rw (dead.dead-replied x.setup c (row c h.code) (calls c Reply h) (same_id c h.code client d refl)) (on_quiet c (row c h.code)))
+  dead_memory c (by_reply_fault h d) = by_row c ReplyFault h (reply_faulted_stays x.setup c (row c h.code) (calls c ReplyFault h) (same_id c h.code client d refl))
+  dead_memory c (by_read h d) = goes c BorrowRead _ h (dead.dead-read x.setup c (row c h.code) (calls c BorrowRead h) (same_id c h.code lender d refl))
+  dead_memory c (by_write h d) = goes c BorrowWrite _ h (dead.dead-written x.setup c (row c h.code) (calls c BorrowWrite h) (same_id c h.code lender d refl))
+  dead_memory c (by_info h d) = goes c BorrowInfo _ h (dead.dead-informed x.setup c (row c h.code) (calls c BorrowInfo h) (same_id c h.code asked_lender d refl))
+  dead_memory c (by_post h d) = goes c Post _ h (dead.dead-posted x.setup c (row c h.code) (calls c Post h) (same_id c h.code posted_to d refl))

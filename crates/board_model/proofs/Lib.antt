@@ -1,6 +1,10 @@
 pub mod Events
 pub mod TurnChains
+pub mod RunKeeps
 pub mod Lifetimes
+pub mod Changes
+pub mod ClosedCalls
+pub mod OfTurns
 pub mod Counts
 pub mod Quiet
 pub mod FaultFrames

@@ -1,11 +1,10 @@
 -- The bytes of a task that no other may write stay while it takes no part.
-use Rattle.std.proofs.Common.{◌≡◌, ◌≢◌, ◌+◌, ◌-◌, ◌<◌, ◌≤◌, inl, inr, ℕ, zero, suc, Bool, true, false, cond, leb, List, [], ◌∷◌, ◌++◌, length, take, drop, None, refl, sym, subst, ◌∙◌, ap, arith}
+use Rattle.std.proofs.Common.{◌≡◌, ◌≢◌, ◌+◌, ◌-◌, ◌<◌, ◌≤◌, inl, inr, ℕ, zero, suc, Bool, true, false, cond, leb, List, [], ◌∷◌, length, None, refl, sym, subst, ◌∙◌, ap, arith}
 use Rattle.std.specs.Prelude.{Contains, slice_get}
-use Rattle.std.proofs.lemmas.Bool.{leb-true, false≢true}
+use Rattle.std.proofs.lemmas.Bool.{leb-true, false≢true, and_parts}
 use Rattle.region_check.specs.declared.Region.{Region}
 use Rattle.region_check.specs.declared.Right.TheVariants as right
 use Rattle.region_check.specs.Rights.{is_inside, gives_copy}
-use Rattle.mem_banks.proofs.Copies.{with_bytes_ram}
 use Rattle.mem_banks.specs.Memory.{Memory, byte_at, with_bytes, IsWithinRam}
 use Rattle.task_table.specs.State.{Setup, State, Ground, Own, Message, Reply, Lease, Write as Written, Turn}
 use Rattle.task_table.specs.Reading.{setup_at, IsIdle}
@@ -14,28 +13,11 @@ use Rattle.task_table.specs.Grounds.{MayWrite, MayChange, AreGrounded, with_writ
 use Rattle.task_table.proofs.Keeps.{idle_call, idle_listen}
 use Rattle.task_table.proofs.Ranges.{within_ram-given}
 use Rattle.task_table.proofs.Steps.{length-with_bytes}
-use Rattle.board_model.proofs.TurnChains.{both_true}
+use Rattle.task_table.proofs.Writing.{over, with_over}
 use Rattle.board_model.proofs.Views.{any_in}
 use Rattle.board_model.specs.Loners.{IsLoner, owns}
 
 -- ## a byte that is not written
-
--- bytes over bytes
-unfoldable over : List ℕ → ℕ → List ℕ → List ℕ
-over xs zero bytes = bytes ++ drop (length bytes) xs
-over [] (suc i) bytes = bytes
-over (x ∷ xs) (suc i) bytes = x ∷ over xs i bytes
-
-over_is : (xs : List ℕ) (i : ℕ) (bytes : List ℕ) → i ≤ length xs → take i xs ++ bytes ++ drop (i + length bytes) xs ≡ over xs i bytes
-unfolding over
-over_is xs zero bytes h = let e : 0 + length bytes ≡ length bytes = omega arith in rw e refl
-over_is [] (suc i) bytes h = absurd (omega arith)
-over_is (x ∷ xs) (suc i) bytes h = let e : suc i + length bytes ≡ suc (i + length bytes) = omega arith in rw e (ap (λ ys. x ∷ ys) (over_is xs i bytes (omega arith)))
-
-with_over : (m : Memory) (i at : ℕ) (bytes : List ℕ) → at ≡ 0x20000000 + i → i ≤ length m.ram → with_bytes m at bytes ≡ record m { ram = over m.ram i bytes }
-with_over m i at bytes e h =
-    let place : at - 0x20000000 ≡ i = omega arith in
-    with_bytes_ram m at bytes (omega arith) ∙ rw place (ap (λ r. record m { ram = r }) (over_is m.ram i bytes h))
 
 get_over : (xs : List ℕ) (i k b : ℕ) → i < length xs → k ≢ i → slice_get (over xs i (b ∷ [])) k ≡ slice_get xs k
 unfolding over
@@ -54,7 +36,7 @@ other_byte m at b a low high ne =
     by_place true e = let above = leb-true 0x20000000 a e in get_over m.ram (at - 0x20000000) (a - 0x20000000) b (omega arith) (omega arith)
     by_place false e = refl
 
-unwritten : (ws : List Written) (m : Memory) (a : ℕ) → ((w : Written) → Contains ws w → (0x20000000 ≤ w.address) × (w.address < 0x20000000 + length m.ram) × (w.address ≢ a)) → byte_at (with_writes m ws) a ≡ byte_at m a
+pub unwritten : (ws : List Written) (m : Memory) (a : ℕ) → ((w : Written) → Contains ws w → (0x20000000 ≤ w.address) × (w.address < 0x20000000 + length m.ram) × (w.address ≢ a)) → byte_at (with_writes m ws) a ≡ byte_at m a
 unwritten [] m a h = refl
 unwritten (w ∷ ws) m a h =
     let r = h w (zero, omega arith, refl) in
@@ -70,7 +52,7 @@ pub own_alone : (g : Setup) (j i a : ℕ) → IsLoner g j → owns g j a ≡ tru
 own_alone g j i a loner own ne may =
     let r = any_in (λ (x : Region). is_inside x a) (setup_at g j).regions own in
     let q = any_in (gives_copy right.Write a) (setup_at g i).regions may in
-    let inside : is_inside q.0 a ≡ true = (both_true (is_inside q.0 a) _ (both_true _ _ q.2).0).0 in
+    let inside : is_inside q.0 a ≡ true = (and_parts (is_inside q.0 a) _ (and_parts _ _ q.2).0).0 in
     false≢true (sym (loner.apart i ne r.0 q.0 r.1 q.1 a r.2) ∙ inside)
 
 module _ (g : Setup) (s : State) (c : ℕ) (u : Turn) (j : ℕ) (apart : j ≢ c) (waits : IsIdle s j) where

@@ -1,6 +1,5 @@
 -- What two loners have for themselves, after as many own turns of births that began alike.
-use Rattle.std.proofs.Common.{◌≡◌, inl, inr, ◌+◌, ◌<◌, ◌≤◌, ℕ, zero, suc, Bool, true, false, cond, List, [], Option, Some, None, refl, sym, subst, ◌∙◌, ap, arith, eqb-true, eq-eqb}
-use Rattle.std.specs.List.{list_any}
+use Rattle.std.proofs.Common.{◌≡◌, inl, inr, ◌+◌, ◌<◌, ◌≤◌, ℕ, zero, suc, Bool, true, false, cond, [], Option, Some, None, refl, sym, subst, ◌∙◌, ap, arith, eqb-true, eq-eqb}
 use Rattle.std.proofs.lemmas.Bool.{false≢true}
 use Rattle.kernel_abi.specs.declared.Health.TheVariants.{Well}
 use Rattle.region_check.specs.declared.Region.{Region}
@@ -14,11 +13,12 @@ use Rattle.board_model.specs.declared.outcomes.Level.{Level}
 use Rattle.board_model.specs.Script.{Scenario}
 use Rattle.board_model.specs.Turn.{turn}
 use Rattle.board_model.specs.Run.{turn_after, state_after}
+use Rattle.board_model.proofs.Further.{last_turn}
 use Rattle.board_model.proofs.TurnChains.{sane-after}
 use Rattle.board_model.specs.Loners.{IsLoner, owns, HaveSameBytes, HaveSameOwn, IsUntouched}
 use Rattle.board_model.specs.LonerTurns.{IsOwnTurn, IsToItself, Lives, Begins, Waits, Runs, AreBornAlike, is_task, is_own_turn, own_count, GoesByItself}
 use Rattle.board_model.proofs.LonerFrame.{untouched_here, untouched_then, alone-turn, bytes-turn}
-use Rattle.board_model.proofs.LonerOwnTurns.{own_turns}
+use Rattle.board_model.proofs.LonerOwnTurns.{same_regions, same_any, own_turns}
 
 -- what it has for itself in z is what it had in s, and it waits for nothing
 record IsStill (g : Setup) (i : ℕ) (s z : State) : Type 0 where
@@ -49,7 +49,7 @@ module _ (level : Level) (x : Scenario) (i : ℕ) (loner : IsLoner x.setup i) (s
   idle_lives _ _ (Runs k z life own itself) =
       let waits = idle_lives k z life in
       let sane = sane_lives k z life in
-      (own_turns level level x x i i z z record { loners = (loner, loner); regions = refl; registers = refl; flags = refl; bytes = λ a mine. refl; idle = (waits, waits) } sane sane own own itself).1
+      (own_turns level level x x i i z z record { loners = (loner, loner); regions = same_regions x.setup i; registers = refl; flags = refl; bytes = λ a mine. refl; idle = (waits, waits) } sane sane own own itself).1
 
   -- before its first own turn
   still_first : (k : ℕ) (z : State) → Lives level x i s k z → k ≡ 0 → IsStill x.setup i s z
@@ -91,10 +91,7 @@ record AreAlikeAfter (g : Setup) (i j k : ℕ) (z v : State) : Type 0 where
 
 module _ (level other : Level) (x y : Scenario) (i j : ℕ) (s u : State) (born : AreBornAlike x y i j s u) where
   owned_too : (a : ℕ) → owns x.setup i a ≡ true → owns y.setup j a ≡ true
-  owned_too a e = subst (λ rs. owns_in rs a ≡ true) born.made.regions e
-    where
-      owns_in : List Region → ℕ → Bool
-      owns_in rs a = list_any (λ (r : Region). is_inside r a) rs
+  owned_too a e = sym (same_any (λ (r : Region). is_inside r a) x.setup y.setup i j born.made.regions) ∙ e
 
   alike_after : (k : ℕ) (z v : State) → Lives level x i s k z → Lives other y j u k v → AreAlikeAfter x.setup i j k z v
   alike_after zero z v one two =
@@ -138,11 +135,6 @@ mine_is i (Some c) e = ap Some (eqb-true c i e)
 is_mine : (i : ℕ) (o : Option ℕ) → o ≡ Some i → is_task i o ≡ true
 is_mine i o e = ap (is_task i) e ∙ eq-eqb i i refl
 
-turn_of_after : (level : Level) (x : Scenario) (n : ℕ) (s : State) → turn_after level x n s ≡ turn level x (state_after level x n s)
-unfolding turn_after state_after
-turn_of_after level x zero s = refl
-turn_of_after level x (suc n) s = refl
-
 after_is : (level : Level) (x : Scenario) (n : ℕ) (s : State) → state_after level x (suc n) s ≡ (turn_after level x n s).state
 unfolding state_after
 after_is level x n s = refl
@@ -156,7 +148,7 @@ unfolding own_count
 lives_after level x i s zero itself = rw (no_turns level x s) Begins
 lives_after level x i s (suc n) itself =
     let z = state_after level x n s in
-    let now : turn_after level x n s ≡ turn level x z = turn_of_after level x n s in
+    let now : turn_after level x n s ≡ turn level x z = last_turn level x n s in
     let next : state_after level x (suc n) s ≡ (turn level x z).state = after_is level x n s ∙ ap (λ (t : Turn). t.state) now in
     rw next (by_own (is_own_turn x i z) refl (lives_after level x i s n (λ m lt. itself m (omega arith))) (subst (λ (t : Turn). IsToItself i t.notes) now (itself n (omega arith))))
   where

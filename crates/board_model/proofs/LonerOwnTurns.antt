@@ -1,7 +1,8 @@
 -- The own turns of two loners that have the same for themselves.
-use Rattle.std.proofs.Common.{◌≡◌, ◌⊎◌, inl, inr, ◌+◌, ◌<◌, ◌≤◌, ℕ, true, false, leb, ltb, [], ◌∷◌, length, Some, refl, sym, subst, ◌∙◌, ap, arith, ltb-true}
+use Rattle.std.proofs.Common.{◌≡◌, ◌⊎◌, inl, inr, ◌+◌, ◌<◌, ◌≤◌, ℕ, Bool, true, false, leb, ltb, [], ◌∷◌, length, Some, refl, sym, ◌∙◌, ap, arith, ltb-true}
 use Rattle.std.specs.Prelude.{Contains}
-use Rattle.std.proofs.lemmas.Bool.{leb-true}
+use Rattle.std.specs.List.{list_any}
+use Rattle.std.proofs.lemmas.Bool.{leb-true, and_parts, false≢true}
 use Rattle.std.proofs.lemmas.List.Elements.{Contains-append_left}
 use Rattle.kernel_abi.specs.declared.Note.{Note}
 use Rattle.region_check.specs.declared.Region.{Region}
@@ -21,14 +22,29 @@ use Rattle.board_model.specs.declared.outcomes.Level.TheVariants.{Calls, All}
 use Rattle.board_model.specs.Script.{Scenario}
 use Rattle.board_model.specs.Turn.{may, is_device, noted_at, stepped, after_events, with_current, low_note, high_note, with_registers_noted, ended, turn}
 use Rattle.board_model.proofs.Events.{fresh-after_events}
-use Rattle.board_model.proofs.TurnChains.{both_true, IsChosen, chosen_is, as_current, sane-after_events, noted_state}
+use Rattle.board_model.proofs.TurnChains.{IsChosen, chosen_is, as_current, sane-after_events, noted_state}
 use Rattle.board_model.proofs.Views.{any_in, any_of}
-use Rattle.board_model.specs.Loners.{IsLoner, owns, HaveSameOwn, IsUntouched}
+use Rattle.board_model.specs.Loners.{IsLoner, HaveSameRegions, owns, HaveSameOwn, IsUntouched}
 use Rattle.board_model.specs.LonerTurns.{IsOwnTurn, IsToItself, AreAlike}
 use Rattle.board_model.proofs.Held.{no_device_below}
 use Rattle.board_model.proofs.LonerFrame.{untouched-after_events}
 use Rattle.board_model.proofs.SameBytes.{HoldSame, same_of_bytes, bytes_of_same}
 use Rattle.board_model.proofs.LonerWalk.{IsPair, AreSame, IsAbout, HasCalled, same-stepped}
+
+-- ## the same regions
+
+pub same_regions : (g : Setup) (i : ℕ) → HaveSameRegions g g i i
+same_regions g i = record { first = λ r here. here; second = λ r here. here }
+
+-- what is asked of any region has one answer
+pub same_any : (p : Region → Bool) (g h : Setup) (i j : ℕ) → HaveSameRegions g h i j → list_any p (setup_at g i).regions ≡ list_any p (setup_at h j).regions
+same_any p g h i j same = by_answers (list_any p (setup_at g i).regions) (list_any p (setup_at h j).regions) refl refl
+  where
+    by_answers : (b c : Bool) → list_any p (setup_at g i).regions ≡ b → list_any p (setup_at h j).regions ≡ c → b ≡ c
+    by_answers true true e f = refl
+    by_answers false false e f = refl
+    by_answers true false e f = let r = any_in p (setup_at g i).regions e in absurd (false≢true (sym f ∙ any_of p (setup_at h j).regions r.0 (same.first r.0 r.1) r.2))
+    by_answers false true e f = let r = any_in p (setup_at h j).regions f in absurd (false≢true (sym e ∙ any_of p (setup_at g i).regions r.0 (same.second r.0 r.1) r.2))
 
 -- ## where a loner's bytes lie
 
@@ -37,11 +53,11 @@ module _ (g : Setup) (i : ℕ) where
   given_by : (right : Right) (a : ℕ) → may g i right a ≡ true → (r : Region) × Contains (setup_at g i).regions r × (is_inside r a ≡ true) × (has_right r.rights right ≡ true)
   given_by right a e =
       let r = any_in (gives right a) (setup_at g i).regions e in
-      let b = both_true (is_inside r.0 a) (has_right r.0.rights right) r.2 in
+      let b = and_parts (is_inside r.0 a) (has_right r.0.rights right) r.2 in
       (r.0, r.1, b.0, b.1)
 
   from_to : (r : Region) (a : ℕ) → is_inside r a ≡ true → (r.base ≤ a) × (a < r.base + r.size)
-  from_to r a e = let b = both_true (leb r.base a) (ltb a (r.base + r.size)) e in (leb-true _ _ b.0, ltb-true _ _ b.1)
+  from_to r a e = let b = and_parts (leb r.base a) (ltb a (r.base + r.size)) e in (leb-true _ _ b.0, ltb-true _ _ b.1)
 
   own : (right : Right) (a : ℕ) → may g i right a ≡ true → owns g i a ≡ true
   own right a e = let r = given_by right a e in any_of (λ (x : Region). is_inside x a) (setup_at g i).regions r.0 r.1 r.2
@@ -59,11 +75,11 @@ module _ (g : Setup) (i : ℕ) where
       by_place base size lo hi (inr flash) = let end = flash.1 in let few = placed.flash in omega arith
 
   -- in RAM, where it may be written: also in the memory of another image, in which a task has this region and no device
-  own_ram : (h : Setup) (j : ℕ) (m : Memory) → ArePlaced h m → IsLoner h j → (setup_at g i).regions ≡ (setup_at h j).regions → (a : ℕ) → may g i Write a ≡ true → (0x20000000 ≤ a) × (a < 0x20000000 + length m.ram)
+  own_ram : (h : Setup) (j : ℕ) (m : Memory) → ArePlaced h m → IsLoner h j → HaveSameRegions g h i j → (a : ℕ) → may g i Write a ≡ true → (0x20000000 ≤ a) × (a < 0x20000000 + length m.ram)
   own_ram h j m placed other same a e =
       let r = given_by Write a e in
       let b = from_to r.0 a r.2 in
-      let here : Contains (setup_at h j).regions r.0 = subst (λ rs. Contains rs r.0) same r.1 in
+      let here : Contains (setup_at h j).regions r.0 = same.first r.0 r.1 in
       by_place r.0.base r.0.size b.0 b.1 (placed.writable j r.0 here (other.no_device r.0 here) r.3)
     where
       by_place : (base size : ℕ) → base ≤ a → a < base + size → IsWithinRam m base size → (0x20000000 ≤ a) × (a < 0x20000000 + length m.ram)
@@ -126,10 +142,10 @@ same_currents g c d n m a b s u h = record {
 module _ (l p : Level) (x y : Scenario) (i j : ℕ) (s u : State) (h : AreAlike x y i j s u) where
   pair : (m n : Memory) → ArePlaced x.setup m → ArePlaced y.setup n → IsPair x.setup y.setup i j (length m.ram) (length n.ram)
   pair m n a b = record {
-    regions = h.regions;
+    rights = λ right a. same_any (gives right a) x.setup y.setup i j h.regions;
     own = own x.setup i;
     memory = own_memory x.setup i m a h.loners.0;
-    ram = λ at may_write. let one = own_ram x.setup i x.setup i m a h.loners.0 refl at may_write in let two = own_ram x.setup i y.setup j n b h.loners.1 h.regions at may_write in (one.0, one.1, two.1);
+    ram = λ at may_write. let one = own_ram x.setup i x.setup i m a h.loners.0 (same_regions x.setup i) at may_write in let two = own_ram x.setup i y.setup j n b h.loners.1 h.regions at may_write in (one.0, one.1, two.1);
   }
 
   -- after an own turn of each, in which the first made no system call but PANIC

@@ -31,13 +31,11 @@ use Rattle.task_table.proofs.Moves.{aside-posted}
 use Rattle.task_table.proofs.Noting.{step_noted}
 use Rattle.task_table.proofs.Posting.{found_listen}
 use Rattle.board_model.specs.Loners.{IsUntouched, IsStruck}
+use Rattle.task_table.proofs.Waiting.{no_some}
 
 -- unless it was struck it is as before
 abbrev pub IsLeftAlone : State → ℕ → Turn → Type 0
 IsLeftAlone s j u = IsStruck j u.notes ⊎ IsUntouched s j u.state
-
-some_none : {A P : Type 0} {x : A} → Some x ≡ None → P
-some_none e = cc
 
 -- ## who has no call and no listen
 
@@ -212,7 +210,7 @@ module _ (s : State) (j : ℕ) where
 
   same-unwoken : (o : Option Listen) (u : Turn) → listen_of u.state j ≡ o → Same u.state → Same (woken_by j o u).state
   same-unwoken None u e h = h
-  same-unwoken (Some l) u e h = some_none (sym e ∙ h.idle.listen)
+  same-unwoken (Some l) u e h = no_some (sym e ∙ h.idle.listen)
 
   -- a post adds bits to a task that does not listen, and leaves the rest
   same-own : (bits : ℕ) (u : Turn) → Same u.state → Same (posted j bits u).state
@@ -249,7 +247,7 @@ module _ (s : State) (j : ℕ) where
         where
           -- who listens is another
           other : j ≢ k.server.index
-          other = λ same. some_none (sym e ∙ ap (listen_of u.state) (sym same) ∙ h.idle.listen)
+          other = λ same. no_some (sym e ∙ ap (listen_of u.state) (sym same) ∙ h.idle.listen)
 
           by_test : (b : Bool) → IsUntouched s j (cond b (returned k.server.index (handed (Message k.number) k l.buffer (offered k u))) (offered k u)).state
           by_test true = same-returned k.server.index _ (same-handed (Message k.number) k l.buffer (offered k u) other opened)

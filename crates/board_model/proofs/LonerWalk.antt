@@ -11,7 +11,7 @@ use Rattle.kernel_abi.specs.declared.Note.TheVariants as note
 use Rattle.words_core.specs.declared.Flags.{Flags}
 use Rattle.region_check.specs.declared.Right.{Right}
 use Rattle.region_check.specs.declared.Right.TheVariants.{Read, Write, Execute}
-use Rattle.region_check.specs.Rights.{may_use, first_lacking}
+use Rattle.region_check.specs.Rights.{first_lacking}
 use Rattle.mem_banks.specs.Memory.{number_of, is_ram}
 use Rattle.thumb_insn.specs.declared.Insn.{Insn}
 use Rattle.thumb_insn.specs.Range.{IsCoded}
@@ -22,7 +22,7 @@ use Rattle.thumb_exec.specs.declared.fetch.Fetched.{Fetched}
 use Rattle.thumb_exec.specs.Keeps.{IsPermittedTo, IsPermitted, Keeps, Agree}
 use Rattle.thumb_exec.proofs.Agreeing.{effect_same}
 use Rattle.task_table.specs.State.{Setup, State, Task, Own, Turn}
-use Rattle.task_table.specs.Reading.{task_at, setup_at, register, call_of, listen_of, is_ready, IsIdle}
+use Rattle.task_table.specs.Reading.{task_at, register, call_of, listen_of, is_ready, IsIdle}
 use Rattle.task_table.specs.Effects.{with_task, noted, with_processor, stored, faulted, with_devices, device_taken}
 use Rattle.task_table.specs.Rows.{syscall_noted, panicked}
 use Rattle.task_table.specs.Syscalls.{syscall_made}
@@ -69,9 +69,9 @@ task_memory s i x = refl
 
 -- ## the walk
 
--- tasks c under g and d under k, of the same regions, none a device, in memories with so many bytes of RAM
+-- tasks c under g and d under k, which may the same, none of it a device, in memories with so many bytes of RAM
 pub record IsPair (g k : Setup) (c d n m : ℕ) : Type 0 where
-  pub regions : (setup_at g c).regions ≡ (setup_at k d).regions
+  pub rights : (right : Right) (a : ℕ) → may g c right a ≡ may k d right a
   pub own : (right : Right) (a : ℕ) → may g c right a ≡ true → owns g c a ≡ true
   pub memory : (right : Right) (a : ℕ) → may g c right a ≡ true → is_device a ≡ false
   pub ram : (a : ℕ) → may g c Write a ≡ true → (0x20000000 ≤ a) × (a < 0x20000000 + n) × (a < 0x20000000 + m)
@@ -104,7 +104,7 @@ module _ (l p : Level) (g k : Setup) (c d n m : ℕ) (pair : IsPair g k c d n m)
   Outcome t u = AreSame g c d n m t.state u.state ⊎ HasCalled c t.notes
 
   same_refusals : refusals g c ≡ refusals k d
-  same_refusals = λ j. first_lacking (λ r a. may_use (pair.regions j) r a)
+  same_refusals = λ j. first_lacking (λ r a. pair.rights r a j)
 
   same_cpu : (s u : State) → Same s u → cpu_of (task_at s c) ≡ cpu_of (task_at u d)
   same_cpu s u h = λ j. record { regs = record { words = h.registers j }; flags = h.flags j }

@@ -16,6 +16,7 @@ use Rattle.board_model.specs.Run.{Run, run, ending, end_by, is_down, is_still, u
 use Rattle.board_model.proofs.Counts.{turn_more}
 use Rattle.board_model.proofs.TurnChains.{sane-after}
 use Rattle.board_model.proofs.AlikeRuns.{less_noted-run}
+use Rattle.board_model.proofs.RunKeeps.{sane_run}
 use Rattle.board_model.specs.Cut.{cut_at, left_of, from_turn}
 
 -- ## a run by its first turn
@@ -61,14 +62,13 @@ by_turn level x n s P here more = by (ending x (suc n) s) refl
     by (Some e) is = subst P (sym (ends level x (suc n) s e is)) (here e)
     by None is = subst P (sym (goes level x n s is)) (more is)
 
-fronts : (a b : List (ℕ × Note)) (r : Run) → with_front a (with_front b r) ≡ with_front (a ++ b) r
+pub fronts : (a b : List (ℕ × Note)) (r : Run) → with_front a (with_front b r) ≡ with_front (a ++ b) r
 fronts a b r = ap (λ (ns : List (ℕ × Note)). record r { notes = ns }) (sym (append_assoc a b r.notes))
 
 -- ## where it comes to
 
 pub sane-cut : (level : Level) (x : Scenario) (n : ℕ) (s : State) → Sane x.setup s → Sane x.setup (cut_at level x n s)
-sane-cut level x zero s h = by_none level x s (λ r. Sane x.setup r.last) (λ e. h)
-sane-cut level x (suc n) s h = by_turn level x n s (λ r. Sane x.setup r.last) (λ e. h) (λ is. sane-cut level x n (turn level x s).state (sane-after level x s h))
+sane-cut level x n s h = sane_run level x n s h
 
 later : (level : Level) (x : Scenario) (n : ℕ) (s : State) → Sane x.setup s → s.turn ≤ (cut_at level x n s).turn
 later level x zero s h = by_none level x s (λ r. s.turn ≤ r.last.turn) (λ e. omega arith)

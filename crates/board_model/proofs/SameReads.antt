@@ -1,5 +1,6 @@
 -- A turn depends on memory only where it reads.
 use Rattle.std.proofs.Common.{◌≡◌, ◌+◌, ◌<◌, ◌≤◌, ℕ, Bool, true, false, not, leb, ltb, ◌&&◌, ◌||◌, List, length, Option, Some, None, refl, sym, ◌∙◌, subst, arith, le-leb, leb-true, lt-ltb, ltb-true, ltb-false}
+use Rattle.std.proofs.lemmas.Bool.{and_parts, or_right, or_left}
 use Rattle.std.specs.Prelude.{Contains, slice_get}
 use Rattle.std.specs.List.{list_any}
 use Rattle.std.proofs.lemmas.Option.{slice_get_past}
@@ -16,14 +17,14 @@ use Rattle.board_model.specs.declared.outcomes.Level.{Level}
 use Rattle.board_model.specs.declared.outcomes.Level.TheVariants.{Calls, All}
 use Rattle.board_model.specs.Script.{Scenario}
 use Rattle.board_model.specs.Turn.{may, after_events, turn_of, ended, turn}
-use Rattle.board_model.proofs.TurnChains.{both_true, sane-after_events}
+use Rattle.board_model.proofs.TurnChains.{sane-after_events}
 use Rattle.board_model.specs.Alike.{Viewer, IsAttentive, seen, AreAlikeMemories, IsAlike, AreSeen}
 use Rattle.board_model.specs.Agreement.{is_own, covers, is_read, AgreesOnReads, rest_of, with_memory, IsSameButMemory}
 use Rattle.board_model.proofs.SameBytes.{flash_byte, ram_byte}
 use Rattle.board_model.proofs.Alike.{shown, chosen_alike}
 use Rattle.board_model.proofs.AlikeTurns.{IsHeardAs, alike-rest}
 use Rattle.board_model.proofs.Sight.{IsOpen}
-use Rattle.board_model.proofs.Views.{all_heard, any_in, any_of, either, first, same_but_memory, told_plainly}
+use Rattle.board_model.proofs.Views.{all_heard, any_in, any_of, same_but_memory, told_plainly}
 
 -- the one who sees what is read, and what lies above all memory
 unfoldable pub reader : Setup → ℕ → List Read → Viewer
@@ -40,23 +41,23 @@ module _ (g : Setup) (c : ℕ) (reads : List Read) where
   reader_hears All = λ n. refl
 
   above_seen : (a : ℕ) → 0x40000000 ≤ a → (is_read g c reads a || leb 0x40000000 a) ≡ true
-  above_seen a h = either (is_read g c reads a) (leb 0x40000000 a) (le-leb _ _ h)
+  above_seen a h = or_right (is_read g c reads a) (leb 0x40000000 a) (le-leb _ _ h)
 
   -- what the task may use lies in a region of its own that is no device, or above all memory
   own_seen : (m : Memory) → ArePlaced g m → (right : Right) (a : ℕ) → may g c right a ≡ true → (is_read g c reads a || leb 0x40000000 a) ≡ true
   own_seen m placed right a e =
       let r = any_in (gives right a) (setup_at g c).regions e in
-      let inside = both_true (is_inside r.0 a) (has_right r.0.rights right) r.2 in
+      let inside = and_parts (is_inside r.0 a) (has_right r.0.rights right) r.2 in
       go r.0 r.1 inside.0 r.0.rights.device refl
     where
       go : (r : Region) → Contains (setup_at g c).regions r → is_inside r a ≡ true → (b : Bool) → r.rights.device ≡ b → (is_read g c reads a || leb 0x40000000 a) ≡ true
       go r here inside true q =
           let base = placed.devices c r here q in
-          let lo : r.base ≤ a = leb-true _ _ (both_true (leb r.base a) _ inside).0 in
+          let lo : r.base ≤ a = leb-true _ _ (and_parts (leb r.base a) _ inside).0 in
           above_seen a (omega arith)
       go r here inside false q =
           let mine : list_any (λ (x : Region). is_inside x a && not x.rights.device) (setup_at g c).regions ≡ true = any_of (λ (x : Region). is_inside x a && not x.rights.device) (setup_at g c).regions r here ((λ i. inside i && not (q i)) ∙ refl) in
-          first (is_read g c reads a) (leb 0x40000000 a) (first (is_own g c a) (list_any (covers a) reads) mine)
+          or_left (is_read g c reads a) (leb 0x40000000 a) (or_left (is_own g c a) (list_any (covers a) reads) mine)
 
   reader_open : (m : Memory) → ArePlaced g m → IsOpen (reader g c reads) g c
   unfolding reader
@@ -66,7 +67,7 @@ module _ (g : Setup) (c : ℕ) (reads : List Read) where
   unfolding reader
   reads_seen r here a lo hi =
       let in_it : covers a r ≡ true = (λ i. le-leb _ _ lo i && lt-ltb _ _ hi i) ∙ refl in
-      first (is_read g c reads a) (leb 0x40000000 a) (either (is_own g c a) (list_any (covers a) reads) (any_of (covers a) reads r here in_it))
+      or_left (is_read g c reads a) (leb 0x40000000 a) (or_right (is_own g c a) (list_any (covers a) reads) (any_of (covers a) reads r here in_it))
 
   seen_or_above : (a : ℕ) → (is_read g c reads a || leb 0x40000000 a) ≡ true → a < 0x40000000 → is_read g c reads a ≡ true
   seen_or_above a e below = go (is_read g c reads a) refl e

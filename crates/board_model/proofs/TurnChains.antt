@@ -1,10 +1,10 @@
 -- A turn is a chain of steps: its instruction, or the row of its system call, with what is noted besides.
-use Rattle.std.proofs.Common.{◌≡◌, ◌≢◌, ◌+◌, ◌-◌, ◌*◌, ◌/◌, ◌%◌, ◌^◌, ◌<◌, ◌≤◌, ◌⊎◌, inl, inr, ℕ, zero, suc, Bool, true, false, cond, not, ◌&&◌, ◌||◌, List, [], ◌∷◌, length, take, drop, Option, Some, None, refl, sym, ◌∙◌, ap, arith, leb, ltb, IfSome}
+use Rattle.std.proofs.Common.{◌≡◌, ◌+◌, ◌-◌, ◌*◌, ◌/◌, ◌%◌, ◌^◌, ◌<◌, ◌≤◌, ◌⊎◌, inl, inr, ℕ, zero, suc, Bool, true, false, cond, ◌&&◌, ◌||◌, List, [], ◌∷◌, length, take, drop, Option, Some, None, refl, sym, ◌∙◌, ap, arith, leb, ltb, IfSome}
 use Rattle.std.specs.Prelude.{Contains, fold, find, Result, Ok, Err, option_map}
 use Rattle.std.specs.List.{range_with_len, list_any}
 use Rattle.std.proofs.lemmas.List.Elements.{Contains-append_cases}
-use Rattle.std.proofs.lemmas.Bool.{leb-true, false≢true}
-use Rattle.std.proofs.lemmas.Bool.Decides.{nat_tests, eqb_tells}
+use Rattle.std.proofs.lemmas.Bool.{leb-true, false≢true, and_parts, or_cases, or_left, or_right}
+use Rattle.std.proofs.lemmas.Bool.Decides.{nat_tests}
 use Rattle.kernel_abi.specs.declared.Fault.{Fault}
 use Rattle.kernel_abi.specs.declared.Given.{Given}
 use Rattle.kernel_abi.proofs.Devices.{given_inside}
@@ -49,6 +49,7 @@ use Rattle.task_table.proofs.Chains.{one, ◌▷◌, joined}
 use Rattle.task_table.proofs.Moves.{IsAside, aside_here, aside-noted}
 use Rattle.task_table.proofs.Noting.{noted-noted, chain_noted}
 use Rattle.task_table.proofs.RowChains.{chain-syscall_made}
+use Rattle.board_model.proofs.Sight.{none_lacking}
 use Rattle.board_model.specs.declared.outcomes.Level.{Level}
 use Rattle.board_model.specs.declared.outcomes.Level.TheVariants.{Calls, All}
 use Rattle.board_model.specs.Script.{Scenario}
@@ -60,12 +61,10 @@ use Rattle.thumb_exec.proofs.Keeping.{keeps}
 use Rattle.thumb_insn.specs.Table.{narrow_of, wide_of, narrow_result, wide_result, with_second}
 use Rattle.thumb_insn.specs.Range.{IsCoded}
 use Rattle.thumb_insn.specs.declared.Code.TheVariants.{One, Two}
+use Rattle.task_table.proofs.Clients.{same_some}
+use Rattle.task_table.proofs.Offers.{range_below}
 
 -- ## small things
-
-pub both_true : (a b : Bool) → (a && b) ≡ true → (a ≡ true) × (b ≡ true)
-both_true true b h = (refl, h)
-both_true false b h = cc
 
 no_byte : AreAllBytes []
 no_byte b h = absurd (omega (arith, h.1))
@@ -116,40 +115,12 @@ held_small s a flash ram = by_device (is_device a)
 
 -- ## what an instruction may store
 
-no_some : {A P : Type 0} {a : A} → Some a ≡ None → P
-no_some e = cc
-
--- nothing found: each passes not
-none_lacks : (p : ℕ → Bool) (base n a : ℕ) → find (λ x. not (p x)) (range_with_len base n) ≡ None → base ≤ a → a < base + n → p a ≡ true
-none_lacks p base zero a e low high = absurd (omega arith)
-none_lacks p base (suc n) a e low high = go (p base) refl split (λ rest more. none_lacks p (base + 1) n a rest more (omega arith))
-  where
-    split : (a ≡ base) ⊎ (base + 1 ≤ a)
-    split = elim (eqb_tells a base) [ inl same ↦ inl same.1 | inr other ↦ let ne : a ≢ base = other.1 in inr (omega arith) ]
-
-    go : (b : Bool) → p base ≡ b → (a ≡ base) ⊎ (base + 1 ≤ a) → (find (λ x. not (p x)) (range_with_len (base + 1) n) ≡ None → base + 1 ≤ a → p a ≡ true) → p a ≡ true
-    go true t (inl same) later = rw same t
-    go true t (inr more) later = later (rw t at e) more
-    go false f either later = no_some (rw f at e)
-
-or_cases : (a b : Bool) → (a || b) ≡ true → (a ≡ true) ⊎ (b ≡ true)
-or_cases true b h = inl refl
-or_cases false b h = inr h
-
-or_left : (a b : Bool) → a ≡ true → (a || b) ≡ true
-or_left true b h = refl
-or_left false b h = absurd (false≢true h)
-
-or_right : (a b : Bool) → b ≡ true → (a || b) ≡ true
-or_right true b h = refl
-or_right false b h = h
-
 -- below the devices, what an instruction may write a copy may
 one_copy : (r : Region) (a : ℕ) → a < 0x40000000 → (r.rights.device ≡ true → 0x40000000 ≤ r.base) → gives Write a r ≡ true → gives_copy Write a r ≡ true
 one_copy r a below device h = go r.rights.device refl
   where
     low : r.base ≤ a
-    low = leb-true _ _ (both_true (leb r.base a) (ltb a (r.base + r.size)) (both_true (is_inside r a) (has_right r.rights Write) h).0).0
+    low = leb-true _ _ (and_parts (leb r.base a) (ltb a (r.base + r.size)) (and_parts (is_inside r a) (has_right r.rights Write) h).0).0
 
     go : (d : Bool) → r.rights.device ≡ d → gives_copy Write a r ≡ true
     go true e = let high = device e in let l = low in absurd (omega arith)
@@ -166,10 +137,10 @@ copy_below (r ∷ rs) a below devices h =
 -- a store that is not refused, to RAM, is on one's own ground
 may_store : (g : Setup) (c : ℕ) (m : Memory) (addr n a : ℕ) → ArePlaced g m → refusals g c addr n Write ≡ None → is_ram m addr n ≡ true → addr ≤ a → a < addr + n → MayWrite g c a
 may_store g c m addr n a placed none ram low high =
-    let both = both_true (leb 0x20000000 addr) (leb (addr + n) (0x20000000 + length m.ram)) ram in
+    let both = and_parts (leb 0x20000000 addr) (leb (addr + n) (0x20000000 + length m.ram)) ram in
     let end = leb-true (addr + n) (0x20000000 + length m.ram) both.1 in
     let room = placed.below in
-    copy_below (setup_at g c).regions a (omega arith) (λ r here device. placed.devices c r here device) (none_lacks (may g c Write) addr n a none low high)
+    copy_below (setup_at g c).regions a (omega arith) (λ r here device. placed.devices c r here device) (none_lacking (may g c Write) addr n none a low high)
 
 ram_stored : (on : Ground) (at : ℕ) (bytes : List ℕ) (v : Turn) → IsWithinRam v.state.memory at (length bytes) → length (stored on at bytes v).state.memory.ram ≡ length v.state.memory.ram
 unfolding stored
@@ -211,7 +182,7 @@ module _ (g : Setup) (s : State) (c : ℕ) (inside : c < length g.tasks) where
 
   -- the first of the bytes may be used so
   may_first : (right : Right) (a n : ℕ) → IsPermittedTo right (refusals g c) a n → MayUse g c right a
-  may_first right a n p = let some = some_bytes n p.size in none_lacks (may g c right) a n a p.allowed (omega arith) (omega (arith, some))
+  may_first right a n p = let some = some_bytes n p.size in none_lacking (may g c right) a n p.allowed a (omega arith) (omega (arith, some))
 
   put_chain : (x : Store) (v : Turn) → Sane g v.state → length v.state.memory.ram ≡ length s.memory.ram → IsPermittedTo Write (refusals g c) x.addr x.bytes → Came g s c v (put v x)
   put_chain x v h same permitted = by_ram (is_ram v.state.memory x.addr x.bytes) refl
@@ -223,7 +194,7 @@ module _ (g : Setup) (s : State) (c : ℕ) (inside : c < length g.tasks) where
       by_ram : (b : Bool) → is_ram v.state.memory x.addr x.bytes ≡ b → Came g s c v (cond b (stored Own x.addr (bytes_of x.value x.bytes) v) (cond (is_device x.addr) (device_stored x.addr x.value v) v))
       by_ram false e = by_device (is_device x.addr)
       by_ram true e =
-          let both = both_true (leb 0x20000000 x.addr) (leb (x.addr + x.bytes) (0x20000000 + length v.state.memory.ram)) e in
+          let both = and_parts (leb 0x20000000 x.addr) (leb (x.addr + x.bytes) (0x20000000 + length v.state.memory.ram)) e in
           let few = few_bytes x.value x.bytes permitted.size in
           let above = leb-true 0x20000000 x.addr both.0 in
           let below = leb-true (x.addr + x.bytes) (0x20000000 + length v.state.memory.ram) both.1 in
@@ -308,13 +279,6 @@ fetchable refuses holds at small =
     (or_barred (refuses (after at) 2 Execute) (after at) _ (of_code at (first * 2 ^ 16 + second) first (Some second) (decoded_of first (Some second)) (small at) (small (after at)) refl))
     (of_code at first first None (decoded_of first None) (small at) tt refl))
 
--- a system call is noted, whatever it comes to
-pub noted-call : (g : Setup) (c : ℕ) (t : Turn) → Sane g t.state → c < length t.state.tasks → is_ready t.state c ≡ true → IsNoted (syscall_made g c (syscall_noted c t))
-unfolding syscall_noted noted
-noted-call g c t h inside ready =
-    let u = syscall_noted c t in
-    chain_noted g t.state c u (syscall_made g c u) (chain-syscall_made g c u h (rw (← h.steady.as_many) inside) ready) (noted-noted _ t)
-
 pub keeps-here : {g : Setup} (c : ℕ) (t : Turn) (h : Sane g t.state) (inside : c < length t.state.tasks) (insn : Insn) → IsCoded insn → Keeps (refusals g c) (effect (refusals g c) (held t.state) (cpu_of (task_at t.state c)) insn)
 keeps-here {g} c t h inside insn coded = keeps (refusals g c) (held t.state) (cpu_of (task_at t.state c)) insn coded (whole_cpu c t h inside)
 
@@ -354,11 +318,6 @@ ran_chain level g c t h inside ready =
 
 -- ## the turn
 
-range_below : (a n k : ℕ) → Contains (range_with_len a n) k → k < a + n
-range_below a zero k h = absurd (omega (arith, h.1))
-range_below a (suc n) k (zero, lt, same) = let e : a ≡ k = same in omega arith
-range_below a (suc n) k (suc i, lt, same) = let r = range_below (a + 1) n k (i, omega arith, same) in omega arith
-
 around_below : (n i k : ℕ) → i ≤ n → Contains (around n i) k → k < n
 around_below n i k le h = elim (Contains-append_cases (range_with_len i (n - i)) (range_with_len 0 i) k h) [
   | inl a ↦ let r = range_below i (n - i) k a in omega arith
@@ -367,9 +326,6 @@ around_below n i k le h = elim (Contains-append_cases (range_with_len i (n - i))
 
 none_some : {A : Type 0} {P : Type 0} {a : A} → None ≡ Some a → P
 none_some e = cc
-
-same_some : {A : Type 0} {a b : A} → Some a ≡ Some b → a ≡ b
-same_some e = cc
 
 pub found_in : {A : Type 0} (p : A → Bool) (xs : List A) (x : A) → find p xs ≡ Some x → Contains xs x × (p x ≡ true)
 found_in p [] x e = none_some e
@@ -388,7 +344,7 @@ pub chosen_is : {g : Setup} (s : State) (c : ℕ) → Sane g s → chosen g s �
 unfolding chosen
 chosen_is {g} s c h e =
     let r = found_in (qualifies g s) (around (length s.tasks) s.current) c e in
-    record { ready = (both_true (is_ready s c) _ r.1).0; inside = let b = h.steady.current in around_below (length s.tasks) s.current c (omega arith) r.0 }
+    record { ready = (and_parts (is_ready s c) _ r.1).0; inside = let b = h.steady.current in around_below (length s.tasks) s.current c (omega arith) r.0 }
 
 pub as_current : (c i : ℕ) (s : State) → is_ready s c ≡ true → is_ready (record s { current = i }) c ≡ true
 unfolding is_ready task_at call_of listen_of

@@ -2,7 +2,7 @@
 use Rattle.std.proofs.Common.{◌≡◌, ◌+◌, ◌%◌, ℕ, suc, Bool, true, false, ◌||◌, List, [], ◌∷◌, eqb, map, refl, sym, ◌∙◌, ap, arith, map-id}
 use Rattle.std.specs.Prelude.{filter, Contains}
 use Rattle.std.specs.List.{list_any}
-use Rattle.std.proofs.lemmas.Bool.{false≢true}
+use Rattle.std.proofs.lemmas.Bool.{false≢true, or_right, or_left}
 use Rattle.std.proofs.lemmas.List.Folds.{list_any_at}
 use Rattle.std.proofs.Math.Nat.{mod-mod}
 use Rattle.mem_banks.specs.Memory.{Memory}
@@ -32,7 +32,7 @@ map_same : {X : Type 0} (f : X → X) → ((x : X) → f x ≡ x) → (xs : List
 map_same f e [] = refl
 map_same f e (x ∷ xs) = λ i. e x i ∷ map_same f e xs i
 
-map_again : {X : Type 0} (f : X → X) → ((x : X) → f (f x) ≡ f x) → (xs : List X) → map f (map f xs) ≡ map f xs
+pub map_again : {X : Type 0} (f : X → X) → ((x : X) → f (f x) ≡ f x) → (xs : List X) → map f (map f xs) ≡ map f xs
 map_again f e [] = refl
 map_again f e (x ∷ xs) = λ i. e x i ∷ map_again f e xs i
 
@@ -50,14 +50,6 @@ any_in p (x ∷ xs) e = go (p x) refl e (λ rest. any_in p xs rest)
 
 pub any_of : {X : Type 0} (p : X → Bool) (xs : List X) (x : X) → Contains xs x → p x ≡ true → list_any p xs ≡ true
 any_of p xs x h e = list_any_at p xs h.0 x h.1 (ap p h.2 ∙ e)
-
-pub either : (a b : Bool) → b ≡ true → (a || b) ≡ true
-either true b e = refl
-either false b e = e
-
-pub first : (a b : Bool) → a ≡ true → (a || b) ≡ true
-first true b e = refl
-first false b e = absurd (false≢true e)
 
 -- ## births as they are
 

@@ -1,7 +1,7 @@
 -- The turn of a task whose system call names an earlier birth of a task. (Hubris Reference: task ids and generations.)
 use Rattle.words_core.specs.Regs.{program_counter}
-use Rattle.std.specs.Prelude.{ℕ, ◌≡◌, ◌≢◌, ◌+◌, ◌%◌, ◌^◌, ◌<◌, ◌≤◌, false, List, [], ◌∷◌, Some, Ok, slice_set}
-use Rattle.kernel_abi.specs.Arguments.{id_args}
+use Rattle.std.specs.Prelude.{ℕ, ◌≡◌, ◌≢◌, ◌+◌, ◌%◌, ◌^◌, ◌<◌, ◌≤◌, true, false, List, [], ◌∷◌, Some, Ok, slice_set}
+use Rattle.kernel_abi.specs.Arguments.{id_args, recv_args}
 use Rattle.kernel_abi.specs.Faults.{usage_fault}
 use Rattle.kernel_abi.specs.Ids.{index_of}
 use Rattle.kernel_abi.specs.declared.Fault.{Fault}
@@ -15,11 +15,17 @@ use Rattle.task_table.specs.State.{State}
 use Rattle.task_table.specs.Reading.{task_at, register, arguments, chosen, is_out, present_id, dead_code_for}
 use Rattle.task_table.specs.Effects.{with_results}
 use Rattle.task_table.specs.Sends.{last_reason}
+use Rattle.task_table.specs.Syscalls.{is_to_kernel}
 use Rattle.task_table.specs.DeadIds.{Calls, IsDeadId, MaySend, MayReceiveFrom, recipient, sender, client, lender, asked_lender, posted_to, reason}
 use Rattle.board_model.specs.declared.outcomes.Level.{Level}
 use Rattle.board_model.specs.Script.{Scenario}
 use Rattle.board_model.specs.Turn.{refusals, held, after_events, turn}
 use Rattle.board_model.specs.Faults.{ChangesNothingElse}
+
+-- a RECV of c is closed to a task
+pub record IsClosedTo (s : State) (c : ℕ) : Type 0 where
+  pub closed : (recv_args (arguments s c)).closed ≡ true
+  pub task : sender s c ≢ 0xFFFF
 
 -- in the turn after s task c is chosen, and the instruction that is fetched for it is the SVC of this system call
 pub record MakesCall (x : Scenario) (s : State) (c : ℕ) (call : Syscall) : Type 0 where
@@ -73,3 +79,20 @@ pub record IsDeadTurn (level : Level) (x : Scenario) (s : State) : Type 0 where
   pub no_reason : (c : ℕ) → let u = (after_events x s).state in MakesCall x s c ReplyFault → IsDeadId u (client u c) → last_reason < reason u c → OnlyFaults level x s c (usage_fault BadReason)
   -- of a task that is there, in whatever birth
   pub refresh : (c : ℕ) → let u = (after_events x s).state in MakesCall x s c RefreshTaskId → is_out u (old_id u c) ≡ false → OnlyAnswers level x s c (present_id u (index_of (old_id u c)) ∷ [])
+
+-- in the turn after s task c makes a system call that names an earlier birth of a task: a SEND to it, a RECV that is closed to it, a
+-- REPLY or REPLY_FAULT to it, a borrow from it or a POST to it
+pub data NamesDead (x : Scenario) (s : State) (c : ℕ) : Type 0 where
+  by_send : MakesCall x s c Send → is_to_kernel (after_events x s).state c ≡ false → IsDeadId (after_events x s).state (recipient (after_events x s).state c) → NamesDead x s c
+  by_recv : MakesCall x s c Recv → IsClosedTo (after_events x s).state c → IsDeadId (after_events x s).state (sender (after_events x s).state c) → NamesDead x s c
+  by_reply : MakesCall x s c Reply → IsDeadId (after_events x s).state (client (after_events x s).state c) → NamesDead x s c
+  by_reply_fault : MakesCall x s c ReplyFault → IsDeadId (after_events x s).state (client (after_events x s).state c) → NamesDead x s c
+  by_read : MakesCall x s c BorrowRead → IsDeadId (after_events x s).state (lender (after_events x s).state c) → NamesDead x s c
+  by_write : MakesCall x s c BorrowWrite → IsDeadId (after_events x s).state (lender (after_events x s).state c) → NamesDead x s c
+  by_info : MakesCall x s c BorrowInfo → IsDeadId (after_events x s).state (asked_lender (after_events x s).state c) → NamesDead x s c
+  by_post : MakesCall x s c Post → IsDeadId (after_events x s).state (posted_to (after_events x s).state c) → NamesDead x s c
+
+-- memory is after the turn as before it, and nothing was written
+pub record TouchesNoMemory (level : Level) (x : Scenario) (s : State) : Type 0 where
+  pub memory : (turn level x s).state.memory ≡ s.memory
+  pub writes : (turn level x s).writes ≡ []

@@ -3,13 +3,13 @@ use Rattle.std.specs.Prelude.{◌≡◌, ◌⊎◌, ℕ, zero, suc, ◌+◌, ◌
 use Rattle.kernel_abi.specs.declared.Note.{Note}
 use Rattle.kernel_abi.specs.declared.Note.TheVariants as note
 use Rattle.task_table.specs.State.{State}
-use Rattle.task_table.specs.Reading.{task_at, setup_at, chosen, IsIdle}
+use Rattle.task_table.specs.Reading.{task_at, chosen, IsIdle}
 use Rattle.board_model.specs.declared.outcomes.Level.{Level}
 use Rattle.board_model.specs.Script.{Scenario}
 use Rattle.board_model.specs.Turn.{after_events, turn}
 use Rattle.board_model.specs.Run.{turn_after, state_after}
 use Rattle.task_table.specs.Sane.{Sane}
-use Rattle.board_model.specs.Loners.{IsLoner, AreMadeAlike, HaveSameBytes, HaveSameOwn, IsUntouched, IsStruck, IsAtBirth}
+use Rattle.board_model.specs.Loners.{IsLoner, HaveSameRegions, AreMadeAlike, HaveSameBytes, HaveSameOwn, IsUntouched, IsStruck, IsAtBirth}
 
 -- the turn from this state is the task's own
 abbrev pub IsOwnTurn : Scenario → ℕ → State → Type 0
@@ -31,7 +31,7 @@ LeavesLoners level x s = (i : ℕ) → IsIdle s i → (IsOwnTurn x i s → ⊥) 
 -- loners in two states, perhaps of two images, with the same regions, registers, flags and bytes, that wait for nothing
 pub record AreAlike (x y : Scenario) (i j : ℕ) (s u : State) : Type 0 where
   pub loners : IsLoner x.setup i × IsLoner y.setup j
-  pub regions : (setup_at x.setup i).regions ≡ (setup_at y.setup j).regions
+  pub regions : HaveSameRegions x.setup y.setup i j
   pub registers : (task_at s i).registers ≡ (task_at u j).registers
   pub flags : (task_at s i).flags ≡ (task_at u j).flags
   pub bytes : HaveSameBytes x.setup i s u

@@ -62,6 +62,11 @@ unfoldable pub state_after : Level → Scenario → ℕ → State → State
 state_after level x zero s = s
 state_after level x (suc n) s = (turn_after level x n s).state
 
+-- the notes of the first n turns from a state
+unfoldable pub notes_after : Level → Scenario → ℕ → State → List Note
+notes_after level x zero s = []
+notes_after level x (suc n) s = notes_after level x n s ++ (turn_after level x n s).notes
+
 -- the run from a state, with at most so many turns
 unfoldable pub run : Level → Scenario → ℕ → State → Run
 run level x zero s = unless s (ending x 0 s) (ended_at s Bound)

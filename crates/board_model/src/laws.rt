@@ -1,10 +1,13 @@
 //! Laws of the board, each the contract of a function that does nothing.
 
-ghost use Rattle.std.specs.Prelude.{◌≡◌, ◌≢◌, ◌+◌, ◌<◌, ◌≤◌, ℕ, true, List, [], Option, Some, None, length, fold};
+ghost use Rattle.std.specs.Prelude.{◌≡◌, ◌≢◌, ◌+◌, ◌<◌, ◌≤◌, ℕ, true, List, [], Option, Some, None, Contains, length, fold};
 ghost use Rattle.kernel_abi.specs.declared.Fault.{Fault};
+ghost use Rattle.kernel_abi.specs.declared.Ending.{Ending};
 ghost use Rattle.kernel_abi.specs.declared.Note.{Note};
+ghost use Rattle.kernel_abi.specs.declared.Note.TheVariants as note;
 ghost use Rattle.run_script.specs.declared.events.Event.{Event};
 ghost use Rattle.run_script.specs.declared.events.Event.TheVariants.{Feed};
+ghost use Rattle.run_script.specs.Facts.{Facts};
 ghost use Rattle.run_script.specs.Scripts.{ScriptData, IsNext, events_of};
 ghost use Rattle.thumb_insn.specs.declared.Insn.{Insn};
 ghost use Rattle.thumb_insn.specs.Range.{IsCoded};
@@ -15,14 +18,15 @@ ghost use Rattle.task_table.specs.Start.{begun};
 ghost use Rattle.task_table.specs.Sane.{Sane, IsCounted};
 ghost use Rattle.task_table.specs.Chain.{Chain};
 ghost use Rattle.task_table.specs.Grounds.{AreReached};
+ghost use Rattle.task_table.specs.Lives.{IsClosed};
 ghost use Rattle.task_table.specs.Step.{Step};
 ghost use Rattle.board_model.specs.declared.outcomes.Level.{Level as Detail};
 ghost use Rattle.board_model.specs.Script.{Scenario, start_of};
 ghost use Rattle.board_model.specs.Turn.{effect_of, moved, noted_at, stepped, happened, after_events, with_current, turn_of, turn};
 ghost use Rattle.board_model.specs.Faults.{IsFaulting, IsSameButForFault, AreEntries};
-ghost use Rattle.board_model.specs.DeadCalls.{IsDeadTurn};
-ghost use Rattle.board_model.specs.Run.{is_down, end_at, ending};
-ghost use Rattle.board_model.specs.Lifetimes.{IsGroundedTurn, IsLedgerOfRun, devices_after};
+ghost use Rattle.board_model.specs.DeadCalls.{IsDeadTurn, NamesDead, TouchesNoMemory};
+ghost use Rattle.board_model.specs.Run.{is_down, end_at, ending, run, turn_after, state_after};
+ghost use Rattle.board_model.specs.Lifetimes.{IsUnused, IsGroundedTurn, ChangesOnGrounds, IsLedgerOfRun, IsOfTurns, devices_after};
 
 /// The turn of the chosen task, from where it is the current one, is a chain of steps: those of its
 /// instruction or of its system call's row, and what is noted besides.
@@ -44,11 +48,21 @@ pub fn who_is_chosen_is_ready()
 {}
 
 /// A turn counts itself, events change the time by at most a tick each, and so the counts are in order
-/// after each turn.
+/// after each turn of at most nine events, as each turn of a script that is read is.
 pub fn turns_keep_counts_in_order()
     ensures turn { (level : Detail) (x : Scenario) (s : State) → Sane x.setup s → (turn level x s).state.turn ≡ s.turn + 1 }
     ensures now { (g : Setup) (events : List Event) (t : Turn) → (fold (happened g) t events).state.now ≤ t.state.now + length events }
     ensures counted { (level : Detail) (x : Scenario) (s : State) → Sane x.setup s → length (events_of x.script s.turn) ≤ 9 → IsCounted s → IsCounted (turn level x s).state }
+    ensures of_scripts { (level : Detail) (x : Scenario) (s : State) → Sane x.setup s → Facts x.script → IsCounted s → IsCounted (turn level x s).state }
+{}
+
+/// So a run leaves its counts in order, where no turn of its script has more than nine events, as none of a script that is read
+/// has; and it starts so. It leaves the RAM as long as it was.
+pub fn runs_keep_counts_in_order()
+    ensures counted { (level : Detail) (x : Scenario) (n : ℕ) (s : State) → Sane x.setup s → ((turn : ℕ) → length (events_of x.script turn) ≤ 9) → IsCounted s → IsCounted (run level x n s).last }
+    ensures of_scripts { (level : Detail) (x : Scenario) (n : ℕ) (s : State) → Sane x.setup s → Facts x.script → IsCounted s → IsCounted (run level x n s).last }
+    ensures start { (x : Scenario) → IsCounted (start_of x) }
+    ensures ram { (level : Detail) (x : Scenario) (n : ℕ) (s : State) → Sane x.setup s → length (run level x n s).last.memory.ram ≡ length s.memory.ram }
 {}
 
 /// A turn that notes nothing leaves the choice: after it the same task is chosen as after its events, and
@@ -86,6 +100,28 @@ pub fn runs_keep_a_ledger()
     ensures { (level : Detail) (x : Scenario) (n : ℕ) → Sane x.setup (start_of x) → IsLedgerOfRun level x n }
 {}
 
+/// A run is its first turns, one after the other, as many as it makes: its last state is the one that these come to, and its notes
+/// are theirs. So what holds of each turn that follows a state holds of each turn of its runs.
+pub fn runs_are_turns_one_after_the_other()
+    ensures { (level : Detail) (x : Scenario) (n : ℕ) (s : State) → IsOfTurns level x n s }
+{}
+
+/// Each byte that a run changes lies on a ground. Where a byte of memory is after a turn of a run another one than before it, a
+/// task was chosen in that turn, and it may change this byte: one of its own regions, of the buffer of a task that listens and
+/// takes what it sends in this turn, or of the reply buffer or a lease that may be written of a call that it serves, whose client still
+/// waits for it, both being of the very births of which they were when the call was made. (Hubris Reference: IPC, leases.)
+pub fn each_byte_that_a_run_changes_lies_on_a_ground()
+    ensures { (level : Detail) (x : Scenario) (n : ℕ) (s : State) → Sane x.setup s → ChangesOnGrounds level x (state_after level x n s) }
+{}
+
+/// A closed call moves no byte. From the turn on that follows the one in which a run from the start notes that a call is closed, no
+/// byte is written on its ground, none is read for it, and no task takes it or borrows from it; and so it is from any state in which a
+/// call is closed. (Hubris Reference: leases.)
+pub fn a_closed_call_moves_no_byte()
+    ensures noted { (level : Detail) (x : Scenario) (n m k : ℕ) (ending : Ending) → Sane x.setup (start_of x) → Contains (turn_after level x n (start_of x)).notes (note.Close k ending) → n < m → IsUnused (turn_after level x m (start_of x)) k }
+    ensures closed { (level : Detail) (x : Scenario) (n k : ℕ) (s : State) → Sane x.setup s → IsClosed s k → IsUnused (turn_after level x n s) k × IsClosed (state_after level x n s) k }
+{}
+
 /// A fault changes nothing else. Where an instruction or a system call faults the task that was chosen, memory, the devices and
 /// all the registers and flags of the task are after the turn as they were after its events, nothing was written for another
 /// task, nor read of one but entries of lease tables, and of the other tasks only task 0 changes: by the post of its
@@ -103,6 +139,12 @@ pub fn faults_change_nothing_else()
 /// (Hubris Reference: task ids and generations.)
 pub fn turns_with_dead_ids_change_their_caller_alone()
     ensures { (level : Detail) (x : Scenario) (s : State) → Sane x.setup s → IsDeadTurn level x s }
+{}
+
+/// An outdated id touches no memory. In whatever turn of a run a task makes a system call that names an earlier birth of a task, be
+/// it answered, refused or overtaken by a notification: memory is as before, and nothing was written. (Hubris Reference: task ids and generations.)
+pub fn an_outdated_id_touches_no_memory()
+    ensures { (level : Detail) (x : Scenario) (n c : ℕ) (s : State) → Sane x.setup s → NamesDead x (state_after level x n s) c → TouchesNoMemory level x (state_after level x n s) }
 {}
 
 /// The moves of an instruction change nothing of a state but its memory and its devices, and what is noted changes none.

@@ -9,12 +9,15 @@ mod two_runs;
 
 pub use cuts::{generations_decide_what_is_seen, runs_go_on_from_a_cut};
 pub use laws::{
-    bytes_for_devices_keep_the_choice, faults_change_nothing_else,
-    faults_of_instructions_are_known, moves_change_memory_and_devices_alone, runs_keep_a_ledger,
-    turns_are_chains_of_steps, turns_keep_counts_in_order, turns_keep_sane, turns_left_end_no_run,
-    turns_reach_devices_where_they_may, turns_stand_on_their_grounds,
-    turns_with_dead_ids_change_their_caller_alone, turns_without_events_begin_at_once,
-    turns_without_notes_keep_the_choice, who_is_chosen_is_ready,
+    a_closed_call_moves_no_byte, an_outdated_id_touches_no_memory,
+    bytes_for_devices_keep_the_choice, each_byte_that_a_run_changes_lies_on_a_ground,
+    faults_change_nothing_else, faults_of_instructions_are_known,
+    moves_change_memory_and_devices_alone, runs_are_turns_one_after_the_other, runs_keep_a_ledger,
+    runs_keep_counts_in_order, turns_are_chains_of_steps, turns_keep_counts_in_order,
+    turns_keep_sane, turns_left_end_no_run, turns_reach_devices_where_they_may,
+    turns_stand_on_their_grounds, turns_with_dead_ids_change_their_caller_alone,
+    turns_without_events_begin_at_once, turns_without_notes_keep_the_choice,
+    who_is_chosen_is_ready,
 };
 pub use loners::{
     births_begin_alike, loners_decide_their_own_turns, loners_go_their_own_way,

@@ -32,7 +32,8 @@ pub fn others_leave_loners_alone()
 {}
 
 /// A loner's own turn goes by its registers, its flags and the bytes of its regions alone, where it makes no system call but
-/// PANIC: a loner of the same regions, in whatever other state of whatever other image, has the same after its own turn.
+/// PANIC: a loner of the same regions, in whatever order and in whatever other state of whatever other image, has the same after
+/// its own turn.
 pub fn loners_decide_their_own_turns()
     ensures { (level : Detail) (x : Scenario) (s : State) → Sane x.setup s → LonersDecide level x s }
 {}

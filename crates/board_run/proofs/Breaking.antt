@@ -22,7 +22,8 @@ use Rattle.board_run.specs.Text.{notes_text, end_text, trace_text}
 use Rattle.board_run.specs.Midway.{Midway}
 use Rattle.board_run.specs.Running.{BreaksOff, turn_lines}
 use Rattle.board_run.specs.Telling.{BreaksTelling, notes_in}
-use Rattle.board_run.proofs.Appending.{line_at, appends_more, part_fails, pushes_more}
+use Rattle.outside_io.proofs.Pushing.{appends_more, part_fails, pushes_more}
+use Rattle.board_run.proofs.Appending.{line_at}
 use Rattle.board_run.proofs.Going.{IsTurned, turns_seen, run_advances, turn_rest, told_notes, all_notes}
 
 module _ (level : Level) (x : Scenario) where

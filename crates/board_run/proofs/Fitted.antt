@@ -1,14 +1,16 @@
 -- Notes in range, one more and joined, and told in parts.
 use Rattle.std.proofs.Common.{ℕ, suc, zero, ◌+◌, ◌<◌, List, [], ◌∷◌, ◌++◌, length, take, get_or, Option, sym, subst, add-one, arith}
 use Rattle.std.specs.Io.KnownBytes.{Appends}
+use Rattle.std.specs.Prelude.{◌≡◌, Result, Ok, Err, MatchResult, refl}
 use Rattle.std.proofs.lemmas.List.Concat.{flat_map-append}
 use Rattle.kernel_abi.specs.declared.Note.{Note}
 use Rattle.trace_text.specs.Fit.{IsFit, IsFitNote, AreFit}
 use Rattle.trace_text.specs.Text.{line_of}
 use Rattle.board_model.specs.Run.{at_turn}
-use Rattle.board_run.specs.Telling.{HearsText}
+use Rattle.outside_io.specs.Outside.{AppendsFront, HasCause}
+use Rattle.board_run.specs.Telling.{BreaksText, HearsText}
 use Rattle.board_run.specs.Text.{notes_text}
-use Rattle.board_run.proofs.Appending.{appends_more}
+use Rattle.outside_io.proofs.Pushing.{appends_more, appends_none, front_more}
 
 pub fit_joined : (a b : List (ℕ × Note)) → AreFit a → AreFit b → AreFit (a ++ b)
 fit_joined [] b h k = k
@@ -29,3 +31,15 @@ hears_joined a b c f k m x y h i = record {
   later = let p = h.later in let q = i.later in omega arith;
   fit = fit_joined x y h.fit i.fit;
 }
+
+pub breaks_after : (a b c : Option (List ℕ)) (f k m : ℕ) (x y : List (ℕ × Note)) → HearsText a b f k x → BreaksText b c k m y → BreaksText a c f m (x ++ y)
+breaks_after a b c f k m x y h i = record {
+  pushed = subst (λ w. AppendsFront a c w) (sym (flat_map-append (λ n. line_of n.0 n.1) x y)) (front_more a b c (notes_text x) (notes_text y) h.pushed i.pushed);
+  later = let p = h.later in let q = i.later in omega arith;
+  rose = let p = h.later in let q = i.rose in omega arith;
+}
+
+-- what was told is passed on, and nothing more is told
+pub passed_on : {T E : Type 0} (w w' : Option (List ℕ)) (f f' : ℕ) (r : Result T E) → w' ≡ w → HasCause f f' r → MatchResult r (λ _. HearsText w w' f f' []) (λ _. BreaksText w w' f f' [])
+passed_on w w' f f' (Ok v) same h = record { pushed = subst (λ u. Appends w u []) (sym same) (appends_none w); later = h.later; fit = tt }
+passed_on w w' f f' (Err e) same h = record { pushed = ([], ([], refl), subst (λ u. Appends w u []) (sym same) (appends_none w)); later = h.later; rose = h.failed }

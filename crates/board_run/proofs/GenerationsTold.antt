@@ -1,15 +1,16 @@
 -- What is told of a state at the end of a run rests on its births modulo 64.
-use Rattle.std.proofs.Common.{◌≡◌, ◌∙◌, ℕ, ◌%◌, List, ◌++◌, Option, Some, None, refl, sym}
+use Rattle.std.proofs.Common.{◌≡◌, ◌∙◌, ℕ, ◌%◌, List, ◌++◌, Option, Some, None, refl, sym, ap}
 use Rattle.std.specs.Prelude.{option_map}
 use Rattle.std.specs.List.{flat_map, range_with_len}
 use Rattle.task_table.specs.State as kernel
 use Rattle.task_table.specs.State.{Setup, State, Task, Listen}
 use Rattle.task_table.specs.Reading.{task_at, call_of, listen_of}
 use Rattle.board_model.specs.declared.outcomes.End.{End}
+use Rattle.board_model.specs.Run.{Run}
 use Rattle.board_model.specs.Alike.{seen, seen_task, seen_call, seen_listen, reduced}
 use Rattle.board_model.proofs.Alike.{shown, task_alike, call_alike, listen_alike, count_alike, turn_alike, now_alike}
 use Rattle.board_model.proofs.GenerationsSeen.{shown_reduced}
-use Rattle.board_run.specs.Text.{task_line, low_text, high_text, task_lines, wait_text, task_text, end_line, end_text}
+use Rattle.board_run.specs.Text.{task_line, low_text, high_text, task_lines, wait_text, task_text, end_line, end_text, notes_text, trace_text}
 use Rattle.board_run.specs.MemoryText.{memory_text}
 
 abbrev births : ℕ → ℕ
@@ -59,3 +60,15 @@ end_reduced end s = end_same end (reduced s) s (shown_reduced s)
 pub memory_reduced : (g : Setup) (s : State) → memory_text g (reduced s) ≡ memory_text g s
 unfolding memory_text seen
 memory_reduced g s = refl
+
+-- ## a run
+
+-- what is told of two runs is the same where the notes and the end are, and where their last states are but for births
+module _ (r q : Run) (end : r.end ≡ q.end) (last : reduced r.last ≡ reduced q.last) where
+  pub text_alike : r.notes ≡ q.notes → trace_text r ≡ trace_text q
+  text_alike notes =
+      let same : end_text r.end r.last ≡ end_text q.end q.last = sym (end_reduced r.end r.last) ∙ (λ j. end_text (end j) (last j)) ∙ end_reduced q.end q.last in
+      λ j. notes_text (notes j) ++ same j
+
+  pub memory_alike : (g : Setup) → memory_text g r.last ≡ memory_text g q.last
+  memory_alike g = sym (memory_reduced g r.last) ∙ ap (memory_text g) last ∙ memory_reduced g q.last

@@ -1,5 +1,5 @@
 -- The run goes on by one turn, and ends.
-use Rattle.std.proofs.Common.{◌≡◌, ℕ, zero, suc, ◌+◌, ◌-◌, ◌*◌, ◌<◌, ◌≤◌, Bool, true, false, List, [], ◌∷◌, ◌++◌, length, Option, Some, None, refl, sym, ap, subst, ◌∙◌, append_assoc, length-append, arith, cond, ◌==◌}
+use Rattle.std.proofs.Common.{◌≡◌, ℕ, zero, suc, ◌+◌, ◌-◌, ◌*◌, ◌<◌, ◌≤◌, Bool, true, false, List, [], ◌∷◌, ◌++◌, length, Option, Some, None, refl, sym, ap, subst, ◌∙◌, length-append, arith, cond, ◌==◌}
 use Rattle.std.proofs.lemmas.List.{append-nil}
 use Rattle.std.proofs.lemmas.Bool.Decides.{nat_tests}
 use Rattle.kernel_abi.specs.declared.Note.{Note}
@@ -20,6 +20,7 @@ use Rattle.board_model.proofs.TurnChains.{sane-after}
 use Rattle.task_table.specs.Sane.{Sane}
 use Rattle.board_run.specs.Midway.{Midway}
 use Rattle.board_run.specs.Running.{StandsMidway, end_within}
+use Rattle.board_model.proofs.RunCuts.{fronts}
 
 -- the turn number of a board is that of the states for which it stands
 pub turns_seen : {X : Type 0} {H : X → Type 0} (shown : Shows X H) (x : Scenario) (b : Board X H) (s : State) → Stands shown x b s → s.turn ≡ turns_of b
@@ -73,9 +74,6 @@ turns_after level x (suc n) t h =
     let more = turn_more level x (turn_after level x n t).state (sane_after level x n t h) in
     let before = turns_after level x n t h in
     omega (arith, more, before)
-
-fronts : (a b : List (ℕ × Note)) (r : Run) → with_front a (with_front b r) ≡ with_front (a ++ b) r
-fronts a b r = ap (λ (ns : List (ℕ × Note)). record r { notes = ns }) (sym (append_assoc a b r.notes))
 
 -- the end under a bound is that of the definition
 by_tests : (down still : Bool) (left : ℕ) → end_within (cond down (Some Supervisor) (cond still (Some Still) None)) left ≡ end_by down left still

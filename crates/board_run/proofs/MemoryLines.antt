@@ -48,18 +48,10 @@ next_place test [] i d lt e = absurd (omega arith)
 next_place test (x ∷ xs) zero d lt e = ap (λ (b : Bool). cond b (Some x) (find test xs)) e
 next_place test (x ∷ xs) (suc i) d lt e = next_place test xs i d (omega arith) e
 
-pub find_next : {X : Type 0} (test : X → Bool) (xs : List X) (i : ℕ) (d : X) → i < length xs → test (get_or xs i d) ≡ false → find test (drop i xs) ≡ find test (drop (i + 1) xs)
-find_next test xs i d lt e = rw add-one (next_place test xs i d lt e)
-
 pub find_at : {X : Type 0} (test : X → Bool) (xs : List X) (i : ℕ) (d : X) → i < length xs → test (get_or xs i d) ≡ true → find test (drop i xs) ≡ Some (get_or xs i d)
 find_at test [] i d lt e = absurd (omega arith)
 find_at test (x ∷ xs) zero d lt e = ap (λ (b : Bool). cond b (Some x) (find test xs)) e
 find_at test (x ∷ xs) (suc i) d lt e = find_at test xs i d (omega arith) e
-
-pub find_end : {X : Type 0} (test : X → Bool) (xs : List X) (i : ℕ) → length xs ≡ i → find test (drop i xs) ≡ None
-find_end test [] i e = rw (← e) refl
-find_end test (x ∷ xs) zero e = absurd (omega (arith, e))
-find_end test (x ∷ xs) (suc i) e = find_end test xs i (omega (arith, e))
 
 -- ## a test of each number of a range
 

@@ -17,7 +17,8 @@ use Rattle.board_run.specs.Text.{task_line, low_text, high_text, task_lines, tas
 use Rattle.trace_text.specs.Fit.{IsFitTimer}
 use Rattle.board_run.specs.Timers.{AreFitTimers}
 use Rattle.board_run.specs.ViewText.{view_text, wait_words, timer_of}
-use Rattle.board_run.proofs.Appending.{appends_more, range_more, range_fails}
+use Rattle.outside_io.proofs.Pushing.{appends_more}
+use Rattle.board_run.proofs.Appending.{range_more, range_fails}
 
 -- what a task waits for reads the same as told by the board and by the state
 words_are : (c : Option kernel.Call) (l : Option Listen) → wait_words (wait_of c l) ≡ wait_text c l

@@ -1,17 +1,21 @@
 //! Laws of the text of a run's last state and memory. Nothing runs here.
 
-ghost use Rattle.std.specs.Prelude.{◌≡◌, List};
+ghost use Rattle.std.specs.Prelude.{◌≡◌, ℕ, List};
 ghost use Rattle.std.specs.List.{flat_map};
 ghost use Rattle.region_check.specs.declared.Region.{Region};
 ghost use Rattle.image_format.specs.Picture.{Picture};
 ghost use Rattle.image_format.specs.Facts.{Facts};
 ghost use Rattle.task_table.specs.State.{Setup, State};
+ghost use Rattle.task_table.specs.Sane.{Sane};
 ghost use Rattle.board_model.specs.declared.outcomes.End.{End as Ending};
+ghost use Rattle.board_model.specs.declared.outcomes.Level.{Level as Detail};
 ghost use Rattle.board_model.specs.Alike.{reduced};
+ghost use Rattle.board_model.specs.Run.{run};
+ghost use Rattle.board_model.specs.Script.{Scenario};
 ghost use Rattle.board_core.specs.Opened.{setup_of_image};
 ghost use Rattle.board_run.specs.MemoryText.{memory_text, region_text};
 ghost use Rattle.board_run.specs.Regions.{HasRamRegions, ListsRam};
-ghost use Rattle.board_run.specs.Text.{end_text};
+ghost use Rattle.board_run.specs.Text.{end_text, trace_text};
 
 /// The memory text of a state tells each region of RAM once, by ascending base (docs/FORMATS.md, Memories): it is the
 /// texts of the regions of a list, the same for every state, which has all of them. Said of setups whose regions in RAM
@@ -22,8 +26,11 @@ pub fn memories_have_each_region_once()
 {}
 
 /// What is told of a state at the end of a run rests on its births modulo 64: a task's lines tell its generation, and of what it
-/// waits for no birth; the lines of memory tell none. (docs/FORMATS.md, Trace and Memories.)
+/// waits for no birth; the lines of memory tell none. So the runs from a sane state and from the same with its births modulo 64
+/// have one text, and their memories too. (docs/FORMATS.md, Trace and Memories.)
 pub fn generations_decide_what_is_told()
     ensures end { (end : Ending) (s : State) → end_text end (reduced s) ≡ end_text end s }
     ensures memory { (g : Setup) (s : State) → memory_text g (reduced s) ≡ memory_text g s }
+    ensures text { (level : Detail) (x : Scenario) (n : ℕ) (s : State) → Sane x.setup s → trace_text (run level x n (reduced s)) ≡ trace_text (run level x n s) }
+    ensures last { (level : Detail) (x : Scenario) (n : ℕ) (s : State) → Sane x.setup s → memory_text x.setup (run level x n (reduced s)).last ≡ memory_text x.setup (run level x n s).last }
 {}

@@ -1,11 +1,11 @@
 //! The loop over turns.
-ghost use Rattle.std.specs.Prelude.{◌≡◌, ◌≤◌, ◌<◌, ◌-◌, ◌*◌, length, IfOk, OnOk, OnErr, IsNone, None};
+ghost use Rattle.std.specs.Prelude.{◌≡◌, ◌≢◌, [], ◌≤◌, ◌<◌, ◌+◌, ◌-◌, ◌*◌, length, min, IfOk, MatchResult, OnOk, OnErr, IsNone, None};
 ghost use Rattle.outside_io.specs.Outside.{Pushes, HasCause};
 ghost use Rattle.task_table.specs.State.{State};
 ghost use Rattle.board_model.specs.Script.{Scenario, start_of};
-ghost use Rattle.board_core.specs.Stands.{Stands, Stood, turns_of};
+ghost use Rattle.board_core.specs.Stands.{Stands, Stood, notes_of, turns_of};
 ghost use Rattle.board_core.specs.Data.{boxed};
-ghost use Rattle.board_model.specs.Run.{run, ending};
+ghost use Rattle.board_model.specs.Run.{at_turn, run, ending};
 ghost use Rattle.board_model.specs.Lifetimes.{IsLedgerOfRun};
 ghost use Rattle.task_table.specs.Limits.{turn_notes};
 ghost use Rattle.trace_text.specs.Fit.{AreFit};
@@ -50,7 +50,54 @@ pub fn ending(board: &Board, limit: u32) -> Option<End>
     end_within(board.ended(), limit - board.turns())
 }
 
-/// Turns up to the end of the run, each of which is told at a level. After a failure to tell no further turn is made.
+// What was told may be held back for so many turns: few enough that it can be read within milliseconds, and enough that
+// passing it on costs nothing beside them.
+const TURNS_HELD_BACK: u32 = 65_536;
+
+// How many turns are made, at most `limit`, when what is held back from here on is to be passed on.
+fn due_after(turns: u32, limit: u32) -> u32
+    ensures { result ≡ min (turns + 65536) limit }
+{
+    turns.saturating_add(TURNS_HELD_BACK).min(limit)
+}
+
+// Tells the notes of the last turn, and passes on what is held back where it is due. Answers when that is next due: at
+// `limit` while nothing is held back.
+fn tell_last<T: Teller>(
+    board: &Board,
+    due: u32,
+    limit: u32,
+    lines: &mut TurnLines,
+    teller: &mut T,
+) -> Result<u32, Failed>
+    requires made { 0 < turns_of board.now }
+    requires within { due ≤ limit }
+    ensures told { MatchResult result
+        (λ _. T.heard teller.old (at_turn (turns_of board.now - 1) (notes_of board.now)) teller.new)
+        (λ _. T.broke teller.old (at_turn (turns_of board.now - 1) (notes_of board.now)) teller.new) }
+    ensures within { IfOk result (λ next. next ≤ limit) }
+    ensures later { IfOk result (λ next. turns_of board.now < limit → turns_of board.now < next) }
+
+    // What is told while nothing is held back is due soon, and stays due until then.
+    ensures soon { IfOk result (λ next. turns_of board.now < due → due ≡ limit → notes_of board.now ≢ [] → next ≡ min (turns_of board.now + 65536) limit) }
+    ensures stays { IfOk result (λ next. turns_of board.now < due → due < limit → next ≡ due) }
+{
+    T::hears_in_parts();
+    let turns = board.turns();
+    let notes = board.notes();
+    teller.tell(turns - 1, notes, lines)?;
+    if turns >= due {
+        teller.pass_on()?;
+        return Ok(limit);
+    }
+    if due == limit && !notes.is_empty() {
+        return Ok(due_after(turns, limit));
+    }
+    Ok(due)
+}
+
+/// Turns up to the end of the run, each of which is told at a level, and is passed on by 65,536 turns later. After a
+/// failure to tell no further turn is made.
 ///
 /// # Errors
 ///
@@ -86,13 +133,14 @@ pub fn play<T: Teller>(
 {
     T::hears_in_parts();
     let mut lines = TurnLines::new(0);
+    let mut due = limit;
     'turns: loop {
         match ending(board, limit) {
             Some(end) => return Ok(end),
             None => {}
         }
-        board.advance(level, limit);
-        teller.tell(board.turns() - 1, board.notes(), &mut lines)?;
+        board.advance(level, due);
+        due = tell_last(board, due, limit, &mut lines, teller)?;
     }
 }
 

@@ -20,5 +20,9 @@ impl Teller for Nobody {
         Ok(())
     }
 
+    fn pass_on(&mut self) -> Result<(), Failed> {
+        Ok(())
+    }
+
     fn hears_in_parts() {}
 }

@@ -24,10 +24,16 @@ pub trait Teller {
     fn tell(&mut self, turn: u32, notes: &[Note], lines: &mut TurnLines) -> Result<(), Failed>
         ensures { MatchResult result (λ _. heard self.old (at_turn turn notes.now) self.new) (λ _. broke self.old (at_turn turn notes.now) self.new) };
 
-    /// Where nothing is told, nothing changes, and notes may be told in parts. It does nothing, and is a law.
+    /// Passes on what was told and is held back. Nothing is told.
+    fn pass_on(&mut self) -> Result<(), Failed>
+        ensures { MatchResult result (λ _. heard self.old [] self.new) (λ _. broke self.old [] self.new) };
+
+    /// Where nothing is told, nothing changes, and notes may be told in parts. A failure after some is one of all. It
+    /// does nothing, and is a law.
     fn hears_in_parts()
         ensures nothing { (t : Self) → heard t [] t }
-        ensures parts { (t u v : Self) (a b : List (ℕ × Noted)) → heard t a u → heard u b v → heard t (a ++ b) v };
+        ensures parts { (t u v : Self) (a b : List (ℕ × Noted)) → heard t a u → heard u b v → heard t (a ++ b) v }
+        ensures fails { (t u v : Self) (a b : List (ℕ × Noted)) → heard t a u → broke u b v → broke t (a ++ b) v };
 }
 
 /// A sink is told the text of the notes, a line and a push each.
@@ -38,6 +44,10 @@ impl<S: Sink> Teller for S {
 
     fn tell(&mut self, turn: u32, notes: &[Note], lines: &mut TurnLines) -> Result<(), Failed> {
         push_notes(turn, notes, lines, self)
+    }
+
+    fn pass_on(&mut self) -> Result<(), Failed> {
+        self.flush()
     }
 
     fn hears_in_parts() {}

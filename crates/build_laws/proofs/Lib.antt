@@ -2,3 +2,11 @@ pub mod Arranging
 pub mod Filling
 pub mod OneImage
 pub mod OnePicture
+mod Free
+mod Cards
+mod Supervisor
+mod Servers
+mod Clients
+mod Symbols
+mod Each
+pub mod Build

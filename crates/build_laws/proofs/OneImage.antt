@@ -11,20 +11,13 @@ use Rattle.thumb_asm.specs.Meaning.{Env}
 use Rattle.image_build.specs.Built.{Built, HasProgram, flash_byte, given, picture_built, source_at}
 use Rattle.image_build.specs.Layout.{flash_base, flash_needed, flash_sizes, flash_wanted, no_task, task_at}
 use Rattle.build_laws.proofs.Filling.{filled}
+use Rattle.image_build.proofs.Planning.{flash_size, flash_count}
 
 -- the source of the i-th task assembles to one code
 abbrev pub HasOneCode : AppData → List (List ℕ) → ℕ → Type 0
 HasOneCode app sources i = (code code' : List ℕ) (labels labels' : Env)
     → Assembles (lines_of (source_at sources i)) (flash_base app i) (given app i) code labels
     → Assembles (lines_of (source_at sources i)) (flash_base app i) (given app i) code' labels' → code ≡ code'
-
--- each task has its size
-tasks_counted : (app : AppData) → length (flash_sizes app) ≡ length app.tasks
-tasks_counted app = length-map (flash_wanted app) rounded ∙ length-map app.tasks (λ t. t.flash)
-
-size_is : (app : AppData) (i : ℕ) → i < length app.tasks → get_or (flash_sizes app) i 0 ≡ rounded (task_at app i).flash
-size_is app i below = get_or-map rounded (flash_wanted app) i 0 0 (omega (arith, below, length-map app.tasks (λ t. t.flash)))
-    ∙ ap rounded (get_or-map (λ t. t.flash) app.tasks i no_task 0 below)
 
 -- two flashes with programs of one source have the same bytes there
 one_program : (app : AppData) (sources : List (List ℕ)) (i : ℕ) (flash flash' : List ℕ) → HasOneCode app sources i
@@ -47,10 +40,10 @@ one_byte : (app : AppData) (sources : List (List ℕ)) (flash flash' : List ℕ)
     → (j : ℕ) → j < flash_needed app → get_or flash j 0 ≡ get_or flash' j 0
 one_byte app sources flash flash' once p q j below =
     let (i, lies) = filled 0x08000000 (flash_sizes app) (0x08000000 + j) (omega arith) (omega (arith, below)) in
-    let index : i < length app.tasks = omega (arith, lies.index, tasks_counted app) in
+    let index : i < length app.tasks = omega (arith, lies.index, flash_count app) in
     let k : ℕ = 0x08000000 + j - flash_base app i in
     let there : flash_base app i - 0x08000000 + k ≡ j = offset 0x08000000 (flash_base app i) k j (from_start 0x08000000 (flash_sizes app) i) lies.low refl in
-    let inside : k < rounded (task_at app i).flash = omega (arith, lies.low, lies.high, size_is app i index) in
+    let inside : k < rounded (task_at app i).flash = omega (arith, lies.low, lies.high, flash_size app i index) in
     let same : flash_byte app i flash k ≡ flash_byte app i flash' k = one_program app sources i flash flash' (once i index) (p i index) (q i index) k inside in
     ap (λ (n : ℕ). get_or flash n 0) (sym there) ∙ same ∙ ap (λ (n : ℕ). get_or flash' n 0) there
 

@@ -1,5 +1,7 @@
-//! Laws that stand over the definitions of plans and of images. Nothing runs here.
+//! Laws that stand over the definitions of plans, of images that are built, and of the large sample. Nothing runs here.
 #![tactic(auto)]
+
+mod sample;
 
 ghost use Rattle.std.specs.Prelude.{◌≡◌, ℕ, List, ◌+◌, ◌≤◌, ◌<◌};
 ghost use Rattle.app_toml.specs.Apps.{AppData};
@@ -7,6 +9,8 @@ ghost use Rattle.image_build.specs.Built.{Built};
 ghost use Rattle.image_format.specs.Picture.{Picture};
 ghost use Rattle.mem_plan.specs.Sizes.{total};
 ghost use Rattle.build_laws.specs.Filling.{LiesIn};
+
+pub use sample::{board_is_full, build_is_not_refused, sources_are_taken};
 
 /// The regions of a plan leave no gap: every byte of the room that the sizes need lies in one of
 /// them.

@@ -1,6 +1,7 @@
 -- What `clap`'s answer says of the words.
 use Rattle.std.proofs.Common.{◌≡◌, ◌∙◌, ap, sym, refl, true, false, List, [], ◌∷◌, Option, Some, None, option_map, inl, inr, rules, Box, Global}
 use Rattle.std.specs.Box.{box_value}
+use Rattle.std.proofs.lemmas.Bool.{and_left}
 use Rattle.clap.specs.Words.{App, HasKind, HasMatchesOf, Kinds, Row, Text, fault_of, is_simple, is_simple_and_free, kind_of, subcommand_name_of, subcommand_of, subcommand_rows, subcommand_rows_of}
 use Rattle.clap.specs.declared.Error.{Error}
 use Rattle.clap.specs.declared.error.ErrorKind.TheVariants as kind
@@ -23,11 +24,11 @@ some_kind (k ∷ ks) e h other = refl
 pub not_accepted : (a : App) (ws : List Text) (e : Error) → a ≡ hubris_app → (is_simple_and_free a ≡ true → HasKind (fault_of a ws) e)
     → (kind_of e ≡ kind.OutOfMemory → ⊥) → is_accepted ws ≡ false
 not_accepted a ws e is h other =
-    ap (λ (x : App). has_none (fault_of x ws)) (sym is) ∙ some_kind (fault_of a ws) e (h (ap is_simple_and_free is ∙ is_free)) other
+    and_left _ _ (ap (λ (x : App). has_none (fault_of x ws)) (sym is) ∙ some_kind (fault_of a ws) e (h (ap is_simple_and_free is ∙ is_free)) other)
 
--- an `Ok` comes only at words that are accepted
-pub accepted : (a : App) (ws : List Text) → a ≡ hubris_app → (is_simple_and_free a ≡ true → fault_of a ws ≡ []) → is_accepted ws ≡ true
-accepted a ws is h = ap (λ (x : App). has_none (fault_of x ws)) (sym is) ∙ ap has_none (h (ap is_simple_and_free is ∙ is_free))
+-- an `Ok` comes only at words that no step of clap's reading refuses
+pub unrefused : (a : App) (ws : List Text) → a ≡ hubris_app → (is_simple_and_free a ≡ true → fault_of a ws ≡ []) → has_none (fault_of hubris_app ws) ≡ true
+unrefused a ws is h = ap (λ (x : App). has_none (fault_of x ws)) (sym is) ∙ ap has_none (h (ap is_simple_and_free is ∙ is_free))
 
 pub none_left : (kinds : Kinds) → has_none kinds ≡ true → kinds ≡ []
 none_left [] e = refl

@@ -14,11 +14,11 @@ use Rattle.clap.specs.Facts.{parser_of_value}
 use Rattle.clap.specs.Walk.{first_of, Row, Rule, Text, nothing_held, one_of, rows_after, walk}
 use Rattle.clap.specs.Simple.{App, Shape, argument_words, built, entered, names_of, new_rule, new_shape, subcommand_of}
 use Rattle.clap.specs.Kinds.{value_kinds}
-use Rattle.clap.specs.Faults.{entered_fault, level_fault}
+use Rattle.clap.specs.Faults.{entered_fault, fault_of, level_fault}
 use Rattle.clap.specs.declared.builder.value_parser.ValueParser.{ValueParser}
 use Rattle.clap.specs.declared.builder.value_parser.ValueParser.TheVariants as parser
 use Rattle.clap.proofs.ValueTestLemmas.{accepts-Accepts, Accepts-accepts}
-use Rattle.command_line.specs.CommandLine.{hubris_app, is_accepted, most_seed, most_steps, number_parser}
+use Rattle.command_line.specs.CommandLine.{has_none, hubris_app, most_seed, most_steps, number_parser}
 use Rattle.command_line.specs.Required.{HasText, IsNumber, IsSwitch, IsWhole}
 use Rattle.command_line.proofs.Accepting.{none_left}
 use Rattle.command_line.proofs.Rows.{Each, Sure}
@@ -248,26 +248,30 @@ debug_whole words e =
     let s = shape_at 9 in
     let rows = rows_after s.rules [] words in
     let d = leaf s words debug_sure refl e in
-    inr (inr (inr (inr (inr (inr (inr (inr (inr (
+    inr (inr (inr (inr (inr (inr (inr (inr (inr (inl (
       refl,
       record {
         image = text (rule_at s 0) rows (has_given s.rules (rule_at s 0) rows d.good refl (d.given.0 refl));
         script = text (rule_at s 1) rows (has_given s.rules (rule_at s 1) rows d.good refl (d.given.1.0 refl));
         commands = text (rule_at s 2) rows (has_given s.rules (rule_at s 2) rows d.good refl (d.given.1.1.0 refl));
       },
-    )))))))))
+    ))))))))))
+
+-- `help` wants nothing
+help_whole : (words : List Text) → entered_fault app (Some (codes "help", words)) ≡ [] → IsWhole (entered app (Some (codes "help", words)))
+help_whole words e = inr (inr (inr (inr (inr (inr (inr (inr (inr (inr refl)))))))))
 
 -- ---- the program
 
 -- the name of one of its commands
 abbrev IsCommand : Text → Type 0
-IsCommand name = (name ≡ codes "build") ⊎ ((name ≡ codes "run") ⊎ ((name ≡ codes "go") ⊎ ((name ≡ codes "list") ⊎ ((name ≡ codes "sample") ⊎ ((name ≡ codes "migrate") ⊎ ((name ≡ codes "audit") ⊎ ((name ≡ codes "save") ⊎ ((name ≡ codes "resume") ⊎ (name ≡ codes "debug")))))))))
+IsCommand name = (name ≡ codes "build") ⊎ ((name ≡ codes "run") ⊎ ((name ≡ codes "go") ⊎ ((name ≡ codes "list") ⊎ ((name ≡ codes "sample") ⊎ ((name ≡ codes "migrate") ⊎ ((name ≡ codes "audit") ⊎ ((name ≡ codes "save") ⊎ ((name ≡ codes "resume") ⊎ ((name ≡ codes "debug") ⊎ (name ≡ codes "help"))))))))))
 
 top_sure : Each (Sure app.top.rules) app.top.rules
 top_sure = (record { known = refl; sure = refl }, tt)
 
 own : Each (λ n. asks_for_help app.top n.0 ≡ false → IsCommand n.0) (names_of app)
-own = ((λ _. inl refl), ((λ _. inr (inl refl)), ((λ _. inr (inr (inl refl))), ((λ _. inr (inr (inr (inl refl)))), ((λ _. inr (inr (inr (inr (inl refl))))), ((λ _. inr (inr (inr (inr (inr (inl refl)))))), ((λ _. inr (inr (inr (inr (inr (inr (inl refl))))))), ((λ _. inr (inr (inr (inr (inr (inr (inr (inl refl)))))))), ((λ _. inr (inr (inr (inr (inr (inr (inr (inr (inl refl))))))))), ((λ _. inr (inr (inr (inr (inr (inr (inr (inr (inr refl))))))))), ((λ e. cc), tt)))))))))))
+own = ((λ _. inl refl), ((λ _. inr (inl refl)), ((λ _. inr (inr (inl refl))), ((λ _. inr (inr (inr (inl refl)))), ((λ _. inr (inr (inr (inr (inl refl))))), ((λ _. inr (inr (inr (inr (inr (inl refl)))))), ((λ _. inr (inr (inr (inr (inr (inr (inl refl))))))), ((λ _. inr (inr (inr (inr (inr (inr (inr (inl refl)))))))), ((λ _. inr (inr (inr (inr (inr (inr (inr (inr (inl refl))))))))), ((λ _. inr (inr (inr (inr (inr (inr (inr (inr (inr (inl refl)))))))))), ((λ _. inr (inr (inr (inr (inr (inr (inr (inr (inr (inr refl)))))))))), tt)))))))))))
 
 command_whole : (name : Text) (words : List Text) → IsCommand name → entered_fault app (Some (name, words)) ≡ [] → IsWhole (entered app (Some (name, words)))
 command_whole name words (inl is) = subst (λ n. entered_fault app (Some (n, words)) ≡ [] → IsWhole (entered app (Some (n, words)))) (sym is) (build_whole words)
@@ -279,14 +283,16 @@ command_whole name words (inr (inr (inr (inr (inr (inl is)))))) = subst (λ n. e
 command_whole name words (inr (inr (inr (inr (inr (inr (inl is))))))) = subst (λ n. entered_fault app (Some (n, words)) ≡ [] → IsWhole (entered app (Some (n, words)))) (sym is) (audit_whole words)
 command_whole name words (inr (inr (inr (inr (inr (inr (inr (inl is)))))))) = subst (λ n. entered_fault app (Some (n, words)) ≡ [] → IsWhole (entered app (Some (n, words)))) (sym is) (save_whole words)
 command_whole name words (inr (inr (inr (inr (inr (inr (inr (inr (inl is))))))))) = subst (λ n. entered_fault app (Some (n, words)) ≡ [] → IsWhole (entered app (Some (n, words)))) (sym is) (resume_whole words)
-command_whole name words (inr (inr (inr (inr (inr (inr (inr (inr (inr is))))))))) = subst (λ n. entered_fault app (Some (n, words)) ≡ [] → IsWhole (entered app (Some (n, words)))) (sym is) (debug_whole words)
+command_whole name words (inr (inr (inr (inr (inr (inr (inr (inr (inr (inl is)))))))))) = subst (λ n. entered_fault app (Some (n, words)) ≡ [] → IsWhole (entered app (Some (n, words)))) (sym is) (debug_whole words)
+command_whole name words (inr (inr (inr (inr (inr (inr (inr (inr (inr (inr is)))))))))) = subst (λ n. entered_fault app (Some (n, words)) ≡ [] → IsWhole (entered app (Some (n, words)))) (sym is) (help_whole words)
 
 stopped : (stop : Option (Text × List Text)) → IfSome stop (λ p. IsCommand p.0) → entered_fault app stop ≡ [] → is_some (entered app stop) ≡ true
     → IsWhole (entered app stop)
 stopped None is e some = cc
 stopped (Some p) is e some = command_whole p.0 p.1 is e
 
-pub whole : (words : List Text) → is_accepted words ≡ true → IsWhole (subcommand_of hubris_app words)
+-- where no step of clap's reading refuses the words
+pub whole : (words : List Text) → has_none (fault_of hubris_app words) ≡ true → IsWhole (subcommand_of hubris_app words)
 whole words accepted =
     let rest = argument_words hubris_app words in
     let stop = (walk app.top.rules (names_of app) nothing_held rest).stopped in

@@ -1,6 +1,6 @@
 -- What a job of the code asks for.
 use Rattle.std.specs.Prelude.{ℕ}
-use Rattle.command_line.specs.CommandLine.{Asked, build, run, go, list, sample, migrate, audit, save, resume, debug}
+use Rattle.command_line.specs.CommandLine.{Asked, build, run, go, list, sample, migrate, audit, save, resume, debug, help}
 use Rattle.command_line.specs.declared.job.Job.{Job}
 use Rattle.command_line.specs.declared.job.Job.TheVariants as job
 
@@ -15,6 +15,7 @@ asked (job.Audit trace) = audit trace.now
 asked (job.Save image script out steps) = save image.now script.now out.now steps
 asked (job.Resume image script state steps detail) = resume image.now script.now state.now steps detail
 asked (job.Debug image script commands) = debug image.now script.now commands.now
+asked (job.Help about) = help about
 
 -- how many turns it may take
 abbrev pub steps_of : Job → ℕ
@@ -28,3 +29,4 @@ steps_of (job.Audit trace) = 0
 steps_of (job.Save image script out steps) = steps
 steps_of (job.Resume image script state steps detail) = steps
 steps_of (job.Debug image script commands) = 0
+steps_of (job.Help about) = 0

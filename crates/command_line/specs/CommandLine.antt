@@ -2,7 +2,7 @@
 -- docs/FORMATS.md, Command line. How a definition reads words is the crate `clap`'s own: its
 -- specs/Simple.antt (what building adds), specs/Walk.antt (the walk over the words) and
 -- specs/Faults.antt (what is refused).
-use Rattle.std.specs.Prelude.{ℕ, Bool, pos, true, false, List, [], ◌∷◌, Option, Some, codes, unwrap_or, option_map, option_and_then, find, map}
+use Rattle.std.specs.Prelude.{ℕ, Bool, ◌&&◌, pos, true, false, List, [], ◌∷◌, Option, Some, None, codes, unwrap_or, is_some, option_map, option_and_then, find, map}
 use Rattle.std.specs.Str.{bytes_eq}
 use Rattle.std.specs.Str.Parse.{digits_value, without_leading_plus}
 use Rattle.clap.specs.Walk.{Row, Rule, Text, first_of, one_of}
@@ -12,6 +12,8 @@ use Rattle.clap.specs.Kinds.{Kinds}
 use Rattle.clap.specs.declared.builder.action.ArgAction.TheVariants.{SetTrue}
 use Rattle.clap.specs.declared.builder.value_parser.ValueParser.{ValueParser}
 use Rattle.clap.specs.declared.builder.value_parser.ValueParser.TheVariants as parser
+use Rattle.command_line.specs.declared.job.CommandName.{CommandName}
+use Rattle.command_line.specs.declared.job.CommandName.TheVariants as command
 use Rattle.command_line.specs.declared.job.Detail.{Detail}
 
 -- ---- what clap is told
@@ -71,7 +73,8 @@ number_in id rows = number_of (unwrap_or (one_of id rows) [])
 -- notes are counted; to write an image in the form of today, and the name of that file; whether a trace
 -- holds together; the state of a run of an image with a script after so many turns at most, and the name of that
 -- file; the run of an image with a script from the state in a file, up to so many turns, and in which detail it is
--- told; the commands in a file, carried out over the run of an image with a script.
+-- told; the commands in a file, carried out over the run of an image with a script; what the commands are, or what
+-- one of them takes and answers.
 pub data Asked : Type 0 where
   build : Text → Text → Asked
   run : Text → Text → ℕ → Detail → Asked
@@ -83,23 +86,24 @@ pub data Asked : Type 0 where
   save : Text → Text → Text → ℕ → Asked
   resume : Text → Text → Text → ℕ → Detail → Asked
   debug : Text → Text → Text → Asked
+  help : Option CommandName → Asked
 
 -- `--all` and `--mem`
 abbrev pub detail_in : List Row → Detail
 detail_in rows = record { instructions = is_set (codes "all") rows; memory = is_set (codes "mem") rows }
 
--- the form of a command: its name, its arguments, and what they ask for
+-- the form of a command: its name, its arguments, and what they ask for, if they ask for anything
 pub record Form : Type 0 where
   pub name : Text
   pub rules : List Rule
-  pub asks : List Row → Asked
+  pub asks : List Row → Option Asked
 
 -- `build APP OUT`
 abbrev pub build_form : Form
 build_form = record {
   name = codes "build";
   rules = positional_rule (codes "app") ∷ positional_rule (codes "out") ∷ [];
-  asks = λ rows. build (text_in (codes "app") rows) (text_in (codes "out") rows);
+  asks = λ rows. Some (build (text_in (codes "app") rows) (text_in (codes "out") rows));
 }
 
 -- what a command that runs something asks for: of which subject, with which script, for how many turns
@@ -112,7 +116,7 @@ abbrev pub running_form : Text → Text → Running → Form
 running_form name subject asked = record {
   name = name;
   rules = positional_rule subject ∷ positional_rule (codes "script") ∷ steps_rule ∷ flag_rule (codes "all") ∷ flag_rule (codes "mem") ∷ [];
-  asks = λ rows. asked (text_in subject rows) (text_in (codes "script") rows) (number_in (codes "steps") rows) (detail_in rows);
+  asks = λ rows. Some (asked (text_in subject rows) (text_in (codes "script") rows) (number_in (codes "steps") rows) (detail_in rows));
 }
 
 -- `run IMAGE SCRIPT --steps N [--all] [--mem]`
@@ -128,7 +132,7 @@ abbrev pub list_form : Form
 list_form = record {
   name = codes "list";
   rules = positional_rule (codes "image") ∷ [];
-  asks = λ rows. list (text_in (codes "image") rows);
+  asks = λ rows. Some (list (text_in (codes "image") rows));
 }
 
 -- `sample SEED STEPS`
@@ -136,7 +140,7 @@ abbrev pub sample_form : Form
 sample_form = record {
   name = codes "sample";
   rules = number_rule (codes "seed") most_seed ∷ number_rule (codes "steps") most_steps ∷ [];
-  asks = λ rows. sample (number_in (codes "seed") rows) (number_in (codes "steps") rows);
+  asks = λ rows. Some (sample (number_in (codes "seed") rows) (number_in (codes "steps") rows));
 }
 
 -- `migrate IMAGE OUT`
@@ -144,7 +148,7 @@ abbrev pub migrate_form : Form
 migrate_form = record {
   name = codes "migrate";
   rules = positional_rule (codes "image") ∷ positional_rule (codes "out") ∷ [];
-  asks = λ rows. migrate (text_in (codes "image") rows) (text_in (codes "out") rows);
+  asks = λ rows. Some (migrate (text_in (codes "image") rows) (text_in (codes "out") rows));
 }
 
 -- `audit TRACE`
@@ -152,7 +156,7 @@ abbrev pub audit_form : Form
 audit_form = record {
   name = codes "audit";
   rules = positional_rule (codes "trace") ∷ [];
-  asks = λ rows. audit (text_in (codes "trace") rows);
+  asks = λ rows. Some (audit (text_in (codes "trace") rows));
 }
 
 -- `save IMAGE SCRIPT OUT --steps N`
@@ -160,7 +164,7 @@ abbrev pub save_form : Form
 save_form = record {
   name = codes "save";
   rules = positional_rule (codes "image") ∷ positional_rule (codes "script") ∷ positional_rule (codes "out") ∷ steps_rule ∷ [];
-  asks = λ rows. save (text_in (codes "image") rows) (text_in (codes "script") rows) (text_in (codes "out") rows) (number_in (codes "steps") rows);
+  asks = λ rows. Some (save (text_in (codes "image") rows) (text_in (codes "script") rows) (text_in (codes "out") rows) (number_in (codes "steps") rows));
 }
 
 -- `resume IMAGE SCRIPT STATE --steps N [--all] [--mem]`
@@ -168,7 +172,7 @@ abbrev pub resume_form : Form
 resume_form = record {
   name = codes "resume";
   rules = positional_rule (codes "image") ∷ positional_rule (codes "script") ∷ positional_rule (codes "state") ∷ steps_rule ∷ flag_rule (codes "all") ∷ flag_rule (codes "mem") ∷ [];
-  asks = λ rows. resume (text_in (codes "image") rows) (text_in (codes "script") rows) (text_in (codes "state") rows) (number_in (codes "steps") rows) (detail_in rows);
+  asks = λ rows. Some (resume (text_in (codes "image") rows) (text_in (codes "script") rows) (text_in (codes "state") rows) (number_in (codes "steps") rows) (detail_in rows));
 }
 
 -- `debug IMAGE SCRIPT COMMANDS`
@@ -176,11 +180,34 @@ abbrev pub debug_form : Form
 debug_form = record {
   name = codes "debug";
   rules = positional_rule (codes "image") ∷ positional_rule (codes "script") ∷ positional_rule (codes "commands") ∷ [];
-  asks = λ rows. debug (text_in (codes "image") rows) (text_in (codes "script") rows) (text_in (codes "commands") rows);
+  asks = λ rows. Some (debug (text_in (codes "image") rows) (text_in (codes "script") rows) (text_in (codes "commands") rows));
+}
+
+-- the commands by their names
+abbrev pub commands : List (Text × CommandName)
+commands = (codes "build", command.Build) ∷ (codes "run", command.Run) ∷ (codes "go", command.Go) ∷ (codes "list", command.List)
+    ∷ (codes "sample", command.Sample) ∷ (codes "migrate", command.Migrate) ∷ (codes "audit", command.Audit) ∷ (codes "save", command.Save)
+    ∷ (codes "resume", command.Resume) ∷ (codes "debug", command.Debug) ∷ (codes "help", command.Help) ∷ []
+
+-- the command that a word names
+abbrev pub command_by : Text → Option CommandName
+command_by word = option_map (λ c. c.1) (find (λ c. bytes_eq word c.0) commands)
+
+-- what `help` with this word behind it, or with none, asks for: nothing where the word names no command
+abbrev pub help_on : Option Text → Option Asked
+help_on None = Some (help None)
+help_on (Some word) = option_map (λ c. help (Some c)) (command_by word)
+
+-- `help [COMMAND]`
+abbrev pub help_form : Form
+help_form = record {
+  name = codes "help";
+  rules = new_rule (codes "command") ∷ [];
+  asks = λ rows. help_on (first_of (codes "command") rows);
 }
 
 abbrev pub forms : List Form
-forms = build_form ∷ run_form ∷ go_form ∷ list_form ∷ sample_form ∷ migrate_form ∷ audit_form ∷ save_form ∷ resume_form ∷ debug_form ∷ []
+forms = build_form ∷ run_form ∷ go_form ∷ list_form ∷ sample_form ∷ migrate_form ∷ audit_form ∷ save_form ∷ resume_form ∷ debug_form ∷ help_form ∷ []
 
 -- ---- the program
 
@@ -191,14 +218,14 @@ shape_of_form form = record (new_shape form.name) { rules = form.rules }
 abbrev pub app_of_form : Form → App
 app_of_form form = record { top = shape_of_form form; subs = [] }
 
--- `hubris` before its commands are added, of which one is wanted
+-- `hubris` before its commands are added, of which one is wanted; `help` is its own, and not clap's
 abbrev pub bare_app : App
-bare_app = record { top = record (new_shape (codes "hubris")) { subcommand_required = true }; subs = [] }
+bare_app = record { top = record (new_shape (codes "hubris")) { subcommand_required = true; disable_help_subcommand = true }; subs = [] }
 
 -- `hubris`, of which one command is wanted
 abbrev pub hubris_app : App
 hubris_app = record {
-  top = record (new_shape (codes "hubris")) { is_leaf = false; subcommand_required = true };
+  top = record (new_shape (codes "hubris")) { is_leaf = false; subcommand_required = true; disable_help_subcommand = true };
   subs = map shape_of_form forms;
 }
 
@@ -206,14 +233,14 @@ abbrev pub has_none : Kinds → Bool
 has_none [] = true
 has_none (kind ∷ more) = false
 
--- no step of clap's reading of the definition refuses the words; the first is the program's name
-abbrev pub is_accepted : List Text → Bool
-is_accepted words = has_none (fault_of hubris_app words)
-
 -- what the command of this name asks for
 abbrev pub asked_by : Text → List Row → Option Asked
-asked_by name rows = option_map (λ form. form.asks rows) (find (λ form. bytes_eq form.name name) forms)
+asked_by name rows = option_and_then (λ form. form.asks rows) (find (λ form. bytes_eq form.name name) forms)
 
 -- what the words ask for, where they are accepted
 abbrev pub job_of : List Text → Option Asked
 job_of words = option_and_then (λ p. asked_by p.0 p.1) (subcommand_of hubris_app words)
+
+-- no step of clap's reading of the definition refuses the words, and they ask for something; the first is the program's name
+abbrev pub is_accepted : List Text → Bool
+is_accepted words = has_none (fault_of hubris_app words) && is_some (job_of words)

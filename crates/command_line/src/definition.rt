@@ -1,9 +1,10 @@
 //! What `clap` is told: the program, a function for each command and for each kind of argument.
 ghost use Rattle.std.specs.Prelude.{◌≡◌, IfOk, false, codes};
 ghost use Rattle.clap.specs.Words.{app_of, rule_of};
+ghost use Rattle.clap.specs.Simple.{new_rule};
 ghost use Rattle.clap.specs.declared.builder.command.Command.TheViews.{out-Command as fields_of};
 ghost use Rattle.command_line.specs.Adding.{AddsForm};
-ghost use Rattle.command_line.specs.CommandLine.{bare_app, hubris_app, most_seed, most_steps, positional_rule, number_parser, number_rule, steps_rule, flag_rule, app_of_form, build_form, run, running_form, run_form, go_form, list_form, sample_form, migrate_form, audit_form, save_form, resume_form, debug_form};
+ghost use Rattle.command_line.specs.CommandLine.{bare_app, hubris_app, most_seed, most_steps, positional_rule, number_parser, number_rule, steps_rule, flag_rule, app_of_form, build_form, run, running_form, run_form, go_form, list_form, sample_form, migrate_form, audit_form, save_form, resume_form, debug_form, help_form};
 
 use clap::builder::ValueParser;
 use clap::{Arg, ArgAction, Command};
@@ -166,6 +167,14 @@ fn debug_command<'a>(alloc: Global) -> Result<Command<'a>, AllocError>
         .arg(positional(alloc, "commands"))
 }
 
+// The word behind `help`: any, or none. Which command it names is looked up where the job is made.
+fn help_command<'a>(alloc: Global) -> Result<Command<'a>, AllocError>
+    ensures shape { IfOk result (λ c. app_of c ≡ app_of_form help_form) }
+    ensures local { IfOk result (λ c. (fields_of c).has_globals ≡ false) }
+{
+    Command::new(alloc, "help").arg(Arg::new(alloc, "command"))
+}
+
 // A program with one command more. It takes the outcome of making that one, so that a program whose
 // command could not be made is dropped in one place.
 fn with_command<'a>(
@@ -177,11 +186,13 @@ fn with_command<'a>(
     program.subcommand(command?)
 }
 
-// The program before its commands are added, of which one is wanted.
+// The program before its commands are added, of which one is wanted. clap's own `help` would only print.
 fn bare_program<'a>(alloc: Global) -> Command<'a>
     ensures { app_of result ≡ bare_app }
 {
-    Command::new(alloc, "hubris").subcommand_required(true)
+    Command::new(alloc, "hubris")
+        .subcommand_required(true)
+        .disable_help_subcommand(true)
 }
 
 /// The program's command line: one command of those above is wanted.
@@ -197,5 +208,6 @@ pub fn hubris_command<'a>(alloc: Global) -> Result<Command<'a>, AllocError>
     let hubris = with_command(hubris, audit_command(alloc))?;
     let hubris = with_command(hubris, save_command(alloc))?;
     let hubris = with_command(hubris, resume_command(alloc))?;
-    with_command(hubris, debug_command(alloc))
+    let hubris = with_command(hubris, debug_command(alloc))?;
+    with_command(hubris, help_command(alloc))
 }

@@ -1,7 +1,7 @@
 //! What the matches of a command ask for.
-ghost use Rattle.std.specs.Prelude.{◌≡◌, ◌≤◌, ◌<◌, ◌^◌, ℕ, Some, codes};
+ghost use Rattle.std.specs.Prelude.{◌≡◌, ◌≤◌, ◌<◌, ◌^◌, ℕ, Some, IfSome, option_map, codes};
 ghost use Rattle.clap.specs.Words.{rows_of, found_of, one_of};
-ghost use Rattle.command_line.specs.CommandLine.{asked_by, build_form, run_form, go_form, list_form, sample_form, migrate_form, audit_form, save_form, resume_form, debug_form, text_in, is_set, detail_in, number_in, most_steps};
+ghost use Rattle.command_line.specs.CommandLine.{asked_by, build_form, run_form, go_form, list_form, sample_form, migrate_form, audit_form, save_form, resume_form, debug_form, help_form, command_by, text_in, is_set, detail_in, number_in, most_steps};
 ghost use Rattle.command_line.specs.Required.{IsNumber, IsSeed, IsSteps, IsWhole};
 ghost use Rattle.command_line.specs.Asking.{asked, steps_of};
 
@@ -13,6 +13,22 @@ use clap::ArgMatches;
 pub struct Detail {
     pub instructions: bool,
     pub memory: bool,
+}
+
+/// The name of a command.
+#[derive(Clone, Copy)]
+pub enum CommandName {
+    Build,
+    Run,
+    Go,
+    List,
+    Sample,
+    Migrate,
+    Audit,
+    Save,
+    Resume,
+    Debug,
+    Help,
 }
 
 /// What the program is asked to do; names are those of files, and `steps` is at most 1,000,000,000.
@@ -76,6 +92,10 @@ pub enum Job<'a> {
         script: &'a str,
         commands: &'a str,
     },
+    /// Say what the commands are, or what one of them takes and answers.
+    Help {
+        about: Option<CommandName>,
+    },
 }
 
 fn text_of<'a>(matches: &ArgMatches<'a>, id: &str) -> &'a str
@@ -127,7 +147,7 @@ fn seed_in(matches: &ArgMatches<'_>) -> u32
 }
 
 fn build_by<'a>(matches: &ArgMatches<'a>) -> Job<'a>
-    ensures job { asked result ≡ build_form.asks (rows_of (found_of matches.now)) }
+    ensures job { Some (asked result) ≡ build_form.asks (rows_of (found_of matches.now)) }
     ensures few { steps_of result ≡ 0 }
 {
     Job::Build {
@@ -137,7 +157,7 @@ fn build_by<'a>(matches: &ArgMatches<'a>) -> Job<'a>
 }
 
 fn run_by<'a>(matches: &ArgMatches<'a>) -> Job<'a>
-    ensures job { IsSteps (one_of (codes "steps") (rows_of (found_of matches.now))) → asked result ≡ run_form.asks (rows_of (found_of matches.now)) }
+    ensures job { IsSteps (one_of (codes "steps") (rows_of (found_of matches.now))) → Some (asked result) ≡ run_form.asks (rows_of (found_of matches.now)) }
     ensures few { IsSteps (one_of (codes "steps") (rows_of (found_of matches.now))) → steps_of result ≤ most_steps }
 {
     Job::Run {
@@ -149,7 +169,7 @@ fn run_by<'a>(matches: &ArgMatches<'a>) -> Job<'a>
 }
 
 fn go_by<'a>(matches: &ArgMatches<'a>) -> Job<'a>
-    ensures job { IsSteps (one_of (codes "steps") (rows_of (found_of matches.now))) → asked result ≡ go_form.asks (rows_of (found_of matches.now)) }
+    ensures job { IsSteps (one_of (codes "steps") (rows_of (found_of matches.now))) → Some (asked result) ≡ go_form.asks (rows_of (found_of matches.now)) }
     ensures few { IsSteps (one_of (codes "steps") (rows_of (found_of matches.now))) → steps_of result ≤ most_steps }
 {
     Job::Go {
@@ -161,7 +181,7 @@ fn go_by<'a>(matches: &ArgMatches<'a>) -> Job<'a>
 }
 
 fn list_by<'a>(matches: &ArgMatches<'a>) -> Job<'a>
-    ensures job { asked result ≡ list_form.asks (rows_of (found_of matches.now)) }
+    ensures job { Some (asked result) ≡ list_form.asks (rows_of (found_of matches.now)) }
     ensures few { steps_of result ≡ 0 }
 {
     Job::List {
@@ -170,7 +190,7 @@ fn list_by<'a>(matches: &ArgMatches<'a>) -> Job<'a>
 }
 
 fn sample_by<'a>(matches: &ArgMatches<'a>) -> Job<'a>
-    ensures job { IsSeed (one_of (codes "seed") (rows_of (found_of matches.now))) → IsSteps (one_of (codes "steps") (rows_of (found_of matches.now))) → asked result ≡ sample_form.asks (rows_of (found_of matches.now)) }
+    ensures job { IsSeed (one_of (codes "seed") (rows_of (found_of matches.now))) → IsSteps (one_of (codes "steps") (rows_of (found_of matches.now))) → Some (asked result) ≡ sample_form.asks (rows_of (found_of matches.now)) }
     ensures few { IsSteps (one_of (codes "steps") (rows_of (found_of matches.now))) → steps_of result ≤ most_steps }
 {
     Job::Sample {
@@ -180,7 +200,7 @@ fn sample_by<'a>(matches: &ArgMatches<'a>) -> Job<'a>
 }
 
 fn migrate_by<'a>(matches: &ArgMatches<'a>) -> Job<'a>
-    ensures job { asked result ≡ migrate_form.asks (rows_of (found_of matches.now)) }
+    ensures job { Some (asked result) ≡ migrate_form.asks (rows_of (found_of matches.now)) }
     ensures few { steps_of result ≡ 0 }
 {
     Job::Migrate {
@@ -190,7 +210,7 @@ fn migrate_by<'a>(matches: &ArgMatches<'a>) -> Job<'a>
 }
 
 fn audit_by<'a>(matches: &ArgMatches<'a>) -> Job<'a>
-    ensures job { asked result ≡ audit_form.asks (rows_of (found_of matches.now)) }
+    ensures job { Some (asked result) ≡ audit_form.asks (rows_of (found_of matches.now)) }
     ensures few { steps_of result ≡ 0 }
 {
     Job::Audit {
@@ -199,7 +219,7 @@ fn audit_by<'a>(matches: &ArgMatches<'a>) -> Job<'a>
 }
 
 fn save_by<'a>(matches: &ArgMatches<'a>) -> Job<'a>
-    ensures job { IsSteps (one_of (codes "steps") (rows_of (found_of matches.now))) → asked result ≡ save_form.asks (rows_of (found_of matches.now)) }
+    ensures job { IsSteps (one_of (codes "steps") (rows_of (found_of matches.now))) → Some (asked result) ≡ save_form.asks (rows_of (found_of matches.now)) }
     ensures few { IsSteps (one_of (codes "steps") (rows_of (found_of matches.now))) → steps_of result ≤ most_steps }
 {
     Job::Save {
@@ -211,7 +231,7 @@ fn save_by<'a>(matches: &ArgMatches<'a>) -> Job<'a>
 }
 
 fn resume_by<'a>(matches: &ArgMatches<'a>) -> Job<'a>
-    ensures job { IsSteps (one_of (codes "steps") (rows_of (found_of matches.now))) → asked result ≡ resume_form.asks (rows_of (found_of matches.now)) }
+    ensures job { IsSteps (one_of (codes "steps") (rows_of (found_of matches.now))) → Some (asked result) ≡ resume_form.asks (rows_of (found_of matches.now)) }
     ensures few { IsSteps (one_of (codes "steps") (rows_of (found_of matches.now))) → steps_of result ≤ most_steps }
 {
     Job::Resume {
@@ -224,7 +244,7 @@ fn resume_by<'a>(matches: &ArgMatches<'a>) -> Job<'a>
 }
 
 fn debug_by<'a>(matches: &ArgMatches<'a>) -> Job<'a>
-    ensures job { asked result ≡ debug_form.asks (rows_of (found_of matches.now)) }
+    ensures job { Some (asked result) ≡ debug_form.asks (rows_of (found_of matches.now)) }
     ensures few { steps_of result ≡ 0 }
 {
     Job::Debug {
@@ -234,30 +254,76 @@ fn debug_by<'a>(matches: &ArgMatches<'a>) -> Job<'a>
     }
 }
 
-/// The job that a command's name and matches ask for.
-pub fn job_by<'a>(name: &str, matches: &ArgMatches<'a>) -> Job<'a>
-    ensures job { IsWhole (Some (name.now, rows_of (found_of matches.now))) → asked_by name.now (rows_of (found_of matches.now)) ≡ Some (asked result) }
-    ensures few { IsWhole (Some (name.now, rows_of (found_of matches.now))) → steps_of result ≤ most_steps }
+/// The command that a word names, if it names one.
+fn command_named(word: &str) -> Option<CommandName>
+    ensures { result ≡ command_by word.now }
+{
+    if word == "build" {
+        Some(CommandName::Build)
+    } else if word == "run" {
+        Some(CommandName::Run)
+    } else if word == "go" {
+        Some(CommandName::Go)
+    } else if word == "list" {
+        Some(CommandName::List)
+    } else if word == "sample" {
+        Some(CommandName::Sample)
+    } else if word == "migrate" {
+        Some(CommandName::Migrate)
+    } else if word == "audit" {
+        Some(CommandName::Audit)
+    } else if word == "save" {
+        Some(CommandName::Save)
+    } else if word == "resume" {
+        Some(CommandName::Resume)
+    } else if word == "debug" {
+        Some(CommandName::Debug)
+    } else if word == "help" {
+        Some(CommandName::Help)
+    } else {
+        None
+    }
+}
+
+fn help_by<'a>(matches: &ArgMatches<'a>) -> Option<Job<'a>>
+    ensures job { option_map asked result ≡ help_form.asks (rows_of (found_of matches.now)) }
+    ensures few { IfSome result (λ j. steps_of j ≡ 0) }
+{
+    match matches.get_str("command") {
+        None => Some(Job::Help { about: None }),
+        Some(word) => match command_named(word) {
+            Some(name) => Some(Job::Help { about: Some(name) }),
+            None => None,
+        },
+    }
+}
+
+/// The job that a command's name and matches ask for, if they ask for one.
+pub fn job_by<'a>(name: &str, matches: &ArgMatches<'a>) -> Option<Job<'a>>
+    ensures job { IsWhole (Some (name.now, rows_of (found_of matches.now))) → asked_by name.now (rows_of (found_of matches.now)) ≡ option_map asked result }
+    ensures few { IsWhole (Some (name.now, rows_of (found_of matches.now))) → IfSome result (λ j. steps_of j ≤ most_steps) }
 {
     if name == "build" {
-        build_by(matches)
+        Some(build_by(matches))
     } else if name == "run" {
-        run_by(matches)
+        Some(run_by(matches))
     } else if name == "go" {
-        go_by(matches)
+        Some(go_by(matches))
     } else if name == "list" {
-        list_by(matches)
+        Some(list_by(matches))
     } else if name == "sample" {
-        sample_by(matches)
+        Some(sample_by(matches))
     } else if name == "migrate" {
-        migrate_by(matches)
+        Some(migrate_by(matches))
     } else if name == "audit" {
-        audit_by(matches)
+        Some(audit_by(matches))
     } else if name == "save" {
-        save_by(matches)
+        Some(save_by(matches))
     } else if name == "resume" {
-        resume_by(matches)
+        Some(resume_by(matches))
+    } else if name == "debug" {
+        Some(debug_by(matches))
     } else {
-        debug_by(matches)
+        help_by(matches)
     }
 }

@@ -6,6 +6,6 @@ mod job;
 mod laws;
 mod reading;
 
-pub use job::{Detail, Job};
+pub use job::{CommandName, Detail, Job};
 pub use laws::every_accepted_command_is_whole;
 pub use reading::{Refusal, read_words};

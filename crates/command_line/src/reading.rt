@@ -11,7 +11,8 @@ use std::alloc::Global;
 /// Why words give no job.
 #[derive(Clone, Copy, Drop)]
 pub enum Refusal {
-    /// The definition does not take them; a call for help or for the version is not accepted either.
+    /// The definition does not take them, or `help` is asked about what is no command; clap's own calls for help and for the
+    /// version are not accepted either.
     NotAccepted,
     /// Want of memory.
     Memory,
@@ -47,7 +48,10 @@ pub fn read_words<'a>(alloc: Global, words: &'a [String]) -> Result<Job<'a>, Ref
         Err(error) => return Err(refusal_by(error.kind())),
     };
     match matches.subcommand() {
-        Some((name, inner)) => Ok(job_by(name, inner)),
+        Some((name, inner)) => match job_by(name, inner) {
+            Some(job) => Ok(job),
+            None => Err(Refusal::NotAccepted),
+        },
         None => Err(Refusal::NotAccepted),
     }
 }

@@ -16,7 +16,7 @@ use Rattle.debug_core.specs.Answers.{bytes_from}
 inside : (xs : List ℕ) (i b : ℕ) → Some b ≡ slice_get xs i → ltb i (length xs) ≡ true
 inside xs i b e = lt-ltb i (length xs) (slice_get_within xs i b (sym e))
 
-no_byte : (b : ℕ) → ◌≡◌ {A = Option ℕ} None (Some b) → ⊥
+pub no_byte : (b : ℕ) → ◌≡◌ {A = Option ℕ} None (Some b) → ⊥
 no_byte b e = cc
 
 outside : (xs : List ℕ) (i : ℕ) → None ≡ slice_get xs i → ltb i (length xs) ≡ false

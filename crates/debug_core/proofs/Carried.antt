@@ -6,7 +6,7 @@ use Rattle.std.proofs.lemmas.List.{append-nil}
 use Rattle.outside_io.specs.Outside.{AppendsFront}
 use Rattle.board_model.specs.Script.{Scenario}
 use Rattle.board_core.specs.Data.{Shows}
-use Rattle.board_run.proofs.Appending.{appends_more, appends_none, front_more, front_wider}
+use Rattle.outside_io.proofs.Pushing.{appends_more, appends_none, front_more, front_wider}
 use Rattle.debug_core.specs.declared.command.Command.{Command}
 use Rattle.debug_core.specs.declared.debugger.Debugger.{Debugger}
 use Rattle.debug_core.specs.Answers.{answer, answers_from, text_of}

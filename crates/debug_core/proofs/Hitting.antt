@@ -1,5 +1,6 @@
 -- The first turn that is hit.
 use Rattle.std.proofs.Common.{◌≡◌, ◌∙◌, ℕ, zero, suc, ◌+◌, ◌-◌, ◌≤◌, ◌<◌, Bool, true, false, cond, is_some, List, Option, Some, None, refl, sym, ap, subst, arith}
+use Rattle.std.proofs.lemmas.Option.{none-some}
 use Rattle.std.specs.Prelude.{find}
 use Rattle.std.specs.List.{range_with_len}
 use Rattle.task_table.specs.State.{State}
@@ -19,11 +20,9 @@ use Rattle.debug_core.specs.Session.{state_at}
 use Rattle.debug_core.specs.Times.{IsAt}
 use Rattle.debug_core.proofs.Ahead.{ends_at, further, turned_same, turns_ahead, turns_made}
 use Rattle.debug_core.proofs.Standing.{follows, turns_at}
+use Rattle.region_check.proofs.FirstBad.{find_range_none}
 
 -- ---- what a turn ran
-
-no_hit : {A : Type 0} (h : A) → None ≡ Some h → ⊥
-no_hit h e = cc
 
 one_same : {A : Type 0} (a b : A) → ◌≡◌ {A = Option A} (Some a) (Some b) → a ≡ b
 one_same a b e = cc
@@ -36,22 +35,18 @@ missed breakpoints Idle e = refl
 missed breakpoints (Ran task at) e = by (stands breakpoints at) e
   where
     by : (b : Bool) → ◌≡◌ {A = Hit} None (cond b (Some (task, at)) None) → b ≡ false
-    by true e = absurd (no_hit (task, at) e)
+    by true e = absurd (none-some (task, at) e)
     by false e = refl
 
 ran_at : (breakpoints : List ℕ) (ran : Turned) (hit : ℕ × ℕ) → Some hit ≡ hit_of breakpoints ran → (ran ≡ Ran hit.0 hit.1) × (is_hit breakpoints ran ≡ true)
-ran_at breakpoints Idle hit e = absurd (no_hit hit (sym e))
+ran_at breakpoints Idle hit e = absurd (none-some hit (sym e))
 ran_at breakpoints (Ran task at) hit e = by (stands breakpoints at) e
   where
     by : (b : Bool) → ◌≡◌ {A = Hit} (Some hit) (cond b (Some (task, at)) None) → (Ran task at ≡ Ran hit.0 hit.1) × (b ≡ true)
     by true e = (ap (λ (p : ℕ × ℕ). Ran p.0 p.1) (sym (one_same hit (task, at) e)), refl)
-    by false e = absurd (no_hit hit (sym e))
+    by false e = absurd (none-some hit (sym e))
 
 -- ---- the first of some turns
-
-find_none : (p : ℕ → Bool) (from n : ℕ) → ((t : ℕ) → from ≤ t → t < from + n → p t ≡ false) → find p (range_with_len from n) ≡ None
-find_none p from zero h = refl
-find_none p from (suc n) h = rw (h from (omega arith) (omega arith)) (find_none p (from + 1) n (λ t a b. h t (omega (arith, a)) (omega (arith, b))))
 
 find_first : (p : ℕ → Bool) (from n k t : ℕ) → t ≡ from + k → k < n → p t ≡ true → ((u : ℕ) → from ≤ u → u < t → p u ≡ false) → find p (range_with_len from n) ≡ Some t
 find_first p from zero k t e lt here none = absurd (omega arith)
@@ -127,7 +122,7 @@ module _ {X : Type 0} {H : X → Type 0} (shown : Shows X H) (x : Scenario) (bre
         let ended : state_at x to ≡ state_at x c = ends_at x h.at.start c to e h.at.reached h.within (sym is) in
         let last : (state_at x to).turn ≡ c = ap (λ (s : State). s.turn) ended ∙ h.at.reached in (
           subst (λ n. IsAt shown x t n) (sym last) h.at,
-          find_none (λ turn. is_hit breakpoints (turned x (state_at x turn))) from ((state_at x to).turn - from) (λ turn a b. h.none turn a (omega (arith, b, last, h.later))),
+          find_range_none (λ turn. is_hit breakpoints (turned x (state_at x turn))) from ((state_at x to).turn - from) (λ turn a b. h.none turn a (omega (arith, b, last, h.later))),
         )
 
     pub one_hit : (t t' : Timeline X H) (hit : ℕ × ℕ) → Passed t → WentPast shown x breakpoints (turns_of t.board) t' (Some hit) → turns_of t'.board ≤ to → CameTo shown x breakpoints from to t' (Some hit)

@@ -5,11 +5,9 @@ use Rattle.std.proofs.lemmas.Bool.{leb-true, leb-false}
 use Rattle.std.proofs.lemmas.List.{get_or_default}
 use Rattle.debug_core.specs.declared.timeline.Checkpoint.{Checkpoint}
 use Rattle.debug_core.specs.Times.{later_of}
+use Rattle.debug_core.proofs.Bytes.{no_byte}
 
-none_some : (n : ℕ) → ◌≡◌ {A = Option ℕ} None (Some n) → ⊥
-none_some n e = cc
-
-some_same : (n m : ℕ) → ◌≡◌ {A = Option ℕ} (Some n) (Some m) → n ≡ m
+pub some_same : (n m : ℕ) → ◌≡◌ {A = Option ℕ} (Some n) (Some m) → n ≡ m
 some_same n m e = cc
 
 -- of turn `to` or before, and none of the first k that is so is later
@@ -56,7 +54,7 @@ module _ (cs : List Checkpoint) (to k : ℕ) (c : Checkpoint) (here : c ≡ get_
           get_or_same d = get_or_default cs k d c lt ∙ sym here
 
       by : (o : Option ℕ) → c.turn ≡ o → IsLatest cs to (k + 1) (later_of to best k o)
-      by None e = stays None e (λ turn is. absurd (none_some turn is))
+      by None e = stays None e (λ turn is. absurd (no_byte turn is))
       by (Some t) e = by_tests (leb best.1 t) (leb t to) refl refl
         where
           by_tests : (a b : Bool) → leb best.1 t ≡ a → leb t to ≡ b → IsLatest cs to (k + 1) (cond (a && b) (k, t) best)

@@ -1,18 +1,14 @@
 -- Addresses of which none is twice.
 use Rattle.std.proofs.Common.{◌≡◌, ◌∙◌, ℕ, suc, ◌≤◌, ◌<◌, ◌||◌, not, Bool, true, false, cond, eqb, List, [], ◌∷◌, length, refl, ap, arith}
-use Rattle.std.proofs.lemmas.Bool.{lt-ltb, le-ltb}
+use Rattle.std.proofs.lemmas.Bool.{lt-ltb, le-ltb, or_parts}
 use Rattle.board_core.specs.Breakpoints.{stands}
 use Rattle.debug_core.specs.Session.{is_full, others}
-
-apart : (b c : Bool) → (b || c) ≡ false → (b ≡ false) × (c ≡ false)
-apart true c e = absurd (cc)
-apart false c e = (refl, e)
 
 -- where it is none of them all are others
 pub all_others : (bs : List ℕ) (at : ℕ) → stands bs at ≡ false → others bs at ≡ bs
 all_others [] at e = refl
 all_others (b ∷ bs) at e =
-    let p = apart (eqb b at) (stands bs at) e in
+    let p = or_parts (eqb b at) (stands bs at) e in
     ap (λ (t : Bool). cond (not t) (b ∷ others bs at) (others bs at)) p.0 ∙ ap (λ (rest : List ℕ). b ∷ rest) (all_others bs at p.1)
 
 no_more : (bs : List ℕ) (at : ℕ) → length (others bs at) ≤ length bs

@@ -28,12 +28,8 @@ use Rattle.debug_core.specs.Session.{most_turns, state_at}
 use Rattle.debug_core.specs.Times.{IsAt, IsFree, IsKept, IsSaved}
 use Rattle.debug_core.proofs.Ahead.{Follows, ahead, ends_at, first_turn, run_on, same_turn, sane_at, stays, turns_ahead, turns_made}
 use Rattle.debug_core.proofs.Few.{few_tasks}
-
-none_some : (n : ℕ) → ◌≡◌ {A = Option ℕ} None (Some n) → ⊥
-none_some n e = cc
-
-some_same : (n m : ℕ) → ◌≡◌ {A = Option ℕ} (Some n) (Some m) → n ≡ m
-some_same n m e = cc
+use Rattle.debug_core.proofs.Bytes.{no_byte}
+use Rattle.debug_core.proofs.Latest.{some_same}
 
 counted_reduced : (s : State) → IsCounted s → IsCounted (reduced s)
 unfolding seen
@@ -189,7 +185,7 @@ module _ {X : Type 0} {H : X → Type 0} (shown : Shows X H) (x : Scenario) wher
   -- ---- the start
 
   free_kept : (c : Checkpoint) → IsFree c → IsKept x c
-  free_kept c h n e = absurd (none_some n (sym h ∙ e))
+  free_kept c h n e = absurd (no_byte n (sym h ∙ e))
 
   pub opened_at : (board : Board X H) (free kept : Vec Checkpoint Global) (c : Checkpoint) → Stands shown x board (start_of x) → length free.items ≡ 64 → All IsFree free.items →
       kept.items ≡ set free.items 0 c → c.turn ≡ Some (turns_of board) → SpellsState x.setup (reduced (start_of x)) c.bytes.items → IsAt shown x record { board = board; kept = kept } 0

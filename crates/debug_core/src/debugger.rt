@@ -170,11 +170,11 @@ impl Debugger {
         }
     }
 
-    /// A command is carried out, and its answer pushed, a line a push. It takes no memory.
+    /// A command is carried out, and its answer pushed, a line a push, and passed on. It takes no memory.
     ///
     /// # Errors
     ///
-    /// Only where a push failed. The command is carried out all the same.
+    /// Only where a push or the flush failed. The command is carried out all the same.
     pub fn command<S: Sink>(&mut self, command: &Command, out: &mut S) -> Result<(), Failed>
         requires session { (x : Scenario) × (s : Session) × IsSession (boxed shown) x self.old s }
         requires few { AsksForFew command.now }
@@ -183,14 +183,16 @@ impl Debugger {
         ensures cause { HasCause (S.seen out.old).faults (S.seen out.new).faults result }
     {
         let answer = self.carry_out(command);
-        push_answer(&answer, out)
+        push_answer(&answer, out)?;
+        out.flush()
     }
 
-    /// All commands of a text, one after the other, each with its answer. It takes no memory.
+    /// All commands of a text, one after the other, each with its answer, which is passed on before the next one. It
+    /// takes no memory.
     ///
     /// # Errors
     ///
-    /// Only where a push failed. No further command is carried out.
+    /// Only where a push or a flush failed. No further command is carried out.
     pub fn carry_out_all<S: Sink>(&mut self, commands: &Commands, out: &mut S) -> Result<(), Failed>
         requires session { (x : Scenario) × (s : Session) × IsSession (boxed shown) x self.old s }
         ensures told { (x : Scenario) (s : Session) → IsSession (boxed shown) x self.old s → Pushes (S.seen out.old).written (S.seen out.new).written (flat_map text_of (answers_from x s (listed commands.now))) result }

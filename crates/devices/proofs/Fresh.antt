@@ -25,6 +25,3 @@ module _ (a b : DeviceData) (a_fresh : IsFresh a) (b_fresh : IsFresh b) (other :
 
   two_devices : AreFresh (a ∷ b ∷ [])
   two_devices = record { few = omega arith; fresh = each_fresh; apart = apart }
-
-pub two_fresh : (ds : List DeviceData) (a b : DeviceData) → ds ≡ a ∷ b ∷ [] → IsFresh a → IsFresh b → a.base ≢ b.base → AreFresh ds
-two_fresh ds a b are a_fresh b_fresh other = subst AreFresh (sym are) (two_devices a b a_fresh b_fresh other)

@@ -1,24 +1,18 @@
 -- The first task of the lowest priority number, as a state tells of it.
 use Rattle.std.proofs.Common.{◌≡◌, ◌+◌, ◌-◌, ◌<◌, ◌≤◌, ◌⊎◌, inl, inr, ℕ, zero, suc, Bool, true, false, cond, not, ◌&&◌, ◌||◌, List, [], ◌∷◌, ◌++◌, length, get_or, Option, Some, None, IfSome, refl, sym, ◌∙◌, ap, arith, leb}
+use Rattle.std.proofs.lemmas.Bool.{cases_Bool}
 use Rattle.std.specs.Prelude.{find}
 use Rattle.std.specs.List.{range_with_len, list_all}
 use Rattle.task_table.specs.State.{Setup, State, TaskSetup}
 use Rattle.task_table.specs.Reading.{around, best_sender, chosen, is_ready, offers, priority}
 use Rattle.task_table.specs.Order.{first_around, is_lowest, priorities_of, priority_at}
+use Rattle.task_table.proofs.Choices.{find_append}
 
 -- ## a search in the order
 
 abbrev or_else : {X : Type 0} → Option X → Option X → Option X
 or_else None b = b
 or_else (Some x) b = Some x
-
-bool_cases : (b : Bool) → (b ≡ true) ⊎ (b ≡ false)
-bool_cases true = inl refl
-bool_cases false = inr refl
-
-find_append : {X : Type 0} (p : X → Bool) (xs ys : List X) → find p (xs ++ ys) ≡ or_else (find p xs) (find p ys)
-find_append p [] ys = refl
-find_append p (x ∷ xs) ys = elim (bool_cases (p x)) [ inl t ↦ rw t | inr f ↦ simp f (find_append p xs ys) ]
 
 -- two tests that agree on a range find the same there
 find_same : (p q : ℕ → Bool) (from n : ℕ) → ((i : ℕ) → from ≤ i → i < from + n → p i ≡ q i) → find p (range_with_len from n) ≡ find q (range_with_len from n)
@@ -38,7 +32,7 @@ around_same p q n from inside h =
 -- what is found in a range is in it
 found_below : (p : ℕ → Bool) (from n m : ℕ) → from + n ≤ m → IfSome (find p (range_with_len from n)) (λ i. i < m)
 found_below p from zero m fits = tt
-found_below p from (suc n) m fits = elim (bool_cases (p from)) [
+found_below p from (suc n) m fits = elim (cases_Bool (p from)) [
   | inl t ↦ rw t (omega (arith, fits))
   | inr f ↦ rw f (found_below p (from + 1) n m (omega (arith, fits)))
 ]

@@ -12,7 +12,7 @@ ghost use Rattle.task_table.specs.Frames.{AddsNotes, AddsAtMost};
 ghost use Rattle.fault_supervisor.specs.Restarts.{restart_notes};
 ghost use Rattle.fault_supervisor.specs.Meanings.{meaning, status_words};
 
-use crate::rebirth::restart_task;
+use crate::rebirth::restart;
 use kernel_abi::{Access, Fault, Health, Note, SendArgs, Usage};
 use region_check::Right;
 use task_table::{Kernel, Slice};
@@ -180,7 +180,7 @@ fn carry_out(k: &mut Kernel, args: &SendArgs, order: Order, task: usize)
         }
         Order::Restart => {
             let start = k.number(args.message_base + 4, 4);
-            restart_task(k, task, start != 0);
+            restart(k, task, start != 0);
         }
         Order::Fault => inject(k, task),
         Order::Find => find_fault(k, args, task),

@@ -33,7 +33,7 @@ fn answer_dead(k: &mut Kernel, task: usize, other: usize)
 }
 
 /// The restart of a task of a kernel that stands.
-pub(crate) fn restart_task(k: &mut Kernel, task: usize, start: bool)
+fn restart_task(k: &mut Kernel, task: usize, start: bool)
     requires there { task < task_count k.old }
     requires room { note_count k.old + restart_notes ≤ turn_notes }
     ensures holds { (g : Setup) (t : Turn) → Stands g k.old t → Holds g k.new (restarted g task start t) }

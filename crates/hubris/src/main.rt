@@ -46,7 +46,8 @@ fn main(rt: HostRuntime) -> ExitCode {
     let Ok(words) = words(&rt) else {
         return ExitCode::from(5);
     };
-    // Lines go out together, since a call of the system for each would be most of the time of `--all`.
+    // Lines go out together, since a call of the system for each would be most of the time of `--all`; at times the run,
+    // and after each answer the debugger, passes on what is held back.
     let Ok(writer) = BufWriter::with_capacity(rt.alloc(), 65_536, io::writer(&rt)) else {
         return ExitCode::from(5);
     };

@@ -2,7 +2,7 @@
 use Rattle.std.proofs.Common.{◌≡◌, ◌∙◌, ℕ, suc, Bool, true, false, ◌+◌, ◌*◌, ◌≤◌, ◌<◌, ◌&&◌, List, [], ◌∷◌, ◌++◌, length, get_or, map, Global, String, string_bytes, drop, drop-cons, nat_le, nat_lt, length-append, append_assoc, refl, sym, ap, subst, arith}
 use Rattle.std.specs.List.{flat_map}
 use Rattle.std.specs.Prelude.{All}
-use Rattle.std.proofs.lemmas.Bool.{leb-true}
+use Rattle.std.proofs.lemmas.Bool.{leb-true, and_parts}
 use Rattle.std.proofs.lemmas.List.{get_or-map, length-map}
 use Rattle.app_toml.specs.Accepted.{IsAccepted, IsName}
 use Rattle.app_toml.specs.Apps.{AppData, TaskData}
@@ -32,15 +32,11 @@ are_names app a r =
 
 -- ---- their bytes
 
-both_true : (b c : Bool) → (b && c) ≡ true → (b ≡ true) × (c ≡ true)
-both_true true c h = (refl, h)
-both_true false c h = cc
-
 -- a name has at most 24 bytes
 pub short : (name : Text) → IsName name → length name ≤ 24
 short name h =
-    let front = (both_true _ _ (both_true _ _ h).0).0 in
-    leb-true (length name) 24 (both_true (nat_lt 0 (length name)) (nat_le (length name) 24) front).1
+    let front = (and_parts _ _ (and_parts _ _ h).0).0 in
+    leb-true (length name) 24 (and_parts (nat_lt 0 (length name)) (nat_le (length name) 24) front).1
 
 -- of the code's lists
 names_short : (ns : List (String Global)) → All IsName (map string_bytes ns) → All (λ n. length (string_bytes n) ≤ 24) ns

@@ -1,6 +1,6 @@
 -- What an accepted description says of its parts.
 use Rattle.std.proofs.Common.{◌≡◌, ℕ, zero, suc, Bool, true, false, not, ◌+◌, ◌≤◌, ◌<◌, ◌||◌, ◌==◌, List, [], ◌∷◌, codes, Option, Some, None, length, get_or, nat_lt, refl, arith}
-use Rattle.std.proofs.lemmas.Bool.{ltb-false}
+use Rattle.std.proofs.lemmas.Bool.{ltb-false, not-false}
 use Rattle.std.proofs.lemmas.Bool.Decides.{nat_tests}
 use Rattle.app_toml.specs.Accepted.{IsAccepted}
 use Rattle.app_toml.specs.Apps.{AppData, InterruptData, TaskData}
@@ -8,29 +8,19 @@ use Rattle.app_toml.specs.Crossed.{count_fault, has_device, has_region, has_task
 use Rattle.app_toml.specs.Places.{Refusal, Site, first_fault, or_else, refuse_if}
 use Rattle.image_build.specs.Building.{IsKnown, IsOwned}
 use Rattle.image_build.specs.Layout.{no_task, task_at}
+use Rattle.app_toml.proofs.Passed.{both_none, not_refused}
+use Rattle.app_toml.proofs.Related.{not_zero}
 
 -- ---- a walk that finds nothing
-
-both : (a b : Option Refusal) → or_else a b ≡ None → (a ≡ None) × (b ≡ None)
-both None b e = (refl, e)
-both (Some r) b e = cc
-
-no_refusal : (b : Bool) (cause : ℕ) (site : Site) → refuse_if b cause site ≡ None → b ≡ false
-no_refusal true cause site e = cc
-no_refusal false cause site e = refl
-
-no_not : (b : Bool) → not b ≡ false → b ≡ true
-no_not true e = refl
-no_not false e = cc
 
 pub each_none : {T : Type 0} → (fault : ℕ → T → Option Refusal) (k : ℕ) (xs : List T) (i : ℕ) (d : T) → i < length xs
     → first_fault fault k xs ≡ None → fault (k + i) (get_or xs i d) ≡ None
 each_none fault k [] i d lt e = absurd (omega (arith, lt))
 each_none fault k (x ∷ xs) zero d lt e =
-    let same : k + 0 ≡ k = omega arith in rw same (both (fault k x) (first_fault fault (k + 1) xs) e).0
+    let same : k + 0 ≡ k = omega arith in rw same (both_none (fault k x) (first_fault fault (k + 1) xs) e).0
 each_none fault k (x ∷ xs) (suc i) d lt e =
     let more : k + suc i ≡ (k + 1) + i = omega arith in
-    rw more (each_none fault (k + 1) xs i d (omega (arith, lt)) (both (fault k x) (first_fault fault (k + 1) xs) e).1)
+    rw more (each_none fault (k + 1) xs i d (omega (arith, lt)) (both_none (fault k x) (first_fault fault (k + 1) xs) e).1)
 
 -- ---- the groups of causes
 
@@ -43,83 +33,80 @@ pub record Groups (app : AppData) : Type 0 where
 
 pub groups : (app : AppData) → IsAccepted app → Groups app
 groups app a =
-    let e = both (name_twice app) _ a.crossed in
-    let f = both (unknown_name app) _ e.1 in
-    let g = both (count_fault app.tasks) _ f.1 in
-    let h = both (start_fault app.tasks) (line_fault app) g.1 in
+    let e = both_none (name_twice app) _ a.crossed in
+    let f = both_none (unknown_name app) _ e.1 in
+    let g = both_none (count_fault app.tasks) _ f.1 in
+    let h = both_none (start_fault app.tasks) (line_fault app) g.1 in
     record { names = e.0; unknown = f.0; counts = g.0; starts = h.0; lines = h.1 }
 
 -- ---- how many
 
 pub few_tasks : (app : AppData) → IsAccepted app → length app.tasks ≤ 512
 few_tasks app a =
-    let c = both (task_count app.tasks) _ (groups app a).counts in
-    let d = both (refuse_if (nat_lt 512 (length app.tasks)) _ _) _ c.0 in
-    ltb-false 512 (length app.tasks) (no_refusal (nat_lt 512 (length app.tasks)) _ _ d.0)
-
-not_zero : (n : ℕ) → (n == 0) ≡ false → 1 ≤ n
-not_zero n e = grind (arith, nat_tests)
+    let c = both_none (task_count app.tasks) _ (groups app a).counts in
+    let d = both_none (refuse_if (nat_lt 512 (length app.tasks)) _ _) _ c.0 in
+    ltb-false 512 (length app.tasks) (not_refused (nat_lt 512 (length app.tasks)) _ _ d.0)
 
 pub some_task : (app : AppData) → IsAccepted app → 1 ≤ length app.tasks
 some_task app a =
-    let c = both (task_count app.tasks) _ (groups app a).counts in
-    let d = both (refuse_if (nat_lt 512 (length app.tasks)) _ _) _ c.0 in
-    not_zero (length app.tasks) (no_refusal (length app.tasks == 0) _ _ d.1)
+    let c = both_none (task_count app.tasks) _ (groups app a).counts in
+    let d = both_none (refuse_if (nat_lt 512 (length app.tasks)) _ _) _ c.0 in
+    not_zero (length app.tasks) (not_refused (length app.tasks == 0) _ _ d.1)
 
 pub few_notes : (app : AppData) → IsAccepted app → (i : ℕ) → i < length app.tasks → length (task_at app i).notifications ≤ 32
 few_notes app a i lt =
-    let c = both (task_count app.tasks) _ (groups app a).counts in
-    let d = both (first_fault notification_count 0 app.tasks) (first_fault region_count 0 app.tasks) c.1 in
+    let c = both_none (task_count app.tasks) _ (groups app a).counts in
+    let d = both_none (first_fault notification_count 0 app.tasks) (first_fault region_count 0 app.tasks) c.1 in
     let e = each_none notification_count 0 app.tasks i no_task lt d.0 in
-    ltb-false 32 _ (no_refusal (nat_lt 32 (length (task_at app i).notifications)) _ _ e)
+    ltb-false 32 _ (not_refused (nat_lt 32 (length (task_at app i).notifications)) _ _ e)
 
 pub few_regions : (app : AppData) → IsAccepted app → (i : ℕ) → i < length app.tasks
     → length (task_at app i).uses + length (task_at app i).reads ≤ 6
 few_regions app a i lt =
-    let c = both (task_count app.tasks) _ (groups app a).counts in
-    let d = both (first_fault notification_count 0 app.tasks) (first_fault region_count 0 app.tasks) c.1 in
+    let c = both_none (task_count app.tasks) _ (groups app a).counts in
+    let d = both_none (first_fault notification_count 0 app.tasks) (first_fault region_count 0 app.tasks) c.1 in
     let e = each_none region_count 0 app.tasks i no_task lt d.1 in
-    ltb-false 6 _ (no_refusal (nat_lt 6 (length (task_at app i).uses + length (task_at app i).reads)) _ _ e)
+    ltb-false 6 _ (not_refused (nat_lt 6 (length (task_at app i).uses + length (task_at app i).reads)) _ _ e)
 
 -- ---- what is known
 
 pub used_known : (app : AppData) → IsAccepted app → (i : ℕ) → i < length app.tasks
     → (j : ℕ) → j < length (task_at app i).uses → IsKnown app (get_or (task_at app i).uses j [])
 used_known app a i lt j below =
-    let u = both (first_fault (unknown_owner app.tasks) 0 app.interrupts) _ (groups app a).unknown in
-    let v = both (unknown_fault_bit app.fault app.tasks) _ u.1 in
-    let w = both (first_fault (unknown_bit app.tasks) 0 app.interrupts) (first_fault (unknown_region app.regions app.devices) 0 app.tasks) v.1 in
+    let u = both_none (first_fault (unknown_owner app.tasks) 0 app.interrupts) _ (groups app a).unknown in
+    let v = both_none (unknown_fault_bit app.fault app.tasks) _ u.1 in
+    let w = both_none (first_fault (unknown_bit app.tasks) 0 app.interrupts) (first_fault (unknown_region app.regions app.devices) 0 app.tasks) v.1 in
     let e = each_none (unknown_region app.regions app.devices) 0 app.tasks i no_task lt w.1 in
-    let f = both (first_fault (unknown_entry app.regions app.devices (task_site (0 + i) (codes "uses"))) 0 (task_at app i).uses) _ e in
+    let f = both_none (first_fault (unknown_entry app.regions app.devices (task_site (0 + i) (codes "uses"))) 0 (task_at app i).uses) _ e in
     let g = each_none (unknown_entry app.regions app.devices (task_site (0 + i) (codes "uses"))) 0 (task_at app i).uses j [] below f.0 in
-    no_not _ (no_refusal (not (has_region (get_or (task_at app i).uses j []) app.regions || has_device (get_or (task_at app i).uses j []) app.devices)) _ _ g)
+    not-false _ (not_refused (not (has_region (get_or (task_at app i).uses j []) app.regions || has_device (get_or (task_at app i).uses j []) app.devices)) _ _ g)
 
 pub read_known : (app : AppData) → IsAccepted app → (i : ℕ) → i < length app.tasks
     → (j : ℕ) → j < length (task_at app i).reads → IsKnown app (get_or (task_at app i).reads j [])
 read_known app a i lt j below =
-    let u = both (first_fault (unknown_owner app.tasks) 0 app.interrupts) _ (groups app a).unknown in
-    let v = both (unknown_fault_bit app.fault app.tasks) _ u.1 in
-    let w = both (first_fault (unknown_bit app.tasks) 0 app.interrupts) (first_fault (unknown_region app.regions app.devices) 0 app.tasks) v.1 in
+    let u = both_none (first_fault (unknown_owner app.tasks) 0 app.interrupts) _ (groups app a).unknown in
+    let v = both_none (unknown_fault_bit app.fault app.tasks) _ u.1 in
+    let w = both_none (first_fault (unknown_bit app.tasks) 0 app.interrupts) (first_fault (unknown_region app.regions app.devices) 0 app.tasks) v.1 in
     let e = each_none (unknown_region app.regions app.devices) 0 app.tasks i no_task lt w.1 in
-    let f = both (first_fault (unknown_entry app.regions app.devices (task_site (0 + i) (codes "uses"))) 0 (task_at app i).uses) _ e in
+    let f = both_none (first_fault (unknown_entry app.regions app.devices (task_site (0 + i) (codes "uses"))) 0 (task_at app i).uses) _ e in
     let g = each_none (unknown_entry app.regions app.devices (task_site (0 + i) (codes "reads"))) 0 (task_at app i).reads j [] below f.1 in
-    no_not _ (no_refusal (not (has_region (get_or (task_at app i).reads j []) app.regions || has_device (get_or (task_at app i).reads j []) app.devices)) _ _ g)
+    not-false _ (not_refused (not (has_region (get_or (task_at app i).reads j []) app.regions || has_device (get_or (task_at app i).reads j []) app.devices)) _ _ g)
 
 pub owned : (app : AppData) → IsAccepted app → (k : ℕ) (d : InterruptData) → k < length app.interrupts → IsOwned app (get_or app.interrupts k d)
 owned app a k d lt =
-    let u = both (first_fault (unknown_owner app.tasks) 0 app.interrupts) _ (groups app a).unknown in
-    let v = both (unknown_fault_bit app.fault app.tasks) _ u.1 in
-    let w = both (first_fault (unknown_bit app.tasks) 0 app.interrupts) _ v.1 in
+    let u = both_none (first_fault (unknown_owner app.tasks) 0 app.interrupts) _ (groups app a).unknown in
+    let v = both_none (unknown_fault_bit app.fault app.tasks) _ u.1 in
+    let w = both_none (first_fault (unknown_bit app.tasks) 0 app.interrupts) _ v.1 in
     let e = each_none (unknown_owner app.tasks) 0 app.interrupts k d lt u.0 in
     let f = each_none (unknown_bit app.tasks) 0 app.interrupts k d lt w.0 in
     record {
-      owner = no_not _ (no_refusal (not (has_task (get_or app.interrupts k d).task app.tasks)) _ _ e);
-      bit = no_not _ (no_refusal (not (is_among (get_or app.interrupts k d).notification (notifications_of (get_or app.interrupts k d).task app.tasks))) _ _ f);
+      owner = not-false _ (not_refused (not (has_task (get_or app.interrupts k d).task app.tasks)) _ _ e);
+      bit = not-false _ (not_refused (not (is_among (get_or app.interrupts k d).notification (notifications_of (get_or app.interrupts k d).task app.tasks))) _ _ f);
     }
 
 pub fault_known : (app : AppData) → IsAccepted app → is_among app.fault (task_at app 0).notifications ≡ true
-fault_known app a = first app.tasks (some_task app a) (both (unknown_fault_bit app.fault app.tasks) _ (both (first_fault (unknown_owner app.tasks) 0 app.interrupts) _ (groups app a).unknown).1).0
+fault_known app a = first app.tasks (some_task app a) (both_none (unknown_fault_bit app.fault app.tasks) _ (both_none (first_fault (unknown_owner app.tasks) 0 app.interrupts) _ (groups app a).unknown).1).0
   where
     first : (ts : List TaskData) → 1 ≤ length ts → unknown_fault_bit app.fault ts ≡ None → is_among app.fault (get_or ts 0 no_task).notifications ≡ true
     first [] some e = absurd (omega (arith, some))
-    first (t ∷ ts) some e = no_not _ (no_refusal (not (is_among app.fault t.notifications)) _ _ e)
+    first (t ∷ ts) some e = not-false _ (not_refused (not (is_among app.fault t.notifications)) _ _ e)

@@ -47,7 +47,7 @@ name_at app (in_flash i) = []
 name_at app (in_ram k) = (get_or app.regions (k - length app.tasks) no_region).name
 name_at app (at_device d) = (get_or app.devices d no_device).name
 
-either_known : (a b : Bool) → (a || b) ≡ true → a ≡ false → b ≡ true
+pub either_known : (a b : Bool) → (a || b) ≡ true → a ≡ false → b ≡ true
 either_known true b e f = cc
 either_known false b e f = e
 

@@ -19,6 +19,7 @@ use Rattle.image_build.specs.Building.{IsKnown}
 use Rattle.image_build.specs.Built.{tasks_from}
 use Rattle.image_build.specs.Layout.{device, device_named, index_from, index_of, index_of_region, memory, named, no_device, no_region, no_task, region_base, region_named, task_at, task_regions}
 use Rattle.image_build.proofs.Finding.{same_count}
+use Rattle.image_build.proofs.Naming.{either_known}
 
 -- ---- a name among those of regions and of devices
 
@@ -44,10 +45,6 @@ device_at k name (d ∷ ds) e = elim (cases_Bool (bytes_eq d.name name)) [
   | inl hit ↦ rw hit (omega arith)
   | inr miss ↦ let rest : has_device name ds ≡ true = rw miss at e in rw miss (omega (arith, device_at (k + 1) name ds rest))
 ]
-
-other : (a b : Bool) → (a || b) ≡ true → a ≡ false → b ≡ true
-other true b e f = cc
-other false b e f = e
 
 -- ---- of the code's lists
 
@@ -88,7 +85,7 @@ pub device_below : (app : AppData) (name : Text) (xs : List RegionSpec) (k : ℕ
     → k ≡ index_of name (map (λ r. r.name) (map region_of xs)) → length xs ≤ k → map device_of ds ≡ app.devices
     → j ≡ index_of name (map (λ d. d.name) (map device_of ds)) → IsKnown app name → j < length ds
 device_below app name xs k ds j m at le n there known =
-    let has : has_device name app.devices ≡ true = other _ _ known (is_no_region app name xs k m at le) in
+    let has : has_device name app.devices ≡ true = either_known _ _ known (is_no_region app name xs k m at le) in
     omega (arith, device_at 0 name app.devices has, place_of_device app name ds j n there, same_count device_of ds app.devices n)
 
 -- ---- its record

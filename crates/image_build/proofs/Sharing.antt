@@ -8,15 +8,12 @@ use Rattle.thumb_asm.specs.Operands.{or_else}
 use Rattle.thumb_asm.specs.Passes.{over}
 use Rattle.image_build.specs.Built.{given}
 use Rattle.image_build.specs.Symbols.{own_symbols, shared_symbols}
-
-or_in : (b : Bool) (v : ℕ) (o p : Option ℕ) → cond b (Some v) (or_else o p) ≡ or_else (cond b (Some v) o) p
-or_in true v o p = refl
-or_in false v o p = refl
+use Rattle.thumb_asm.proofs.Labels.{or_push}
 
 entry_both : (es fs : Names) (q : List ℕ) → entry_at (es ++ fs) q ≡ or_else (entry_at es q) (entry_at fs q)
 unfolding entry_at
 entry_both [] fs q = refl
-entry_both (e ∷ es) fs q = ap (λ t. cond (bytes_eq q e.0) (Some e.1) t) (entry_both es fs q) ∙ or_in (bytes_eq q e.0) e.1 (entry_at es q) (entry_at fs q)
+entry_both (e ∷ es) fs q = ap (λ t. cond (bytes_eq q e.0) (Some e.1) t) (entry_both es fs q) ∙ or_push (bytes_eq q e.0) e.1 (entry_at es q) (entry_at fs q)
 
 pub given_is : (app : AppData) (i : ℕ) (own : Names) (shared : Env) → own ≡ own_symbols app i → shared ≡ entry_at (shared_symbols app)
     → over (entry_at own) shared ≡ given app i

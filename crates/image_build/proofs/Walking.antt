@@ -3,7 +3,7 @@ use Rattle.std.proofs.Common.{◌≡◌, ◌∙◌, ℕ, zero, suc, Bool, true, 
 use Rattle.std.specs.List.{list_any}
 use Rattle.std.specs.Prelude.{⊤, All}
 use Rattle.std.proofs.Math.Seq.{drop-append_seam, take-append_seam}
-use Rattle.std.proofs.lemmas.Bool.{and_left, and_right, cases_eq, eq-eqb, le-ltb, lt-leb, ne_eqb, or_from}
+use Rattle.std.proofs.lemmas.Bool.{and_left, and_right, cases_eq, eq-eqb, le-ltb, lt-leb, ne_eqb, or_from, not_from_true}
 use Rattle.std.proofs.lemmas.List.{length-map, map-append}
 use Rattle.std.proofs.lemmas.List.Folds.{list_any-append}
 use Rattle.std.proofs.lemmas.List.Sums.{sum_by-cons}
@@ -15,6 +15,8 @@ use Rattle.image_format.specs.declared.records.Form.TheVariants.{Second}
 use Rattle.image_format.specs.declared.records.Header.{Header}
 use Rattle.image_format.specs.declared.records.RegionRecord.{RegionRecord}
 use Rattle.image_format.specs.declared.records.TaskRecord.{TaskRecord}
+use Rattle.app_toml.proofs.Related.{above_zero}
+use Rattle.image_format.proofs.Shape.{front, behind}
 
 -- ---- each element, and each pair
 
@@ -48,12 +50,6 @@ none_any test (x ∷ xs) h = or_from (test x) (list_any test xs) h.0 (none_any t
 pub both : (a b : Option Refusal) → a ≡ None → b ≡ None → or_else a b ≡ None
 both a b e f = rw e f
 
-pub some_above : (n : ℕ) → 0 < n → (n == 0) ≡ false
-some_above n lt = ne_eqb n 0 (λ e. omega (arith, e, lt))
-
-no_not : (b : Bool) → b ≡ true → not b ≡ false
-no_not b e = rw e refl
-
 -- ---- the header
 
 pub fields_none : (h : Header) → 1 ≤ h.tasks → h.tasks ≤ 512 → h.lines ≤ 64 → h.tasks ≤ h.regions → h.regions ≤ 8 * h.tasks → h.zero ≡ 0 → 1 ≤ h.flash → h.flash ≤ 1048576
@@ -68,7 +64,7 @@ fields_none h some few lines low high none code flash ram bits short =
     let flash_low = le-ltb h.flash 1 code in
     let flash_high = le-ltb 1048576 h.flash flash in
     let ram_high = le-ltb 262144 h.ram ram in
-    let no_bits = some_above h.bits bits in
+    let no_bits = above_zero h.bits bits in
     let names_high = le-ltb 409600 h.names short in
     rw (tasks_low, tasks_high, lines_high, regions_low, regions_high, no_zero, flash_low, flash_high, ram_high, no_bits, names_high) refl
 
@@ -87,7 +83,7 @@ pub record IsGood (index : ℕ) (t : TaskRecord) : Type 0 where
 priority_test : (i p : ℕ) → (i ≡ 0 → p ≡ 0) → (0 < i → 0 < p) → ((i == 0 && not (p == 0)) || (not (i == 0) && p == 0)) ≡ false
 priority_test i p same more = elim (cases_eq i 0) [
   | inl e ↦ let a = eq-eqb i 0 e in let b = eq-eqb p 0 (same e) in rw (a, b) refl
-  | inr ne ↦ let a = ne_eqb i 0 ne in let b = some_above p (more (above i ne)) in rw (a, b) refl
+  | inr ne ↦ let a = ne_eqb i 0 ne in let b = above_zero p (more (above i ne)) in rw (a, b) refl
 ]
   where
     above : (n : ℕ) → (n ≡ 0 → ⊥) → 0 < n
@@ -96,7 +92,7 @@ priority_test i p same more = elim (cases_eq i 0) [
 
 flags_test : (i f : ℕ) → (i ≡ 0 → f ≡ 1) → (i == 0 && not (f == 1)) ≡ false
 flags_test i f same = elim (cases_eq i 0) [
-  | inl e ↦ and_right (i == 0) (not (f == 1)) (no_not (f == 1) (eq-eqb f 1 (same e)))
+  | inl e ↦ and_right (i == 0) (not (f == 1)) (not_from_true (f == 1) (eq-eqb f 1 (same e)))
   | inr ne ↦ and_left (i == 0) (not (f == 1)) (ne_eqb i 0 ne)
 ]
 
@@ -167,15 +163,6 @@ nothing_met : (rs : List RegionRecord) → Each (λ r. list_any (meets r) [] ≡
 nothing_met [] = tt
 nothing_met (r ∷ rs) = (refl, nothing_met rs)
 
--- the front of all regions, and what follows it
-front : (xs ys : List Region) → take (length xs) (map region_record (xs ++ ys)) ≡ map region_record xs
-front xs ys = ap (take (length xs)) (map-append region_record xs ys) ∙ ap (λ (n : ℕ). take n (map region_record xs ++ map region_record ys)) (sym (length-map xs region_record))
-    ∙ take-append_seam (map region_record xs) (map region_record ys)
-
-behind : (xs ys : List Region) → drop (length xs) (map region_record (xs ++ ys)) ≡ map region_record ys
-behind xs ys = ap (drop (length xs)) (map-append region_record xs ys) ∙ ap (λ (n : ℕ). drop n (map region_record xs ++ map region_record ys)) (sym (length-map xs region_record))
-    ∙ drop-append_seam (map region_record xs) (map region_record ys)
-
 -- a task's regions: each is one of those, and no two meet
 pub record HasOwn (L : RegionRecord → Type 0) (t : TaskPicture) : Type 0 where
   pub each : Each L (map region_record t.regions)
@@ -232,5 +219,5 @@ line_none least tasks line l place low high g =
     let line_high = le-ltb 63 l.line (omega (arith, g.is, high)) in
     let line_low = le-ltb l.line least (omega (arith, g.is, low)) in
     let owner = lt-leb tasks l.task g.owner in
-    let bits = some_above l.bits g.bits in
+    let bits = above_zero l.bits g.bits in
     rw (line_high, line_low, owner, bits) refl

@@ -17,7 +17,7 @@ use Rattle.image_format.proofs.Named.{past, upto}
 half_again : (n : ℕ) → n % 256 + 256 * (n / 256) ≡ n
 half_again n = omega arith
 
-num_again : (n : ℕ) → n % 256 + 256 * (n / 256 % 256) + 65536 * (n / 65536 % 256) + 16777216 * (n / 16777216) ≡ n
+pub num_again : (n : ℕ) → n % 256 + 256 * (n / 256 % 256) + 65536 * (n / 65536 % 256) + 16777216 * (n / 16777216) ≡ n
 num_again n = omega arith
 
 -- ---- records

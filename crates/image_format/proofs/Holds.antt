@@ -2,7 +2,7 @@
 use Rattle.std.proofs.Common.{◌≡◌, ◌∙◌, ◌+◌, ◌-◌, ◌*◌, ◌/◌, ◌%◌, ◌<◌, ◌≤◌, ℕ, zero, suc, List, All, [], ◌∷◌, ◌++◌, Bool, true, false, not, ◌||◌, ◌&&◌, ◌==◌, None, length, take, drop, map, get_or, nat_le, nat_lt, ◌⊎◌, inl, inr, arith, ap, refl, sym, subst, append_assoc, mul_assoc, div-add-mod'}
 use Rattle.std.specs.Prelude.{Contains}
 use Rattle.std.specs.List.{list_all, list_any}
-use Rattle.std.proofs.lemmas.Bool.{cases_lt, eqb-true, le-leb, leb-true, lt-ltb, ltb-false, ltb-true}
+use Rattle.std.proofs.lemmas.Bool.{cases_lt, eqb-true, le-leb, leb-true, lt-ltb, ltb-false, ltb-true, and_parts, or_parts, not-false, or_cases}
 use Rattle.std.proofs.lemmas.Bool.Decides.{nat_tests}
 use Rattle.std.proofs.lemmas.Nat.{mod-mul-add}
 use Rattle.std.proofs.lemmas.List.{append-nil, get_or-map, get_or_past, length-map, take-append-drop}
@@ -25,23 +25,19 @@ use Rattle.region_check.specs.Sizes.{is_size, sizes}
 use Rattle.text_lines.specs.Names.{is_name}
 use Rattle.image_format.specs.Steps.{counted, header_size, highest_line, line_fault, lines_from, lines_place, most_names, names_place, regions_place, task_fault, tasks_from}
 use Rattle.image_format.proofs.Chunks.{blank}
-use Rattle.image_format.proofs.Limits.{limits, lines_64, or_false, row_none, tasks_512}
+use Rattle.image_format.proofs.Limits.{limits, lines_64, row_none, tasks_512}
 use Rattle.image_format.proofs.Lookups.{In, in_list, names_at, names_looked, own_at, region_source, regions_looked, task_looked}
 use Rattle.image_format.proofs.Named.{AreNew, are_new, new_apart, new_named}
 use Rattle.image_format.proofs.Passed.{both_none, passed_steps}
-use Rattle.image_format.proofs.Shape.{Every, IsLine, IsRegion, IsTask, counts, equals, every_append, every_region, is_line, is_region, is_task, names_length, not_false, nothing_left, or_cases, rest_counted, rights_cases, tasks_length}
+use Rattle.image_format.proofs.Shape.{Every, IsLine, IsRegion, IsTask, counts, equals, every_append, every_region, is_line, is_region, is_task, names_length, nothing_left, rest_counted, rights_cases, tasks_length}
 
 -- ---- tests
-
-and_true : (a b : Bool) → (a && b) ≡ true → (a ≡ true) × (b ≡ true)
-and_true true b e = (refl, e)
-and_true false b e = cc
 
 -- ---- one region
 
 lies : (r : RegionRecord) (base end : ℕ) → lies_in r base end ≡ true → (base ≤ r.base) × (r.base + r.size ≤ end)
 lies r base end e =
-    let b = and_true (nat_le base r.base) (nat_le (r.base + r.size) end) e in
+    let b = and_parts (nat_le base r.base) (nat_le (r.base + r.size) end) e in
     (leb-true base r.base b.0, leb-true (r.base + r.size) end b.1)
 
 -- what a region is, of an image with so much flash and RAM
@@ -87,7 +83,7 @@ placed h p r f m g =
 among : (test : ℕ → Bool) (n : ℕ) (ks : List ℕ) → list_all test ks ≡ true → list_any (λ k. n == k) ks ≡ true → test n ≡ true
 among test n [] a e = cc
 among test n (k ∷ ks) a e =
-    let b = and_true (test k) (list_all test ks) a in
+    let b = and_parts (test k) (list_all test ks) a in
     elim (or_cases (n == k) (list_any (λ k. n == k) ks) e) [
       | inl h ↦ ap test (eqb-true n k h) ∙ b.0
       | inr h ↦ among test n ks b.1 h
@@ -95,7 +91,7 @@ among test n (k ∷ ks) a e =
 
 sized : (h : Header) (r : RegionRecord) → IsRegion h r → 256 ≤ r.size
 unfolding is_size
-sized h r g = leb-true 256 r.size (among (nat_le 256) r.size sizes refl (and_true (is_size r.size) (r.base % r.size == 0) g.shape).0)
+sized h r g = leb-true 256 r.size (among (nat_le 256) r.size sizes refl (and_parts (is_size r.size) (r.base % r.size == 0) g.shape).0)
 
 -- a multiple of a multiple of 256 is one too
 multiple : (base size : ℕ) → size % 256 ≡ 0 → base % size ≡ 0 → base % 256 ≡ 0
@@ -108,7 +104,7 @@ multiple base size by_256 whole =
 aligned : (h : Header) (r : RegionRecord) → IsRegion h r → r.base % 256 ≡ 0
 unfolding is_size
 aligned h r g =
-    let shape = and_true (is_size r.size) (r.base % r.size == 0) g.shape in
+    let shape = and_parts (is_size r.size) (r.base % r.size == 0) g.shape in
     let size : r.size % 256 ≡ 0 = eqb-true (r.size % 256) 0 (among (λ k. k % 256 == 0) r.size sizes refl shape.0) in
     multiple r.base r.size size (eqb-true (r.base % r.size) 0 shape.1)
 
@@ -133,12 +129,12 @@ not_cutting : (r e : RegionRecord) → cuts r e ≡ false → Apart r e
 not_cutting r e h = by (meets r e) refl h
   where
     by : (b : Bool) → meets r e ≡ b → (b && (not (r.base == e.base) || not (r.size == e.size))) ≡ false → Apart r e
-    by true a h = let s = or_false (not (r.base == e.base)) (not (r.size == e.size)) h in inl (equals r.base e.base s.0, equals r.size e.size s.1)
+    by true a h = let s = or_parts (not (r.base == e.base)) (not (r.size == e.size)) h in inl (equals r.base e.base s.0, equals r.size e.size s.1)
     by false a h = inr (not_meeting r e a)
 
 none_of : (test : RegionRecord → Bool) (P : RegionRecord → Type 0) → ((e : RegionRecord) → test e ≡ false → P e) → (xs : List RegionRecord) → list_any test xs ≡ false → Every P xs
 none_of test P each [] h = tt
-none_of test P each (x ∷ xs) h = let b = or_false (test x) (list_any test xs) h in (each x b.0, none_of test P each xs b.1)
+none_of test P each (x ∷ xs) h = let b = or_parts (test x) (list_any test xs) h in (each x b.0, none_of test P each xs b.1)
 
 -- each region is apart from those before it
 abbrev AllApart : List RegionRecord → List RegionRecord → Type 0
@@ -149,7 +145,7 @@ own_apart : (h : Header) (others own : List RegionRecord) (place : ℕ) (rs : Li
 own_apart h others own place [] e = tt
 own_apart h others own place (r ∷ rs) e =
     let a = both_none (region_fault h (clashes others own r) r place) (own_fault h others (own ++ r ∷ []) (place + 12) rs) e in
-    let c = or_false (list_any (meets r) own) (list_any (cuts r) others) (is_region h r (clashes others own r) place a.0).1 in (
+    let c = or_parts (list_any (meets r) own) (list_any (cuts r) others) (is_region h r (clashes others own r) place a.0).1 in (
       every_append (Apart r) others own (none_of (cuts r) (Apart r) (not_cutting r) others c.1) (none_of (meets r) (Apart r) (λ e m. inr (not_meeting r e m)) own c.0),
       subst (λ (xs : List RegionRecord). AllApart xs rs) (sym (append_assoc others own (r ∷ []))) (own_apart h others (own ++ r ∷ []) (place + 12) rs a.1),
     )
@@ -245,8 +241,8 @@ record Enters (own : List RegionRecord) (t : TaskRecord) : Type 0 where
 enters : (own : List RegionRecord) (t : TaskRecord) (place : ℕ) → entry_fault own t place ≡ None → Enters own t
 enters own t place e =
     let b = row_none (t.entry % 2 == 0 || not (list_any (runs_at t.entry) own)) (12, place + 4) None e in
-    let c = or_false (t.entry % 2 == 0) (not (list_any (runs_at t.entry) own)) b.0 in
-    record { odd = odd t.entry c.0; runs = not_false (list_any (runs_at t.entry) own) c.1 }
+    let c = or_parts (t.entry % 2 == 0) (not (list_any (runs_at t.entry) own)) b.0 in
+    record { odd = odd t.entry c.0; runs = not-false (list_any (runs_at t.entry) own) c.1 }
   where
     odd : (n : ℕ) → (n % 2 == 0) ≡ false → n % 2 ≡ 1
     odd n e = by (n % 2) (omega arith) e
@@ -263,8 +259,8 @@ entry_steps place (t ∷ ts) rs (suc i) lt e =
 
 gives_there : (entry : ℕ) (r : RegionRecord) → runs_at entry r ≡ true → gives Execute (entry - 1) (region_of r) ≡ true
 gives_there entry r e =
-    let a = and_true ((r.rights == 5 || r.rights == 7) && nat_lt r.base entry) (nat_le entry (r.base + r.size)) e in
-    let b = and_true (r.rights == 5 || r.rights == 7) (nat_lt r.base entry) a.0 in
+    let a = and_parts ((r.rights == 5 || r.rights == 7) && nat_lt r.base entry) (nat_le entry (r.base + r.size)) e in
+    let b = and_parts (r.rights == 5 || r.rights == 7) (nat_lt r.base entry) a.0 in
     let low : r.base ≤ entry - 1 = omega (arith, ltb-true r.base entry b.1) in
     let high : entry - 1 < r.base + r.size = omega (arith, ltb-true r.base entry b.1, leb-true entry (r.base + r.size) a.1) in
     let one = le-leb r.base (entry - 1) low in

@@ -1,6 +1,6 @@
 -- What a header that is not refused says of its numbers.
 use Rattle.std.proofs.Common.{◌≡◌, ◌*◌, ◌≤◌, ◌<◌, ℕ, List, Option, cond, None, Some, arith, Bool, true, false, not, ◌||◌, ◌==◌, refl, nat_lt}
-use Rattle.std.proofs.lemmas.Bool.{eqb-true, le-ltb, ltb-false}
+use Rattle.std.proofs.lemmas.Bool.{eqb-true, le-ltb, ltb-false, or_parts, or_from}
 use Rattle.std.proofs.lemmas.Bool.Decides.{nat_tests}
 use Rattle.image_format.specs.declared.records.Form.{Form}
 use Rattle.image_format.specs.declared.records.Form.TheVariants.{First, Second}
@@ -18,20 +18,6 @@ row_none false r next e = (refl, e)
 pub row_pass : (b : Bool) (r : Refusal) (next : Option Refusal) → b ≡ false → next ≡ None → cond b (Some r) next ≡ None
 row_pass true r next b e = cc
 row_pass false r next b e = e
-
-pub or_false : (a b : Bool) → (a || b) ≡ false → (a ≡ false) × (b ≡ false)
-or_false true b e = cc
-or_false false b e = (refl, e)
-
-pub both_false : (a b : Bool) → a ≡ false → b ≡ false → (a || b) ≡ false
-both_false true b e f = e
-both_false false b e f = f
-
-pub above : (most n : ℕ) → nat_lt most n ≡ false → n ≤ most
-above most n e = ltb-false most n e
-
-pub not_above : (most n : ℕ) → n ≤ most → nat_lt most n ≡ false
-not_above most n le = le-ltb most n le
 
 pub positive : (n : ℕ) → (n == 0) ≡ false → 0 < n
 positive n e = grind (arith, nat_tests)
@@ -66,18 +52,18 @@ limits_in First h e =
     let d = row_none (nat_lt h.flash 1 || nat_lt 1048576 h.flash) _ _ c.1 in
     let f = row_none (nat_lt 262144 h.ram) _ _ d.1 in
     let g = row_none (h.bits == 0) _ _ f.1 in
-    let tasks = or_false (nat_lt h.tasks 1) (nat_lt 32 h.tasks) a.0 in
-    let regions = or_false (nat_lt h.regions h.tasks) (nat_lt (8 * h.tasks) h.regions) c.0 in
-    let flash = or_false (nat_lt h.flash 1) (nat_lt 1048576 h.flash) d.0 in
+    let tasks = or_parts (nat_lt h.tasks 1) (nat_lt 32 h.tasks) a.0 in
+    let regions = or_parts (nat_lt h.regions h.tasks) (nat_lt (8 * h.tasks) h.regions) c.0 in
+    let flash = or_parts (nat_lt h.flash 1) (nat_lt 1048576 h.flash) d.0 in
     record {
-      some_task = above h.tasks 1 tasks.0;
-      tasks = above 32 h.tasks tasks.1;
-      lines = above 32 h.lines b.0;
-      some_region = above h.regions h.tasks regions.0;
-      regions = above (8 * h.tasks) h.regions regions.1;
-      some_flash = above h.flash 1 flash.0;
-      flash = above 1048576 h.flash flash.1;
-      ram = above 262144 h.ram f.0;
+      some_task = ltb-false h.tasks 1 tasks.0;
+      tasks = ltb-false 32 h.tasks tasks.1;
+      lines = ltb-false 32 h.lines b.0;
+      some_region = ltb-false h.regions h.tasks regions.0;
+      regions = ltb-false (8 * h.tasks) h.regions regions.1;
+      some_flash = ltb-false h.flash 1 flash.0;
+      flash = ltb-false 1048576 h.flash flash.1;
+      ram = ltb-false 262144 h.ram f.0;
       bits = positive h.bits g.0;
       second = λ s. cc;
     }
@@ -90,20 +76,20 @@ limits_in Second h e =
     let f = row_none (nat_lt 262144 h.ram) _ _ d.1 in
     let g = row_none (h.bits == 0) _ _ f.1 in
     let n = row_none (nat_lt 409600 h.names) _ _ g.1 in
-    let tasks = or_false (nat_lt h.tasks 1) (nat_lt 512 h.tasks) a.0 in
-    let regions = or_false (nat_lt h.regions h.tasks) (nat_lt (8 * h.tasks) h.regions) c.0 in
-    let flash = or_false (nat_lt h.flash 1) (nat_lt 1048576 h.flash) d.0 in
+    let tasks = or_parts (nat_lt h.tasks 1) (nat_lt 512 h.tasks) a.0 in
+    let regions = or_parts (nat_lt h.regions h.tasks) (nat_lt (8 * h.tasks) h.regions) c.0 in
+    let flash = or_parts (nat_lt h.flash 1) (nat_lt 1048576 h.flash) d.0 in
     record {
-      some_task = above h.tasks 1 tasks.0;
-      tasks = above 512 h.tasks tasks.1;
-      lines = above 64 h.lines b.0;
-      some_region = above h.regions h.tasks regions.0;
-      regions = above (8 * h.tasks) h.regions regions.1;
-      some_flash = above h.flash 1 flash.0;
-      flash = above 1048576 h.flash flash.1;
-      ram = above 262144 h.ram f.0;
+      some_task = ltb-false h.tasks 1 tasks.0;
+      tasks = ltb-false 512 h.tasks tasks.1;
+      lines = ltb-false 64 h.lines b.0;
+      some_region = ltb-false h.regions h.tasks regions.0;
+      regions = ltb-false (8 * h.tasks) h.regions regions.1;
+      some_flash = ltb-false h.flash 1 flash.0;
+      flash = ltb-false 1048576 h.flash flash.1;
+      ram = ltb-false 262144 h.ram f.0;
       bits = positive h.bits g.0;
-      second = λ s. (is_zero h.zero z.0, above 409600 h.names n.0);
+      second = λ s. (is_zero h.zero z.0, ltb-false 409600 h.names n.0);
     }
 
 pub limits : (h : Header) → field_fault h ≡ None → Limits h.form h
@@ -113,24 +99,24 @@ limits h e = limits_in h.form h e
 -- a header within the limits of a form is not refused in it
 pub taken_in : (f : Form) (h : Header) → Limits f h → field_fault_in f h ≡ None
 taken_in First h l =
-    row_pass (nat_lt h.tasks 1 || nat_lt 32 h.tasks) _ _ (both_false (nat_lt h.tasks 1) (nat_lt 32 h.tasks) (not_above h.tasks 1 l.some_task) (not_above 32 h.tasks l.tasks))
-    (row_pass (nat_lt 32 h.lines) _ _ (not_above 32 h.lines l.lines)
+    row_pass (nat_lt h.tasks 1 || nat_lt 32 h.tasks) _ _ (or_from (nat_lt h.tasks 1) (nat_lt 32 h.tasks) (le-ltb h.tasks 1 l.some_task) (le-ltb 32 h.tasks l.tasks))
+    (row_pass (nat_lt 32 h.lines) _ _ (le-ltb 32 h.lines l.lines)
     (row_pass (nat_lt h.regions h.tasks || nat_lt (8 * h.tasks) h.regions) _ _
-    (both_false (nat_lt h.regions h.tasks) (nat_lt (8 * h.tasks) h.regions) (not_above h.regions h.tasks l.some_region) (not_above (8 * h.tasks) h.regions l.regions))
-    (row_pass (nat_lt h.flash 1 || nat_lt 1048576 h.flash) _ _ (both_false (nat_lt h.flash 1) (nat_lt 1048576 h.flash) (not_above h.flash 1 l.some_flash) (not_above 1048576 h.flash l.flash))
-    (row_pass (nat_lt 262144 h.ram) _ _ (not_above 262144 h.ram l.ram)
+    (or_from (nat_lt h.regions h.tasks) (nat_lt (8 * h.tasks) h.regions) (le-ltb h.regions h.tasks l.some_region) (le-ltb (8 * h.tasks) h.regions l.regions))
+    (row_pass (nat_lt h.flash 1 || nat_lt 1048576 h.flash) _ _ (or_from (nat_lt h.flash 1) (nat_lt 1048576 h.flash) (le-ltb h.flash 1 l.some_flash) (le-ltb 1048576 h.flash l.flash))
+    (row_pass (nat_lt 262144 h.ram) _ _ (le-ltb 262144 h.ram l.ram)
     (row_pass (h.bits == 0) _ _ (not_zero h.bits l.bits) refl)))))
 taken_in Second h l =
     let s = l.second refl in
-    row_pass (nat_lt h.tasks 1 || nat_lt 512 h.tasks) _ _ (both_false (nat_lt h.tasks 1) (nat_lt 512 h.tasks) (not_above h.tasks 1 l.some_task) (not_above 512 h.tasks l.tasks))
-    (row_pass (nat_lt 64 h.lines) _ _ (not_above 64 h.lines l.lines)
+    row_pass (nat_lt h.tasks 1 || nat_lt 512 h.tasks) _ _ (or_from (nat_lt h.tasks 1) (nat_lt 512 h.tasks) (le-ltb h.tasks 1 l.some_task) (le-ltb 512 h.tasks l.tasks))
+    (row_pass (nat_lt 64 h.lines) _ _ (le-ltb 64 h.lines l.lines)
     (row_pass (nat_lt h.regions h.tasks || nat_lt (8 * h.tasks) h.regions) _ _
-    (both_false (nat_lt h.regions h.tasks) (nat_lt (8 * h.tasks) h.regions) (not_above h.regions h.tasks l.some_region) (not_above (8 * h.tasks) h.regions l.regions))
+    (or_from (nat_lt h.regions h.tasks) (nat_lt (8 * h.tasks) h.regions) (le-ltb h.regions h.tasks l.some_region) (le-ltb (8 * h.tasks) h.regions l.regions))
     (row_pass (not (h.zero == 0)) _ _ (zero_is h.zero s.0)
-    (row_pass (nat_lt h.flash 1 || nat_lt 1048576 h.flash) _ _ (both_false (nat_lt h.flash 1) (nat_lt 1048576 h.flash) (not_above h.flash 1 l.some_flash) (not_above 1048576 h.flash l.flash))
-    (row_pass (nat_lt 262144 h.ram) _ _ (not_above 262144 h.ram l.ram)
+    (row_pass (nat_lt h.flash 1 || nat_lt 1048576 h.flash) _ _ (or_from (nat_lt h.flash 1) (nat_lt 1048576 h.flash) (le-ltb h.flash 1 l.some_flash) (le-ltb 1048576 h.flash l.flash))
+    (row_pass (nat_lt 262144 h.ram) _ _ (le-ltb 262144 h.ram l.ram)
     (row_pass (h.bits == 0) _ _ (not_zero h.bits l.bits)
-    (row_pass (nat_lt 409600 h.names) _ _ (not_above 409600 h.names s.1) refl)))))))
+    (row_pass (nat_lt 409600 h.names) _ _ (le-ltb 409600 h.names s.1) refl)))))))
 
 pub taken : (h : Header) → Limits h.form h → field_fault h ≡ None
 unfolding field_fault

@@ -1,16 +1,16 @@
 -- The i-th task of a picture, its regions and its names.
-use Rattle.std.proofs.Common.{◌≡◌, ◌∙◌, ◌+◌, ◌<◌, ◌≤◌, ℕ, zero, suc, List, [], ◌∷◌, length, take, drop, get_or, map, arith, ap, refl, subst, sym, ◌⊎◌, inl, inr}
+use Rattle.std.proofs.Common.{◌≡◌, ◌∙◌, ◌+◌, ◌<◌, ℕ, zero, suc, List, [], ◌∷◌, length, take, drop, get_or, map, arith, ap, refl, subst, sym, ◌⊎◌, inl, inr}
 use Rattle.std.specs.Prelude.{Contains}
 use Rattle.std.proofs.lemmas.List.{drop-drop}
 use Rattle.std.specs.List.{sum_by}
-use Rattle.std.proofs.lemmas.List.Sums.{sum_by-cons, sum_by-take-drop}
+use Rattle.std.proofs.lemmas.List.Sums.{sum_by-cons}
 use Rattle.image_format.specs.declared.records.TaskRecord.{TaskRecord}
 use Rattle.image_format.specs.declared.records.RegionRecord.{RegionRecord}
 use Rattle.region_check.specs.declared.Region.{Region}
 use Rattle.image_format.specs.Names.{after_name, after_names, names_of}
 use Rattle.image_format.specs.Picture.{no_task, region_of, task_of, tasks_of}
 use Rattle.image_format.specs.Steps.{counted}
-use Rattle.image_format.proofs.Chunks.{blank, counted_step}
+use Rattle.image_format.proofs.Chunks.{blank}
 
 -- the i-th task's regions
 abbrev pub own_at : List TaskRecord → List RegionRecord → ℕ → List RegionRecord
@@ -61,15 +61,6 @@ own_sliced (t ∷ ts) rs (suc i) lt =
     let sum = sum_by-cons (λ (t : TaskRecord). t.regions) t (take i ts) in
     own_sliced ts (drop t.regions rs) i (omega (arith, lt))
     ∙ ap (take (get_or ts i blank).regions) (drop-drop (counted (take i ts)) t.regions rs ∙ ap (λ (k : ℕ). drop k rs) (sym sum))
-
--- the i-th task's regions end where those of all do, at the most
-pub within_all : (ts : List TaskRecord) (i n : ℕ) → i < length ts → counted ts ≡ n → counted (take i ts) + (get_or ts i blank).regions ≤ n
-within_all ts i n lt e = omega (arith, e, counted_step ts i lt, sum_by-take-drop (λ (t : TaskRecord). t.regions) ts i)
-
-pub any_default : {T : Type 0} (xs : List T) (i : ℕ) (d e : T) → i < length xs → get_or xs i d ≡ get_or xs i e
-any_default [] i d e lt = absurd (omega (arith, lt))
-any_default (x ∷ xs) zero d e lt = refl
-any_default (x ∷ xs) (suc i) d e lt = any_default xs i d e (omega (arith, lt))
 
 -- an element, by where it stands
 abbrev pub In : {T : Type 0} → T → List T → Type 0

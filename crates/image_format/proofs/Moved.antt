@@ -1,5 +1,6 @@
 -- Records that no step refuses in one form are refused by none in the other, where they keep its limits: the conditions are the same, and a place matters only where something is refused.
 use Rattle.std.proofs.Common.{◌≡◌, ◌+◌, ◌*◌, ◌%◌, ◌≤◌, ℕ, suc, List, [], ◌∷◌, ◌++◌, Bool, true, false, not, ◌||◌, ◌&&◌, ◌==◌, None, Some, length, take, drop, map, nat_le, nat_lt, cond, arith, ap, refl}
+use Rattle.std.proofs.lemmas.Bool.{or_parts, or_from, ltb-false, le-ltb}
 use Rattle.std.specs.Prelude.{Contains}
 use Rattle.std.specs.List.{list_any}
 use Rattle.image_format.specs.declared.records.Form.{Form}
@@ -13,7 +14,7 @@ use Rattle.image_format.specs.Picture.{LinePicture, Picture, Sound, SpellsFirst,
 use Rattle.image_format.specs.Records.{Records}
 use Rattle.image_format.specs.Regions.{clashes, entries_from, entry_fault, has_area, has_rights, has_shape, own_fault, region_fault, regions_from, runs_at}
 use Rattle.image_format.specs.Steps.{Refusal, count_place, counted, header_size, highest_line, line_fault, lines_from, lines_place, most_names, names_place, regions_place, task_fault, tasks_from}
-use Rattle.image_format.proofs.Limits.{Limits, limits, lines_64, no_zero, not_above, plain_names, above, or_false, both_false, row_none, row_pass, taken, tasks_512}
+use Rattle.image_format.proofs.Limits.{Limits, limits, lines_64, no_zero, plain_names, row_none, row_pass, taken, tasks_512}
 use Rattle.image_format.proofs.Named.{names_moved}
 use Rattle.image_format.proofs.Passed.{Passed, both_none, none_both, passed_steps, steps_passed}
 
@@ -52,7 +53,7 @@ tasks_moved f g index place other (t ∷ ts) few e =
     (tasks_moved f g (index + 1) (place + 12) (other + 12) ts few.1 a.1)
 
 more_names : (f : Form) (n : ℕ) → nat_lt (most_names f) n ≡ false → nat_lt 32 n ≡ false
-more_names First n e = let le = above 0 n e in not_above 32 n (omega (arith, le))
+more_names First n e = let le = ltb-false 0 n e in le-ltb 32 n (omega (arith, le))
 more_names Second n e = e
 
 -- what a form allows, the second does
@@ -132,25 +133,25 @@ line_rows First least tasks l place e =
     let b = row_none (nat_le tasks l.task) _ _ a.1 in
     let c = row_none (not (l.zero == 0)) _ _ b.1 in
     let d = row_none (l.bits == 0) _ _ c.1 in
-    let line = or_false (nat_lt 31 l.line) (nat_lt l.line least) a.0 in
+    let line = or_parts (nat_lt 31 l.line) (nat_lt l.line least) a.0 in
     (line.0, record { low = line.1; owner = b.0; zero_half = c.0; bits = d.0 })
 line_rows Second least tasks l place e =
     let a = row_none (nat_lt 63 l.line || nat_lt l.line least) _ _ e in
     let b = row_none (not (l.zero == 0)) _ _ a.1 in
     let c = row_none (nat_le tasks l.task) _ _ b.1 in
     let d = row_none (l.bits == 0) _ _ c.1 in
-    let line = or_false (nat_lt 63 l.line) (nat_lt l.line least) a.0 in
+    let line = or_parts (nat_lt 63 l.line) (nat_lt l.line least) a.0 in
     (line.0, record { low = line.1; owner = c.0; zero_half = b.0; bits = d.0 })
 
 rows_line : (f : Form) (least tasks : ℕ) (l : LineRecord) (place : ℕ) → nat_lt (highest_line f) l.line ≡ false → IsOwned least tasks l → line_fault f least tasks l place ≡ None
 rows_line First least tasks l place high o =
-    row_pass (nat_lt 31 l.line || nat_lt l.line least) _ _ (both_false (nat_lt 31 l.line) (nat_lt l.line least) high o.low)
+    row_pass (nat_lt 31 l.line || nat_lt l.line least) _ _ (or_from (nat_lt 31 l.line) (nat_lt l.line least) high o.low)
     (row_pass (nat_le tasks l.task) _ _ o.owner (row_pass (not (l.zero == 0)) _ _ o.zero_half (row_pass (l.bits == 0) _ _ o.bits refl)))
 rows_line Second least tasks l place high o =
-    row_pass (nat_lt 63 l.line || nat_lt l.line least) _ _ (both_false (nat_lt 63 l.line) (nat_lt l.line least) high o.low)
+    row_pass (nat_lt 63 l.line || nat_lt l.line least) _ _ (or_from (nat_lt 63 l.line) (nat_lt l.line least) high o.low)
     (row_pass (not (l.zero == 0)) _ _ o.zero_half (row_pass (nat_le tasks l.task) _ _ o.owner (row_pass (l.bits == 0) _ _ o.bits refl)))
 
--- no line is above the highest of the form
+-- no line is ltb-false the highest of the form
 abbrev pub AreLow : Form → List LineRecord → Type 0
 AreLow f [] = Unit {0}
 AreLow f (l ∷ ls) = (nat_lt (highest_line f) l.line ≡ false) × AreLow f ls
@@ -163,7 +164,7 @@ lines_moved f g least tasks place other (l ∷ ls) low e =
     (lines_moved f g (l.line + 1) tasks (place + 8) (other + 8) ls low.1 a.1)
 
 higher : (f : Form) (n : ℕ) → nat_lt (highest_line f) n ≡ false → nat_lt 63 n ≡ false
-higher First n e = let le = above 31 n e in not_above 63 n (omega (arith, le))
+higher First n e = let le = ltb-false 31 n e in le-ltb 63 n (omega (arith, le))
 higher Second n e = e
 
 low_second : (f : Form) (least tasks place : ℕ) (ls : List LineRecord) → lines_from f least tasks place ls ≡ None → AreLow Second ls
@@ -174,7 +175,7 @@ low_second f least tasks place (l ∷ ls) e =
 
 low_first : (ls : List LinePicture) → ((l : LinePicture) → Contains ls l → l.line ≤ highest_line First) → AreLow First (map line_record ls)
 low_first [] h = tt
-low_first (l ∷ ls) h = (not_above 31 l.line (h l (0, omega arith, refl)), low_first ls (λ m is. h m (suc is.0, omega (arith, is.1), is.2)))
+low_first (l ∷ ls) h = (le-ltb 31 l.line (h l (0, omega arith, refl)), low_first ls (λ m is. h m (suc is.0, omega (arith, is.1), is.2)))
 
 -- ---- the whole
 

@@ -4,7 +4,7 @@ use Rattle.std.specs.Cmp.Lexicographic.{bytes_decides}
 use Rattle.std.specs.List.{list_any}
 use Rattle.std.specs.Option.{is_some}
 use Rattle.std.proofs.Math.Seq.{drop-append_seam, take-append_seam}
-use Rattle.std.proofs.lemmas.Bool.{eqb-true, le-leb, leb-true}
+use Rattle.std.proofs.lemmas.Bool.{eqb-true, le-leb, leb-true, or_parts, ltb-false, and_parts, not-false}
 use Rattle.std.proofs.lemmas.List.{drop_more, get_or_append_left, length-take-le, take-append-drop}
 use Rattle.text_lines.specs.Names.{is_name}
 use Rattle.image_format.specs.declared.records.Form.TheVariants.{First, Second}
@@ -14,14 +14,10 @@ use Rattle.image_format.specs.Names.{after_name, after_names, first_name, is_spe
 use Rattle.image_format.specs.Picture.{Picture, TaskPicture, all_names, header_of, name_bytes, names_bytes, task_record, tasks_of}
 use Rattle.image_format.specs.Steps.{Refusal, names_place, or_else, task_fault, tasks_from}
 use Rattle.image_format.proofs.Chunks.{blank, none_found}
-use Rattle.image_format.proofs.Limits.{above, or_false, row_none, row_pass}
+use Rattle.image_format.proofs.Limits.{row_none, row_pass}
 use Rattle.image_format.proofs.Passed.{both_none, none_both}
 
 -- ---- one after the other
-
-pub and_true : (a b : Bool) → (a && b) ≡ true → (a ≡ true) × (b ≡ true)
-and_true true b e = (refl, e)
-and_true false b e = cc
 
 after_suc : (k : ℕ) (bytes : List ℕ) → after_names (suc k) bytes ≡ after_name (after_names k bytes)
 after_suc zero bytes = refl
@@ -134,10 +130,6 @@ abbrev pub AreNew : List (List ℕ) → List (List ℕ) → Type 0
 AreNew earlier [] = Unit {0}
 AreNew earlier (n ∷ ns) = (is_name n ≡ true) × (list_any (λ m. same_name m n) earlier ≡ false) × AreNew (earlier ++ n ∷ []) ns
 
-not_false : (b : Bool) → not b ≡ false → b ≡ true
-not_false true e = refl
-not_false false e = cc
-
 -- one name that is not refused
 record IsTaken (earlier : List (List ℕ)) (bytes : List ℕ) : Type 0 where
   spelled : is_spelled bytes ≡ true
@@ -147,7 +139,7 @@ is_taken : (earlier : List (List ℕ)) (bytes : List ℕ) (place : ℕ) → name
 is_taken earlier bytes place e =
     let a = row_none (not (is_spelled bytes)) _ _ e in
     let b = row_none (list_any (λ m. same_name m (first_name bytes)) earlier) _ _ a.1 in
-    record { spelled = not_false (is_spelled bytes) a.0; new = b.0 }
+    record { spelled = not-false (is_spelled bytes) a.0; new = b.0 }
 
 taken_is : (earlier : List (List ℕ)) (bytes : List ℕ) (place : ℕ) → IsTaken earlier bytes → name_fault earlier bytes place ≡ None
 taken_is earlier bytes place t =
@@ -155,13 +147,13 @@ taken_is earlier bytes place t =
 
 spelled_name : (bytes : List ℕ) → is_spelled bytes ≡ true → is_name (first_name bytes) ≡ true
 spelled_name [] e = cc
-spelled_name (n ∷ bytes) e = (and_true (nat_le n (length bytes)) (is_name (take n bytes)) e).1
+spelled_name (n ∷ bytes) e = (and_parts (nat_le n (length bytes)) (is_name (take n bytes)) e).1
 
 -- a name that is spelled has as many bytes as it says
 spelled_again : (bytes : List ℕ) → is_spelled bytes ≡ true → name_bytes (first_name bytes) ++ after_name bytes ≡ bytes
 spelled_again [] e = cc
 spelled_again (n ∷ bytes) e =
-    let le = leb-true n (length bytes) (and_true (nat_le n (length bytes)) (is_name (take n bytes)) e).0 in
+    let le = leb-true n (length bytes) (and_parts (nat_le n (length bytes)) (is_name (take n bytes)) e).0 in
     ap₂ (λ (k : ℕ) (xs : List ℕ). k ∷ xs) (length-take-le n bytes le) (take-append-drop n bytes)
 
 pub are_new : (n : ℕ) (earlier : List (List ℕ)) (bytes : List ℕ) (place : ℕ) → task_names_fault n earlier bytes place ≡ None → AreNew earlier (names_of n bytes)
@@ -212,8 +204,8 @@ not_same m n e same = let yes : same_name m n ≡ true = (bytes_decides m n).1 s
 -- at each place before, another name
 before_other : (earlier : List (List ℕ)) (n : List ℕ) (k : ℕ) → list_any (λ m. same_name m n) earlier ≡ false → k < length earlier → get_or earlier k [] ≢ n
 before_other [] n k e lt = absurd (omega (arith, lt))
-before_other (m ∷ ms) n zero e lt = not_same m n (or_false (same_name m n) (list_any (λ m. same_name m n) ms) e).0
-before_other (m ∷ ms) n (suc k) e lt = before_other ms n k (or_false (same_name m n) (list_any (λ m. same_name m n) ms) e).1 (omega (arith, lt))
+before_other (m ∷ ms) n zero e lt = not_same m n (or_parts (same_name m n) (list_any (λ m. same_name m n) ms) e).0
+before_other (m ∷ ms) n (suc k) e lt = before_other ms n k (or_parts (same_name m n) (list_any (λ m. same_name m n) ms) e).1 (omega (arith, lt))
 
 none_before : (earlier : List (List ℕ)) (n : List ℕ) → ((k : ℕ) → k < length earlier → get_or earlier k [] ≢ n) → list_any (λ m. same_name m n) earlier ≡ false
 none_before [] n h = refl
@@ -315,7 +307,7 @@ no_name index t place e =
     let b = row_none (nat_lt 1 t.flags || (index == 0 && not (t.flags == 1))) _ _ a.1 in
     let c = row_none (nat_lt t.regions 1 || nat_lt 8 t.regions) _ _ b.1 in
     let d = row_none (nat_lt 0 t.names) _ _ c.1 in
-    let le = above 0 t.names d.0 in
+    let le = ltb-false 0 t.names d.0 in
     omega (arith, le)
 
 -- where no task has a name, what is refused is what is left over

@@ -1,8 +1,8 @@
 -- The records of an accepted image are those that say its picture.
-use Rattle.std.proofs.Common.{◌≡◌, ◌∙◌, ◌+◌, ◌*◌, ◌%◌, ◌<◌, ◌≤◌, ℕ, zero, suc, List, All, [], ◌∷◌, ◌++◌, Bool, true, false, not, ◌||◌, ◌&&◌, ◌==◌, None, length, take, drop, map, nat_le, nat_lt, ◌⊎◌, inl, inr, arith, ap, ap₂, refl, sym, subst, length-drop}
+use Rattle.std.proofs.Common.{◌≡◌, ◌∙◌, ◌+◌, ◌*◌, ◌%◌, ◌<◌, ◌≤◌, ℕ, zero, suc, List, All, [], ◌∷◌, ◌++◌, Bool, true, false, not, ◌||◌, ◌&&◌, ◌==◌, None, length, take, drop, map, nat_lt, ◌⊎◌, inl, inr, arith, ap, ap₂, refl, sym, subst, length-drop}
 use Rattle.std.specs.List.{list_any}
 use Rattle.std.proofs.Math.Seq.{drop-append_seam, take-append_seam}
-use Rattle.std.proofs.lemmas.Bool.{eqb-true}
+use Rattle.std.proofs.lemmas.Bool.{eqb-true, ltb-false, not-false, or_cases, leb-false}
 use Rattle.std.proofs.lemmas.Bool.Decides.{nat_tests}
 use Rattle.std.proofs.lemmas.List.{length-map, length-take, map-append, take-append-drop}
 use Rattle.std.proofs.lemmas.List.Sums.{sum_by-cons}
@@ -20,23 +20,15 @@ use Rattle.image_format.specs.Names.{after_name, after_names, names_of}
 use Rattle.image_format.specs.Records.{Records}
 use Rattle.image_format.specs.Regions.{clashes, has_area, has_rights, has_shape, own_fault, region_fault, regions_from}
 use Rattle.image_format.specs.Steps.{counted, header_size, highest_line, line_fault, lines_from, lines_place, most_names, names_place, regions_place, task_fault, tasks_from}
-use Rattle.image_format.proofs.Limits.{above, all_counted, limits, positive, row_none}
+use Rattle.image_format.proofs.Limits.{all_counted, limits, positive, row_none}
 use Rattle.image_format.proofs.Moved.{line_rows}
 use Rattle.image_format.proofs.Named.{all_names_again, names_after, names_back}
 use Rattle.image_format.proofs.Passed.{both_none, passed_steps}
 
 -- ---- tests
 
-pub not_false : (b : Bool) → not b ≡ false → b ≡ true
-not_false true e = refl
-not_false false e = cc
-
 pub equals : (n m : ℕ) → not (n == m) ≡ false → n ≡ m
-equals n m e = eqb-true n m (not_false (n == m) e)
-
-pub or_cases : (a b : Bool) → (a || b) ≡ true → (a ≡ true) ⊎ (b ≡ true)
-or_cases true b e = inl refl
-or_cases false b e = inr e
+equals n m e = eqb-true n m (not-false (n == m) e)
 
 -- ---- what the step says of a task
 
@@ -64,7 +56,7 @@ is_task form index t place e =
       started = started index t.flags b.0;
       some_region = some t.regions c.0;
       most_regions = most t.regions c.0;
-      most_names = above (most_names form) t.names d.0;
+      most_names = ltb-false (most_names form) t.names d.0;
       stack = equals (t.sp % 4) 0 f.0;
     }
   where
@@ -99,7 +91,7 @@ is_region h r overlaps place e =
     let b = row_none (not (has_shape r)) _ _ a.1 in
     let c = row_none (not (has_area h r)) _ _ b.1 in
     let d = row_none overlaps _ _ c.1 in
-    (record { rights = not_false (has_rights r) a.0; shape = not_false (has_shape r) b.0; area = not_false (has_area h r) c.0 }, d.0)
+    (record { rights = not-false (has_rights r) a.0; shape = not-false (has_shape r) b.0; area = not-false (has_area h r) c.0 }, d.0)
 
 abbrev pub Every : (RegionRecord → Type 0) → List RegionRecord → Type 0
 Every P [] = Unit {0}
@@ -211,16 +203,13 @@ pub record IsLine (form : Form) (least tasks : ℕ) (l : LineRecord) : Type 0 wh
   pub zero_half : l.zero ≡ 0
   pub bits : 0 < l.bits
 
-below : (n m : ℕ) → nat_le n m ≡ false → m < n
-below n m e = grind (arith, nat_tests)
-
 pub is_line : (form : Form) (least tasks : ℕ) (l : LineRecord) (place : ℕ) → line_fault form least tasks l place ≡ None → IsLine form least tasks l
 is_line form least tasks l place e =
     let rows = line_rows form least tasks l place e in
     record {
-      most = above (highest_line form) l.line rows.0;
-      least_line = above l.line least rows.1.low;
-      owner = below tasks l.task rows.1.owner;
+      most = ltb-false (highest_line form) l.line rows.0;
+      least_line = ltb-false l.line least rows.1.low;
+      owner = leb-false tasks l.task rows.1.owner;
       zero_half = equals l.zero 0 rows.1.zero_half;
       bits = positive l.bits rows.1.bits;
     }
@@ -316,11 +305,11 @@ lines_back [] = refl
 lines_back (l ∷ ls) = ap (λ (xs : List LinePicture). l ∷ xs) (lines_back ls)
 
 -- the front of a list's image, as long as that list, and what follows it
-front : (xs ys : List Region) → take (length xs) (map region_record (xs ++ ys)) ≡ map region_record xs
+pub front : (xs ys : List Region) → take (length xs) (map region_record (xs ++ ys)) ≡ map region_record xs
 front xs ys = ap (take (length xs)) (map-append region_record xs ys) ∙ ap (λ (n : ℕ). take n (map region_record xs ++ map region_record ys)) (sym (length-map xs region_record))
     ∙ take-append_seam (map region_record xs) (map region_record ys)
 
-behind : (xs ys : List Region) → drop (length xs) (map region_record (xs ++ ys)) ≡ map region_record ys
+pub behind : (xs ys : List Region) → drop (length xs) (map region_record (xs ++ ys)) ≡ map region_record ys
 behind xs ys = ap (drop (length xs)) (map-append region_record xs ys) ∙ ap (λ (n : ℕ). drop n (map region_record xs ++ map region_record ys)) (sym (length-map xs region_record))
     ∙ drop-append_seam (map region_record xs) (map region_record ys)
 

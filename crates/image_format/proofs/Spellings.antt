@@ -1,5 +1,5 @@
 -- What bytes of either form are read as.
-use Rattle.std.proofs.Common.{◌≡◌, ◌∙◌, ◌≤◌, ◌<◌, ◌+◌, ℕ, zero, suc, List, [], ◌∷◌, ◌++◌, Ok, None, drop, inl, inr, length, map, get_or, arith, ap, ap₂, refl, sym, subst}
+use Rattle.std.proofs.Common.{◌≡◌, ◌∙◌, ◌≤◌, ◌<◌, ◌+◌, ℕ, zero, suc, List, [], ◌∷◌, ◌++◌, Result, Ok, Err, None, drop, inl, inr, length, map, get_or, arith, ap, ap₂, refl, sym, subst}
 use Rattle.std.specs.Prelude.{Contains, slice_index}
 use Rattle.std.specs.List.{flat_map}
 use Rattle.std.proofs.lemmas.List.{length-map}
@@ -11,15 +11,16 @@ use Rattle.image_format.specs.declared.records.RegionRecord.{RegionRecord}
 use Rattle.image_format.specs.declared.records.TaskRecord.{TaskRecord}
 use Rattle.image_format.specs.Accepted.{Accepted}
 use Rattle.image_format.specs.Names.{after_names, names_of}
-use Rattle.image_format.specs.Picture.{LinePicture, Picture, Sound, Spells, SpellsFirst, TaskPicture, all_names, all_regions, image_or_fault, line_of, line_record, names_bytes, picture_of, pictured, records_of, region_record, spelling, task_record, tasks_of}
-use Rattle.image_format.specs.Records.{Records, bytes_of, header_at, header_bytes_in, line_bytes, records_at, region_bytes, task_bytes}
-use Rattle.image_format.specs.Steps.{header_size, line_fault, lines_from, lines_place, task_fault, tasks_from}
+use Rattle.image_format.specs.Picture.{AreBytes, LinePicture, Picture, Sound, Spells, SpellsFirst, TaskPicture, all_names, all_regions, image_or_fault, line_of, line_record, names_bytes, picture_of, pictured, records_of, region_record, spelling, task_record, tasks_of}
+use Rattle.image_format.specs.Records.{Records, bytes_of, header_at, header_bytes_in, line_bytes, records_at, records_or_fault, region_bytes, task_bytes}
+use Rattle.image_format.specs.Steps.{Refusal, header_size, line_fault, lines_from, lines_place, task_fault, tasks_from}
 use Rattle.image_format.proofs.Again.{IsCounted, IsPlain, bytes_length, header_again, reads_again, records_again}
 use Rattle.image_format.proofs.Limits.{Limits, limits, short_total}
-use Rattle.image_format.proofs.Moved.{first_accepted}
+use Rattle.image_format.proofs.Moved.{first_accepted, in_form, second_accepted}
 use Rattle.image_format.proofs.Named.{no_name}
 use Rattle.image_format.proofs.Passed.{both_none, passed_steps}
-use Rattle.image_format.proofs.Shape.{is_line, picture_again, shape_again, tasks_length}
+use Rattle.image_format.proofs.Shape.{is_line, picture_again, shape_again, sound_picture, tasks_length}
+use Rattle.image_format.proofs.Spelled.{accepted_plain, spelled}
 
 -- ---- what is read is a spelling
 
@@ -66,6 +67,28 @@ spells bytes r spelled a plain = by r.header.form refl
         let nothing = ((limits r.header a.fields).second is).0 in
         let again : records_of Second (picture_of r) ≡ r = ap (λ (f : Form). records_of f (picture_of r)) (sym is) ∙ shape_again r a nothing in
         inr (spelled ∙ ap bytes_of (sym again))
+
+-- ---- an image that is read is sound, and the bytes spell it
+
+read_records : (Q : Picture → Type 0) (bytes : List ℕ) (p : Picture) → ((r : Records) → records_or_fault bytes ≡ Ok r → Q (picture_of r)) → image_or_fault bytes ≡ Ok p → Q p
+read_records Q bytes p all e = by (records_or_fault bytes) refl e
+  where
+    same_ok : (q : Picture) → ◌≡◌ {A = Result Picture Refusal} (Ok q) (Ok p) → q ≡ p
+    same_ok q e = cc
+
+    by : (x : Result Records Refusal) → records_or_fault bytes ≡ x → pictured x ≡ Ok p → Q p
+    by (Ok r) is ok = subst Q (same_ok (picture_of r) ok) (all r is)
+    by (Err fault) is ok = cc
+
+pub read_sound : (p : Picture) (bytes : List ℕ) → image_or_fault bytes ≡ Ok p → Sound p
+read_sound p bytes = read_records Sound bytes p (λ r is.
+    let read = accepted_plain bytes r is in
+    sound_picture (in_form Second r) refl (second_accepted r read.0 read.1))
+
+pub read_spelled : (p : Picture) (bytes : List ℕ) → AreBytes bytes → image_or_fault bytes ≡ Ok p → Spells p bytes
+read_spelled p bytes b = read_records (λ q. Spells q bytes) bytes p (λ r is.
+    let read = accepted_plain bytes r is in
+    spells bytes r (spelled bytes r b is) read.0 read.1)
 
 -- ---- a spelling of a sound image is read as it
 

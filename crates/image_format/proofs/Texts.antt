@@ -1,5 +1,6 @@
 -- Names as texts.
 use Rattle.std.proofs.Common.{◌≡◌, ◌∙◌, ◌+◌, ◌<◌, ℕ, zero, suc, true, List, [], ◌∷◌, ◌++◌, map, get_or, refl, sym, ap, ap₂, arith}
+use Rattle.std.proofs.lemmas.Bool.{and_parts}
 use Rattle.std.specs.List.{list_all}
 use Rattle.std.specs.Str.{IsUtf8, IsAscii}
 use Rattle.std.proofs.lemmas.Bool.Decides.{nat_tests}
@@ -8,7 +9,7 @@ use Rattle.std.proofs.lemmas.Str.{IsUtf8-from_ascii}
 use Rattle.std.proofs.lemmas.Str.Ascii.{IsAscii-cons, IsAscii-nil}
 use Rattle.text_lines.specs.Names.{is_name, is_name_byte}
 use Rattle.image_format.specs.Names.{after_name, after_names, first_name, names_of}
-use Rattle.image_format.proofs.Named.{and_true, names_more}
+use Rattle.image_format.proofs.Named.{names_more}
 
 -- the k-th of some names
 pub name_there : (n k : ℕ) (bytes : List ℕ) → k < n → get_or (names_of n bytes) k [] ≡ first_name (after_names k bytes)
@@ -28,7 +29,7 @@ byte_ascii c h = grind (arith, nat_tests)
 
 bytes_ascii : (bytes : List ℕ) → list_all is_name_byte bytes ≡ true → IsAscii bytes
 bytes_ascii [] h = IsAscii-nil
-bytes_ascii (c ∷ cs) h = let both = and_true (is_name_byte c) (list_all is_name_byte cs) h in IsAscii-cons c cs (byte_ascii c both.0) (bytes_ascii cs both.1)
+bytes_ascii (c ∷ cs) h = let both = and_parts (is_name_byte c) (list_all is_name_byte cs) h in IsAscii-cons c cs (byte_ascii c both.0) (bytes_ascii cs both.1)
 
 pub name_text : (name : List ℕ) → is_name name ≡ true → IsUtf8 name
-name_text name h = IsUtf8-from_ascii name (bytes_ascii name (and_true _ _ h).1)
+name_text name h = IsUtf8-from_ascii name (bytes_ascii name (and_parts _ _ h).1)

@@ -1,5 +1,5 @@
 -- An image: what it says of tasks, interrupts and memory, without how it is spelled; and its spellings.
-use Rattle.std.specs.Prelude.{◌≡◌, ◌≤◌, ◌⊎◌, Contains, ℕ, Bool, ◌+◌, ◌/◌, ◌%◌, ◌==◌, false, List, [], ◌∷◌, Result, Ok, Err, length, map, take, drop, slice_index_or, if◌then◌else◌}
+use Rattle.std.specs.Prelude.{◌≡◌, ◌≤◌, ◌<◌, ◌⊎◌, Contains, ℕ, Bool, ◌+◌, ◌/◌, ◌%◌, ◌==◌, false, List, [], ◌∷◌, Result, Ok, Err, length, map, take, drop, slice_index, slice_index_or, if◌then◌else◌}
 use Rattle.std.specs.List.{flat_map}
 use Rattle.region_check.specs.declared.Region.{Region}
 use Rattle.region_check.specs.declared.Rights.{Rights}
@@ -189,6 +189,10 @@ picture_of r = record {
 abbrev pub pictured : Result Records Refusal → Result Picture Refusal
 pictured (Ok r) = Ok (picture_of r)
 pictured (Err fault) = Err fault
+
+-- the numbers are bytes
+abbrev pub AreBytes : List ℕ → Type 0
+AreBytes bytes = (i : ℕ) → slice_index bytes i < 256
 
 -- the image that the bytes spell, or the first cause by which they are refused, with its place
 abbrev pub image_or_fault : List ℕ → Result Picture Refusal

@@ -1,3 +1,4 @@
 mod Fresh
+mod Opened
 mod SampleOf3
 mod SampleOf5

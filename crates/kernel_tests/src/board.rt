@@ -1,6 +1,9 @@
-ghost use Rattle.std.specs.Prelude.{◌≡◌, ◌+◌, ◌≤◌, ◌<◌, length, IfOk};
+ghost use Rattle.std.specs.Prelude.{◌≡◌, ◌+◌, ◌≤◌, ◌<◌, true, length, IfOk};
+ghost use Rattle.mem_banks.specs.Memory.{is_held};
+ghost use Rattle.task_table.specs.State.{State};
+ghost use Rattle.board_model.specs.Script.{Scenario};
 ghost use Rattle.board_core.specs.Data.{boxed};
-ghost use Rattle.board_core.specs.Stands.{Stood, turns_of};
+ghost use Rattle.board_core.specs.Stands.{Holds, Stood, turns_of};
 
 use board_core::{Board, End, Level};
 use image_format::Image;
@@ -26,6 +29,7 @@ fn with_script(
     requires small { length script.now < 1000 }
     ensures stood { IfOk result (λ b. Stood (boxed shown) b) }
     ensures turns { IfOk result (λ b. turns_of b ≡ 0) }
+    ensures first { IfOk result (λ b. (x : Scenario) × (s : State) × Holds (boxed shown) x b s × (is_held s.memory 0x08000000 ≡ true)) }
 {
     let mut bytes = [0; 300];
     bytes[..44].copy_from_slice(&HEAD);
@@ -34,6 +38,7 @@ fn with_script(
     bytes[46] = (second % 256) as u8;
     bytes[47] = (second / 256) as u8;
     let image = Image::read(alloc, &bytes).expect(rt, "the image is sound");
+    image.facts();
     let script = Script::read(alloc, script).expect(rt, "the script is taken");
     Board::open(alloc, &image, &script, Vec::new(alloc))
 }
@@ -96,6 +101,18 @@ fn a_board_opens(rt: HostRuntime) -> Result<(), Fail> {
     assert!(rt; (shown(&board), counts) == ((0, 0, false, 0, None), (1, 1)));
     assert!(rt; (bytes, lines) == ([Some(0x20), None], [Some((false, false)), None]));
     assert!(rt; is_there == [true, false, false]);
+    Ok(())
+}
+
+// The first byte of the flash becomes another one, and the one beside it stays.
+#[test]
+fn a_byte_is_set(rt: HostRuntime) -> Result<(), Fail> {
+    let mut board = with_script(&rt, rt.alloc(), 0xe7fe, b"")?;
+    let before = [board.byte(0x0800_0000), board.byte(0x0800_0001)];
+    board.set_byte(0x0800_0000, 7);
+    let after = [board.byte(0x0800_0000), board.byte(0x0800_0001)];
+    assert!(rt; before == [Some(1), Some(0x20)]);
+    assert!(rt; after == [Some(7), Some(0x20)]);
     Ok(())
 }
 

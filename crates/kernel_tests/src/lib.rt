@@ -13,6 +13,8 @@ mod debugging;
 #[cfg(test)]
 mod eight_devices;
 #[cfg(test)]
+mod guide;
+#[cfg(test)]
 mod memory;
 #[cfg(test)]
 mod saved_states;

@@ -235,12 +235,26 @@ fn a_flush_passes_on_what_is_held_back(rt: HostRuntime) {
     assert!(rt; (done, taken) == (wanted, *b"abcde"));
 }
 
-fn puts_and_reads<F: Files>(alloc: Global, files: &mut F, name: &str) -> [bool; 3] {
+fn puts_and_reads<F: Files>(alloc: Global, files: &mut F, name: &str) -> [bool; 4] {
     [
         files.put(name, b"longer").is_ok(),
+        has(alloc, files, name, b"longer"),
         files.put(name, b"abcde").is_ok(),
         has(alloc, files, name, b"abcde"),
     ]
+}
+
+// Reads that go on, that go back and that are beyond the end, of the file that holds `abcde`.
+fn reads_anywhere<F: Files>(files: &mut F, name: &str) -> ([Result<usize, Failed>; 5], [u8; 3]) {
+    let mut buf = *b"___";
+    let counts = [
+        files.read(name, 9, &mut buf),
+        files.read(name, 3, &mut buf),
+        files.read(name, 5, &mut buf),
+        files.read(name, 0, &mut buf),
+        files.read(name, 1, &mut buf),
+    ];
+    (counts, buf)
 }
 
 fn reads_or_puts<F: Files>(files: &mut F, name: &str) -> [bool; 2] {
@@ -255,7 +269,10 @@ fn puts_and_reads_a_real_file(rt: HostRuntime) {
     let name = "outside_io_put_and_read.tmp";
     let mut files = HostFiles::new(&rt);
     let there = puts_and_reads(rt.alloc(), &mut files, name);
+    let read = reads_anywhere(&mut files, name);
     let is_removed = fs::remove_file(&rt, name).is_ok();
-    let gone = reads_or_puts(&mut files, name);
-    assert!(rt; (there, is_removed, gone) == ([true, true, true], true, [false, false]));
+    let gone = reads_or_puts(&mut HostFiles::new(&rt), name);
+    let counts = [Ok(0), Ok(2), Ok(0), Ok(3), Ok(3)];
+    assert!(rt; (there, is_removed, gone) == ([true, true, true, true], true, [false, false]));
+    assert!(rt; read == (counts, *b"bcd"));
 }

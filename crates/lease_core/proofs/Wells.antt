@@ -1,5 +1,6 @@
 -- A borrow went well only where no row of it applied but the last.
 use Rattle.std.proofs.Common.{◌≡◌, ◌<◌, ◌≤◌, ℕ, Bool, true, false, not, cond, List, [], ◌∷◌, length, Option, Some, None, refl, sym, subst, ◌∙◌, ap, arith, eqb, leb, ltb, get_or, bit_and, is_some, get_or-set_other}
+use Rattle.std.proofs.lemmas.Bool.{not-false}
 use Rattle.std.specs.Option.{option_map}
 use Rattle.kernel_abi.specs.Arguments.{borrow_args, info_args}
 use Rattle.kernel_abi.specs.Ids.{index_of}
@@ -121,10 +122,6 @@ passed : (P : Turn → Type 0) (b : Bool) {u v : Turn} → P (cond b u v) → (P
 passed P true p ill = absurd (ill p)
 passed P false p ill = (refl, p)
 
-not_false : (b : Bool) → not b ≡ false → b ≡ true
-not_false true h = refl
-not_false false h = sym h
-
 -- it went well, and wrote none of an entry that begins at an address
 abbrev pub Went : ℕ → ℕ → Turn → Type 0
 Went c base u = WentWell c u × WritesNone u.writes base 12
@@ -169,7 +166,7 @@ module _ (g : Setup) (t : Turn) (h : Sane g t.state) where
       let none = subst (λ ws. WritesNone ws base 12) (writes-goes_on c _ _ _) r8.1.1 in
       let clear = clear_moved x.way k part.base x.args.buffer_base part.len x.args.buffer_length base u after.steady.placed.flash leased buffer (omega arith) none in (
         record { listed = r1.0; readable = subst (λ j. bad_byte g j Read (entry_range k lease) ≡ None) client readable },
-        record { valid = not_false _ r3.0; allowed = r4.0; inside = r5.0; buffer = not_false _ r6.0; own = own; lender = subst (λ j. bad_byte g j (way_of x.way).lender part ≡ None) client lender },
+        record { valid = not-false _ r3.0; allowed = r4.0; inside = r5.0; buffer = not-false _ r6.0; own = own; lender = subst (λ j. bad_byte g j (way_of x.way).lender part ≡ None) client lender },
         clear,
       )
 
@@ -185,7 +182,7 @@ module _ (g : Setup) (t : Turn) (h : Sane g t.state) where
       let r1 = passed P (leb k.leases lease) w (λ p. faulted_ill g c _ t inside p) in
       let r2 = passed P (is_some (bad_byte g j Read (entry_range k lease))) r1.1 (λ p. fault_answered_ill g c j 1 _ (0 ∷ 0 ∷ []) t h inside there (omega arith) (omega arith) (omega arith) (omega arith) p) in
       let r3 = passed P (not (is_valid (lease_range e))) r2.1 (λ p. fault_answered_ill g c j 1 record { number = 7; x = 3; y = 0 } (0 ∷ 0 ∷ []) u after (still h after inside) (still h after there) (omega arith) (omega arith) (omega arith) (omega arith) p) in
-      (record { listed = r1.0; readable = subst (λ m. bad_byte g m Read (entry_range k lease) ≡ None) client (none_left _ r2.0) }, not_false _ r3.0)
+      (record { listed = r1.0; readable = subst (λ m. bad_byte g m Read (entry_range k lease) ≡ None) client (none_left _ r2.0) }, not-false _ r3.0)
 
   -- the caller names a live task
   pub went_on : (way : Needs) (c base : ℕ) (x : BorrowArgs) → x ≡ borrow_args (arguments t.state c) → c < length t.state.tasks → Went c base (borrowed g way c t) → (is_out t.state x.lender.number ≡ false) × (is_dead t.state x.lender.number ≡ false) × Went c base (borrowed_by g way c x (taken_by t.state (index_of x.lender.number) c) t)

@@ -44,7 +44,7 @@ bytes_none m a n below =
     rw (t, u)
 
 -- nothing is left of no bytes
-nothing_dropped : (i : ℕ) → drop {A = ℕ} i [] ≡ []
+pub nothing_dropped : (i : ℕ) → drop {A = ℕ} i [] ≡ []
 nothing_dropped zero = refl
 nothing_dropped (suc i) = refl
 

@@ -7,7 +7,7 @@ use Rattle.mem_banks.specs.Banks.{flash_of, ram_of, AreLaid}
 use Rattle.mem_banks.specs.Memory.{Memory, Opened, pasted, with_bytes}
 use Rattle.mem_banks.specs.Kept.{AreKept, IsNext, IsLaidOut, AreZeros, seen}
 use Rattle.mem_banks.proofs.Splits.{push_flash, push_ram}
-use Rattle.mem_banks.proofs.Copies.{with_bytes_flash}
+use Rattle.mem_banks.proofs.Copies.{with_bytes_flash, take_none}
 
 zeros_more : (xs ys zs : List ℕ) (a b c : ℕ) → ys ≡ xs ++ replicate a 0 → zs ≡ replicate b 0 → a + b ≡ c → ys ++ zs ≡ xs ++ replicate c 0
 zeros_more xs ys zs a b c e f g = rw (e, f, ← g, ← replicate-append-replicate {A = ℕ} a b 0) (simp append_assoc)
@@ -49,10 +49,6 @@ table_zero xs n m e some = (
       let z : get_or (replicate n 0) k d ≡ 0 = get_or-replicate {A = ℕ} n k 0 d (omega (arith, ap length e, length-replicate {A = ℕ} n 0)) in
       rw (e, z) some,
 )
-
-take_none : (xs : List ℕ) → take 0 xs ≡ []
-take_none [] = refl
-take_none (x ∷ xs) = refl
 
 -- bytes over as many
 pub pasted_all : (xs ys : List ℕ) → length xs ≡ length ys → pasted xs 0 ys ≡ ys

@@ -28,15 +28,12 @@ more_read table banks a all n k b o d old new piece kept side within there at fi
 pub all_in_ram : (m : Memory) (n : ℕ) → n ≡ length m.ram → IsWithinRam m 0x20000000 n
 all_in_ram m n e = inr (omega arith, omega arith)
 
-pub all_within : (m : Memory) (n : ℕ) → n ≡ length m.ram → IsWithin m 0x20000000 n
-all_within m n e = inl (all_in_ram m n e)
-
 -- as many bytes as the RAM has from its first address on are its bytes
 pub all_read : (m : Memory) (n : ℕ) → n ≡ length m.ram → bytes_at m 0x20000000 n ≡ m.ram
 all_read m n e = rw (bytes_ram m 0x20000000 n (omega arith), e) (take_all (length m.ram) m.ram (omega arith))
 
 -- a list with as many elements over its own from the first on is these
-pasted_whole : (xs bytes : List ℕ) → length bytes ≡ length xs → pasted xs 0 bytes ≡ bytes
+pub pasted_whole : (xs bytes : List ℕ) → length bytes ≡ length xs → pasted xs 0 bytes ≡ bytes
 pasted_whole xs bytes e =
     let end : 0 + length bytes ≡ length xs = omega (arith, e) in
     let none : drop (0 + length bytes) xs ≡ [] = rw end (drop-length xs) in

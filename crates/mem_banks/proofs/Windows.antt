@@ -73,15 +73,9 @@ number_below m base a n xs ram low = ap number_of (bytes_below m base a n xs ram
 pub bytes_beside : (m : Memory) (base a n : ℕ) (xs : List ℕ) → IsInRam m (base, length xs) → IsInMemory m (a, n) → AreApart (a, n) (base, length xs) → bytes_at (with_bytes m base xs) a n ≡ bytes_at m a n
 bytes_beside m base a n xs x there apart = read_apart m base a n xs (ram_side x.0 x.1) (side_of_region m a n there) apart
 
-pub number_beside : (m : Memory) (base a n : ℕ) (xs : List ℕ) → IsInRam m (base, length xs) → IsInMemory m (a, n) → AreApart (a, n) (base, length xs) → number_at (with_bytes m base xs) a n ≡ number_at m a n
-number_beside m base a n xs x there apart = ap number_of (bytes_beside m base a n xs x there apart)
-
 -- flash and RAM are as long as before
 pub same_flash_length : (m : Memory) (base : ℕ) (xs : List ℕ) → 0x20000000 ≤ base → length (with_bytes m base xs).flash ≡ length m.flash
 same_flash_length m base xs ram = rw (with_bytes_ram m base xs ram) refl
 
 pub same_ram_length : (m : Memory) (base : ℕ) (xs : List ℕ) → IsInRam m (base, length xs) → length (with_bytes m base xs).ram ≡ length m.ram
 same_ram_length m base xs x = rw (with_bytes_ram m base xs x.0) (length-pasted m.ram (base - 0x20000000) xs (omega (arith, x.0, x.1)))
-
-pub same_is_ram : (m : Memory) (base a n : ℕ) (xs : List ℕ) → IsInRam m (base, length xs) → is_ram (with_bytes m base xs) a n ≡ is_ram m a n
-same_is_ram m base a n xs x = rw (same_ram_length m base xs x) refl

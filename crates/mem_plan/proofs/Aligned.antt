@@ -1,7 +1,7 @@
 -- Each placed base is a multiple of its size.
 use Rattle.std.proofs.Common.{◌≡◌, ◌∙◌, ℕ, zero, suc, Bool, true, ◌+◌, ◌*◌, ◌≤◌, ◌<◌, List, [], ◌∷◌, map, sym, subst, ap, arith, nat_le, nat_lt, length, take, drop, get_or, inl, inr}
 use Rattle.std.specs.Prelude.{if◌then◌else◌}
-use Rattle.std.proofs.lemmas.Bool.{cases_Bool}
+use Rattle.std.proofs.lemmas.Bool.{cases_Bool, leb-true}
 use Rattle.std.proofs.lemmas.Bool.Decides.{nat_tests}
 use Rattle.std.proofs.Math.ListN.{get_or-map}
 use Rattle.std.proofs.lemmas.List.{take-map, drop-map, length-map, get_or_default}
@@ -72,9 +72,6 @@ at_most (suc k) p size = elim (cases_Bool (nat_le size p)) [
 mult_trans : (r x y : ℕ) → IsMultiple r x → IsMultiple x y → IsMultiple r y
 mult_trans r x y (k, e) (l, f) = let assoc : r * k * l ≡ r * (k * l) = grind arith in (k * l, f ∙ ap (λ (n : ℕ). n * l) e ∙ assoc)
 
-at_least_size : (r s : ℕ) → nat_le r s ≡ true → r ≤ s
-at_least_size r s e = grind (arith, nat_tests)
-
 above_size : (r s : ℕ) → nat_lt r s ≡ true → r ≤ s
 above_size r s e = grind (arith, nat_tests)
 
@@ -86,7 +83,7 @@ aligned sizes base i lt whole =
     let rs = map rounded sizes in
     let is : get_or rs i 0 ≡ r = get_or_default rs i 0 (rounded 0) (omega (arith, lt, length-map sizes rounded)) ∙ get_or-map rounded sizes i 0 in
     let base_too : IsMultiple r base = mult_trans r 1048576 base (ladder x 1048576 (at_most 12 256 x)) whole in
-    let front : IsMultiple r (sum_where (λ s. nat_le r s) (take i rs)) = rw (take-map rounded i sizes) (sums x (λ s. nat_le r s) (at_least_size r) (take i sizes)) in
+    let front : IsMultiple r (sum_where (λ s. nat_le r s) (take i rs)) = rw (take-map rounded i sizes) (sums x (λ s. nat_le r s) (leb-true r) (take i sizes)) in
     let back : IsMultiple r (sum_where (λ s. nat_lt r s) (drop i rs)) = rw (drop-map rounded i sizes) (sums x (λ s. nat_lt r s) (above_size r) (drop i sizes)) in
     subst (λ (q : ℕ). IsMultiple q (base + (sum_where (λ s. nat_le q s) (take i rs) + sum_where (λ s. nat_lt q s) (drop i rs)))) (sym is)
     (mult_add r _ _ base_too (mult_add r _ _ front back))

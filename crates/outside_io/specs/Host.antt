@@ -9,8 +9,8 @@ pub record Counts : Type 0 where
   pub put_faults : ℕ
   pub given : ℕ
 
-abbrev pub counts_of : {R : Type 0} → HostFiles R → Counts
-counts_of {R} f = record { read_faults = f.read_faults; put_faults = f.put_faults; given = f.given }
+abbrev pub counts_of : {R F D : Type 0} → HostFiles R F D → Counts
+counts_of {R} {F} {D} f = record { read_faults = f.read_faults; put_faults = f.put_faults; given = f.given }
 
 -- the output that a sink writes to
 abbrev pub out_of : {W : Type 0} → HostSink W → W

@@ -1,49 +1,124 @@
 //! Real files and a real output. They show no contents and no failing name.
-ghost use Rattle.std.specs.Prelude.{◌≡◌, ◌≢◌, ℕ, List, None, IfOk, MatchResult, OnErr, OnOk, ◌≤◌, length};
+ghost use Rattle.std.specs.Prelude.{◌≡◌, ◌≢◌, ℕ, List, None, IfOk, IsSomeAnd, IsTrue, MatchResult, OnErr, OnOk, Some, ◌≤◌, ◌+◌, length};
 ghost use Rattle.std.specs.Io.KnownBytes.{Keeps};
 ghost use Rattle.outside_io.specs.Outside.{CountsFailure, Gives, HasCause, Puts, Pushes, Reads, WhereSeen, short_name};
 ghost use Rattle.outside_io.specs.Host.{counts_of, out_of, faults_of};
+ghost use Rattle.outside_io.specs.Open.{IsNamed, StandsAt};
 
 use crate::{Failed, Files, Sink};
+use std::alloc::Global;
 use std::io::{Read, Seek, SeekFrom, Write};
 use std::{fs, io, rt};
 
-/// The files of the machine, by path. Three counts of 64 bits stop at their end: one rises by one
-/// at each failed read, one at each failed put, and one by the bytes that each read gives.
+// A file that is open for reads: its name, where there was memory for it, and the place where it stands, where that is
+// a number of 64 bits. One without a name is read once.
 #[derive(Drop)]
-pub struct HostFiles<R> {
+struct OpenFile<F> {
+    name: Option<String>,
+    file: F,
+    place: Option<u64>,
+}
+
+impl<F: Read + Seek> OpenFile<F> {
+    // A file that was opened under a name, and stands at its start.
+    fn new(alloc: Global, name: &str, file: F) -> Self
+        ensures file { result.file ≡ file }
+        ensures name { IsNamed result name.now }
+        ensures place { result.place ≡ Some 0 }
+    {
+        OpenFile {
+            name: String::from_str(alloc, name).ok(),
+            file,
+            place: Some(0),
+        }
+    }
+
+    // Whether it is known to have this name.
+    fn has_name(&self, name: &str) -> bool
+        ensures { IsTrue result → IsNamed self.now name.now }
+    {
+        match &self.name {
+            Some(own) => own.as_str() == name,
+            None => false,
+        }
+    }
+
+    // Reads from a place on. A file that stands there is not sought, so that one that cannot be, as a pipe, is read
+    // from its start to its end.
+    fn read_at(&mut self, at: u64, buf: &mut [u8]) -> io::Result<usize>
+        ensures bound { IfOk result (λ n. n ≤ length buf.new) }
+        ensures place { IfOk result (λ n. StandsAt self.new (at + n)) }
+        ensures name { self.new.name ≡ self.old.name }
+    {
+        if self.place != Some(at) {
+            self.file.seek(SeekFrom::Start(at))?;
+        }
+        let count = self.file.read(buf)?;
+        self.place = at.checked_add(count as u64);
+        Ok(count)
+    }
+}
+
+/// The files of the machine, by path. The file that was read last stays open, so that reads which go on through a
+/// file open it once, and one that cannot be sought, as a pipe, can be read. Three counts of 64 bits stop at their
+/// end: one rises by one at each failed read, one at each failed put, and one by the bytes that each read gives.
+#[derive(Drop)]
+pub struct HostFiles<R: rt::Files> {
     rt: R,
+    kept: Option<OpenFile<R::File>>,
     read_faults: u64,
     put_faults: u64,
     given: u64,
 }
 
-impl<R: rt::Files> HostFiles<R> {
+impl<R: rt::Files + AllocGlobal> HostFiles<R> {
     /// The files of this machine, with all counts at 0.
     pub fn new(rt: R) -> Self
         ensures { counts_of result ≡ record { read_faults = 0; put_faults = 0; given = 0 } }
     {
         HostFiles {
             rt,
+            kept: None,
             read_faults: 0,
             put_faults: 0,
             given: 0,
         }
     }
+
+    // The file under a name: the one that was read last, where that is it, or else one that is opened now. It is not
+    // kept until it is put back.
+    fn take(&mut self, name: &str) -> io::Result<OpenFile<R::File>>
+        ensures named { IfOk result (λ file. IsNamed file name.now) }
+        ensures gone { self.new.kept ≡ None }
+        ensures counts { counts_of self.new ≡ counts_of self.old }
+    {
+        if let Some(file) = self.kept.take() {
+            if file.has_name(name) {
+                return Ok(file);
+            }
+        }
+        let file = fs::open(&self.rt, name)?;
+        Ok(OpenFile::new(self.rt.alloc(), name, file))
+    }
+
+    // Reads from a place on. The file is kept unless the read failed.
+    fn read_at(&mut self, name: &str, at: u64, buf: &mut [u8]) -> io::Result<usize>
+        ensures bound { IfOk result (λ n. n ≤ length buf.new) }
+        ensures kept { IfOk result (λ n. IsSomeAnd self.new.kept (λ file. IsNamed file name.now × StandsAt file (at + n))) }
+        ensures gone { OnErr result (self.new.kept ≡ None) }
+        ensures counts { counts_of self.new ≡ counts_of self.old }
+    {
+        let mut file = self.take(name)?;
+        let count = file.read_at(at, buf)?;
+        self.kept = Some(file);
+        Ok(count)
+    }
 }
 
-fn read_at<R: rt::Files>(rt: &R, name: &str, at: u64, buf: &mut [u8]) -> io::Result<usize>
-    ensures { IfOk result (λ n. n ≤ length buf.new) }
-{
-    let mut file = fs::open(rt, name)?;
-    file.seek(SeekFrom::Start(at))?;
-    file.read(buf)
-}
-
-impl<R: rt::Files> Files for HostFiles<R> {
+impl<R: rt::Files + AllocGlobal> Files for HostFiles<R> {
     ghost seen = { λ f. record { contents = λ _. None; read_faults = f.read_faults; put_faults = f.put_faults; given = f.given; last_failing = None } };
 
-    /// One read of the file that is opened at the path, from the place on.
+    /// One read of the file at the path, from the place on.
     fn read(&mut self, name: &str, at: u64, buf: &mut [u8]) -> Result<usize, Failed>
         ensures bytes { Reads None at buf.new result }
         ensures count { Gives (counts_of self.old).given (counts_of self.new).given result }
@@ -53,7 +128,7 @@ impl<R: rt::Files> Files for HostFiles<R> {
 
         ensures faults { CountsFailure (counts_of self.old).read_faults (counts_of self.new).read_faults result }
     {
-        match read_at(&self.rt, name, at, buf) {
+        match self.read_at(name, at, buf) {
             Ok(count) => {
                 self.given = self.given.saturating_add(count as u64);
                 Ok(count)
@@ -65,7 +140,8 @@ impl<R: rt::Files> Files for HostFiles<R> {
         }
     }
 
-    /// Writes the whole of the bytes to the file at the path, which it makes or cuts first.
+    /// Writes the whole of the bytes to the file at the path, which it makes or cuts first. What was read last is let
+    /// go before, so that a later read gives what was put.
     fn put(&mut self, name: &str, bytes: &[u8]) -> Result<(), Failed>
         ensures cause { HasCause (counts_of self.old).put_faults (counts_of self.new).put_faults result }
         ensures count { (counts_of self.new).given ≡ (counts_of self.old).given }
@@ -73,6 +149,7 @@ impl<R: rt::Files> Files for HostFiles<R> {
 
         ensures faults { CountsFailure (counts_of self.old).put_faults (counts_of self.new).put_faults result }
     {
+        self.kept = None;
         match fs::write(&self.rt, name, bytes) {
             Ok(()) => Ok(()),
             Err(_) => {
@@ -104,21 +181,6 @@ impl<W: Write> HostSink<W> {
         ensures { result ≡ out_of self }
     {
         self.out
-    }
-
-    /// Passes on what the output holds back of the pieces that it has taken. A failure is counted as that of
-    /// a push.
-    pub fn flush(&mut self) -> Result<(), Failed>
-        ensures output { Keeps (W.contents (out_of self.old)) (W.contents (out_of self.new)) }
-        ensures counted { CountsFailure (faults_of self.old) (faults_of self.new) result }
-    {
-        match self.out.flush() {
-            Ok(()) => Ok(()),
-            Err(_) => {
-                self.faults = self.faults.saturating_add(1);
-                Err(Failed)
-            }
-        }
     }
 }
 
@@ -152,5 +214,21 @@ impl<W: Write> Sink for HostSink<W> {
             self.faults = self.faults.saturating_add(1);
         }
         written
+    }
+
+    /// A failure is counted as that of a push.
+    fn flush(&mut self) -> Result<(), Failed>
+        ensures cause { HasCause (faults_of self.old) (faults_of self.new) result }
+
+        ensures output { Keeps (W.contents (out_of self.old)) (W.contents (out_of self.new)) }
+        ensures counted { CountsFailure (faults_of self.old) (faults_of self.new) result }
+    {
+        match self.out.flush() {
+            Ok(()) => Ok(()),
+            Err(_) => {
+                self.faults = self.faults.saturating_add(1);
+                Err(Failed)
+            }
+        }
     }
 }

@@ -5,11 +5,13 @@
 
 mod held;
 mod host;
+mod lines;
 mod memory;
 mod reading;
 mod traits;
 
 pub use host::{HostFiles, HostSink};
+pub use lines::push_lines;
 pub use memory::{MemFiles, MemSink};
 pub use reading::{ReadAll, read_all};
 pub use traits::{Failed, Files, Sink};

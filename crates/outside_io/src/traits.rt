@@ -42,4 +42,10 @@ pub trait Sink {
     fn push(&mut self, piece: &[u8]) -> Result<(), Failed>
         ensures bytes { Pushes ((seen self.old).written) ((seen self.new).written) piece.now result }
         ensures cause { HasCause ((seen self.old).faults) ((seen self.new).faults) result };
+
+    /// Passes on what is held back of the pieces that it has taken; nothing is appended. Fails only where it counts
+    /// a fault.
+    fn flush(&mut self) -> Result<(), Failed>
+        ensures written { (seen self.new).written ≡ (seen self.old).written }
+        ensures cause { HasCause ((seen self.old).faults) ((seen self.new).faults) result };
 }

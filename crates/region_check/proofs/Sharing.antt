@@ -2,22 +2,14 @@
 use Rattle.std.proofs.Common.{◌≡◌, ◌⊎◌, inl, inr, ◌+◌, ◌<◌, ◌≤◌, ℕ, zero, suc, Bool, true, false, ◌&&◌, ◌||◌, not, leb, ltb, List, [], ◌∷◌, refl, sym, ◌∙◌, ap, arith, ltb-true, eq-eqb, eqb}
 use Rattle.std.specs.Prelude.{Contains}
 use Rattle.std.specs.List.{list_any, list_all}
-use Rattle.std.proofs.lemmas.Bool.{leb-true, false≢true, not-false}
+use Rattle.std.proofs.lemmas.Bool.{leb-true, false≢true, not-false, and_parts, not-true}
 use Rattle.region_check.specs.declared.Region.{Region}
 use Rattle.region_check.specs.Rights.{is_inside, is_same_place, is_alone, SameOrApart}
 
-parts : (a b : Bool) → (a && b) ≡ true → (a ≡ true) × (b ≡ true)
-parts true b e = (refl, e)
-parts false b e = absurd (false≢true e)
-
-not_true : (a : Bool) → not a ≡ true → a ≡ false
-not_true false e = refl
-not_true true e = absurd (false≢true e)
-
 each_of : {A : Type 0} (p : A → Bool) (xs : List A) (x : A) → list_all p xs ≡ true → Contains xs x → p x ≡ true
 each_of p [] x e here = absurd (omega (arith, here.1))
-each_of p (y ∷ ys) x e (zero, lt, same) = ap p (sym same) ∙ (parts (p y) (list_all p ys) e).0
-each_of p (y ∷ ys) x e (suc k, lt, same) = each_of p ys x (parts (p y) (list_all p ys) e).1 (k, omega arith, same)
+each_of p (y ∷ ys) x e (zero, lt, same) = ap p (sym same) ∙ (and_parts (p y) (list_all p ys) e).0
+each_of p (y ∷ ys) x e (suc k, lt, same) = each_of p ys x (and_parts (p y) (list_all p ys) e).1 (k, omega arith, same)
 
 none_of : {A : Type 0} (p : A → Bool) (xs : List A) (x : A) → list_any p xs ≡ false → Contains xs x → p x ≡ false
 none_of p [] x e here = absurd (omega (arith, here.1))
@@ -37,17 +29,17 @@ same_place r q base size = rw (eq-eqb r.base q.base base, eq-eqb r.size q.size s
 
 module _ (own others : List Region) (alone : is_alone own others ≡ true) where
   own_alone : (r : Region) → Contains own r → (not r.rights.device ≡ true) × (not (list_any (is_same_place r) others) ≡ true)
-  own_alone r here = parts (not r.rights.device) _ (each_of (λ (x : Region). not x.rights.device && not (list_any (is_same_place x) others)) own r alone here)
+  own_alone r here = and_parts (not r.rights.device) _ (each_of (λ (x : Region). not x.rights.device && not (list_any (is_same_place x) others)) own r alone here)
 
   pub no_device : (r : Region) → Contains own r → r.rights.device ≡ false
-  no_device r here = not_true _ (own_alone r here).0
+  no_device r here = not-true _ (own_alone r here).0
 
   pub apart : (r q : Region) → Contains own r → Contains others q → SameOrApart r q → (a : ℕ) → is_inside r a ≡ true → is_inside q a ≡ false
-  apart r q here there (inl same) a inside = absurd (false≢true (sym (none_of (is_same_place r) others q (not_true _ (own_alone r here).1) there) ∙ same_place r q same.0 same.1))
+  apart r q here there (inl same) a inside = absurd (false≢true (sym (none_of (is_same_place r) others q (not-true _ (own_alone r here).1) there) ∙ same_place r q same.0 same.1))
   apart r q here there (inr either) a inside = by_inside (is_inside q a) refl
     where
       from_to : (x : Region) → is_inside x a ≡ true → (x.base ≤ a) × (a < x.base + x.size)
-      from_to x e = let b = parts (leb x.base a) (ltb a (x.base + x.size)) e in (leb-true _ _ b.0, ltb-true _ _ b.1)
+      from_to x e = let b = and_parts (leb x.base a) (ltb a (x.base + x.size)) e in (leb-true _ _ b.0, ltb-true _ _ b.1)
 
       no_both : (r.base + r.size ≤ q.base) ⊎ (q.base + q.size ≤ r.base) → (r.base ≤ a) × (a < r.base + r.size) → (q.base ≤ a) × (a < q.base + q.size) → ⊥
       no_both (inl below) x y = let one = x.1 in let two = y.0 in absurd (omega arith)

@@ -1,25 +1,18 @@
 -- What one region gives to a range, it gives to each of its bytes.
 use Rattle.std.proofs.Common.{◌≡◌, ◌+◌, ◌<◌, ◌≤◌, ℕ, suc, Bool, true, false, ◌&&◌, ◌||◌, List, [], ◌∷◌, None, not, ap, refl, arith, leb}
-use Rattle.std.proofs.lemmas.Bool.{false≢true, le-leb, leb-true}
+use Rattle.std.proofs.lemmas.Bool.{false≢true, le-leb, leb-true, and_parts, and_from}
 use Rattle.region_check.specs.declared.Region.{Region}
 use Rattle.region_check.specs.declared.Right.{Right}
 use Rattle.region_check.specs.Rights.{has_right, is_inside, gives, may_use, first_lacking}
 use Rattle.region_check.proofs.FirstBad.{find_range_none}
 use Rattle.region_check.specs.Spans.{spans, one_gives}
 
-pub both : (a b : Bool) → (a && b) ≡ true → (a ≡ true) × (b ≡ true)
-both true b h = (refl, h)
-both false b h = absurd (false≢true h)
-
-pub and_true : (a b : Bool) → a ≡ true → b ≡ true → (a && b) ≡ true
-and_true a b x y = rw (x, y) refl
-
 inside : (r : Region) (a n x : ℕ) → spans r a n ≡ true → a ≤ x → x < a + n → is_inside r x ≡ true
 inside r a n x h from below =
-    let two = both (leb r.base a) (leb (a + n) (r.base + r.size)) h in
+    let two = and_parts (leb r.base a) (leb (a + n) (r.base + r.size)) h in
     let low = leb-true r.base a two.0 in
     let high = leb-true (a + n) (r.base + r.size) two.1 in
-    and_true (leb r.base x) (leb (suc x) (r.base + r.size)) (le-leb _ _ (omega arith)) (le-leb _ _ (omega arith))
+    and_from (leb r.base x) (leb (suc x) (r.base + r.size)) (le-leb _ _ (omega arith)) (le-leb _ _ (omega arith))
 
 pub each_given : (regions : List Region) (right : Right) (a n x : ℕ) → one_gives right a n regions ≡ true → a ≤ x → x < a + n → may_use regions right x ≡ true
 each_given [] right a n x h from below = absurd (false≢true h)
@@ -34,8 +27,8 @@ each_given (r ∷ rs) right a n x h from below = by_first (spans r a n && has_ri
 
     by_first : (b : Bool) → (spans r a n && has_right r.rights right) ≡ b → (b || one_gives right a n rs) ≡ true → (one_gives right a n rs ≡ true → may_use rs right x ≡ true) → may_use (r ∷ rs) right x ≡ true
     by_first true e h rest =
-        let two = both (spans r a n) (has_right r.rights right) e in
-        or_left (gives right x r) (may_use rs right x) (and_true (is_inside r x) (has_right r.rights right) (inside r a n x two.0 from below) two.1)
+        let two = and_parts (spans r a n) (has_right r.rights right) e in
+        or_left (gives right x r) (may_use rs right x) (and_from (is_inside r x) (has_right r.rights right) (inside r a n x two.0 from below) two.1)
     by_first false e h rest = or_right (gives right x r) (may_use rs right x) (rest h)
 
 -- and none of them is lacking

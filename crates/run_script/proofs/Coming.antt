@@ -1,7 +1,8 @@
 -- The next turn in which something happens.
 use Rattle.std.proofs.Common.{◌≡◌, ◌≢◌, ℕ, suc, zero, ◌+◌, ◌-◌, ◌*◌, ◌/◌, ◌%◌, ◌≤◌, ◌<◌, List, [], ◌∷◌, ◌++◌, length, get_or, Option, Some, None, refl, sym, ap, ◌∙◌, subst, arith, Bool, true, false, nat_lt, ◌==◌, ◌&&◌, div-add-mod'}
+use Rattle.std.proofs.lemmas.Bool.{ltb-true, ltb-false}
 use Rattle.std.specs.List.{All}
-use Rattle.std.proofs.lemmas.Nat.{div_below, mod_below, mod-mul-add, mul-le}
+use Rattle.std.proofs.lemmas.Nat.{div_below, mod_below, mod-mul-add, mul-le, div-add-mod'}
 use Rattle.run_script.specs.declared.events.Event.{Event}
 use Rattle.run_script.specs.declared.events.Event.TheVariants.{Tick}
 use Rattle.run_script.specs.Facts.{IsListed}
@@ -11,29 +12,26 @@ use Rattle.run_script.proofs.Picks.{IsFirst}
 
 -- ---- multiples
 
-whole_part : (t p : ℕ) → t / p * p + t % p ≡ t
-whole_part t p = div-add-mod' t p
-
 one_more : (q p : ℕ) → (q + 1) * p ≡ q * p + p
 one_more q p = omega arith
 
 pub multiple_from : (p first : ℕ) → 0 < p → first ≤ (first + (p - 1)) / p * p
-multiple_from p first some = omega (arith, whole_part (first + (p - 1)) p, mod_below (first + (p - 1)) p some)
+multiple_from p first some = omega (arith, div-add-mod' (first + (p - 1)) p, mod_below (first + (p - 1)) p some)
 
 pub multiple_whole : (m p : ℕ) → 0 < p → (m * p) % p ≡ 0
 multiple_whole m p some = ap (λ n. n % p) (omega arith) ∙ mod-mul-add m p 0 some
 
 pub multiple_least : (p first t : ℕ) → 0 < p → first ≤ t → t % p ≡ 0 → (first + (p - 1)) / p * p ≤ t
 multiple_least p first t some from whole =
-    let is = whole_part t p in
+    let is = div-add-mod' t p in
     let more = one_more (t / p) p in
-    let under : (first + (p - 1)) / p < t / p + 1 = div_below (first + (p - 1)) p (t / p + 1) some (omega (arith, is, more)) in
+    let ltb-true : (first + (p - 1)) / p < t / p + 1 = div_below (first + (p - 1)) p (t / p + 1) some (omega (arith, is, more)) in
     let product = mul-le ((first + (p - 1)) / p) p (t / p) p (omega arith) (omega arith) in
     omega (arith, is, product)
 
 -- ---- ticks
 
-by_test : {A : Type 0} (b : Bool) → (b ≡ true → A) → (b ≡ false → A) → A
+pub by_test : {A : Type 0} (b : Bool) → (b ≡ true → A) → (b ≡ false → A) → A
 by_test true holds fails = holds refl
 by_test false holds fails = fails refl
 
@@ -69,13 +67,7 @@ no_tick_is p from first some least above = λ t a b. no_tick p t (λ there whole
 
 -- ---- listed events
 
-under : (a b : ℕ) → nat_lt a b ≡ true → a < b
-under a b h = grind arith
-
-not_under : (a b : ℕ) → nat_lt a b ≡ false → b ≤ a
-not_under a b h = grind arith
-
-is_other : (n turn : ℕ) → n ≢ turn → (n == turn) ≡ false
+pub is_other : (n turn : ℕ) → n ≢ turn → (n == turn) ≡ false
 is_other n turn h = grind arith
 
 skip : (l : Listed) (ls : List Listed) (turn : ℕ) → is_of turn l ≡ false → listed_of turn (l ∷ ls) ≡ listed_of turn ls
@@ -108,7 +100,7 @@ next_listed_is events xs from first d same s all lt0 =
     let lt : first < length events = subst (λ (ys : List Listed). first < length ys) same lt0 in
     let P : List Listed → Type 0 = λ ys. IsNextBy (λ turn. listed_of turn events) from (Some (get_or ys first d).0) in
     subst P (sym same) (
-      not_under (get_or events first d).0 from (s.from first d (omega arith) lt),
+      ltb-false (get_or events first d).0 from (s.from first d (omega arith) lt),
       (all first d lt).turn,
       some_of events first d lt,
       λ turn a b. none_of events turn (λ i e here is. before_or_after i e turn a b here is),
@@ -116,12 +108,12 @@ next_listed_is events xs from first d same s all lt0 =
   where
     before_or_after : (i : ℕ) (e : Listed) (turn : ℕ) → from ≤ turn → turn < (get_or events first d).0 → i < length events → (get_or events i e).0 ≡ turn → ⊥
     before_or_after i e turn a b here is = by_test (nat_lt i first)
-        (λ holds. let lt : i < first = under i first holds in omega (arith, is, a, under (get_or events i e).0 from (s.before i e lt)))
-        (λ fails. let ge : first ≤ i = not_under i first fails in omega (arith, is, b, s.sorted first i e ge here, default_same events first d e (omega (arith, ge, here))))
+        (λ holds. let lt : i < first = ltb-true i first holds in omega (arith, is, a, ltb-true (get_or events i e).0 from (s.before i e lt)))
+        (λ fails. let ge : first ≤ i = ltb-false i first fails in omega (arith, is, b, s.sorted first i e ge here, default_same events first d e (omega (arith, ge, here))))
 
 pub no_listed_is : (events xs : List Listed) (from first : ℕ) → xs ≡ events → IsFirst events from first → length xs ≤ first → IsNextBy (λ turn. listed_of turn events) from None
 no_listed_is events xs from first same s past = λ turn a b. none_of events turn (λ i d here is.
-    omega (arith, is, a, under (get_or events i d).0 from (s.before i d (omega (arith, here, subst (λ (ys : List Listed). length ys ≤ first) same past)))))
+    omega (arith, is, a, ltb-true (get_or events i d).0 from (s.before i d (omega (arith, here, subst (λ (ys : List Listed). length ys ≤ first) same past)))))
 
 -- ---- the lesser of both
 
@@ -137,16 +129,6 @@ second_some [] fs h e = h e
 second_some (x ∷ xs) fs h e = cc
 
 module _ (happens too : ℕ → List Event) (from : ℕ) where
-  pub second_alone : (other : Option ℕ) → IsNextBy happens from None → IsNextBy too from other → IsNextBy (λ turn. happens turn ++ too turn) from other
-  second_alone None a b = λ turn x y. nothing (happens turn) (too turn) (a turn x y) (b turn x y)
-  second_alone (Some next) a b = (b.0, b.1, second_some (happens next) (too next) b.2, λ turn x y. nothing (happens turn) (too turn) (a turn x (omega (arith, y, b.1))) (b.3 turn x y))
-
-  pub first_alone : (turn : ℕ) → IsNextBy happens from (Some turn) → IsNextBy too from None → IsNextBy (λ turn. happens turn ++ too turn) from (Some turn)
-  first_alone next a b = (a.0, a.1, first_some (happens next) (too next) a.2, λ turn x y. nothing (happens turn) (too turn) (a.3 turn x y) (b turn x (omega (arith, y, a.1))))
-
-  pub first_before : (turn next : ℕ) → turn ≤ next → IsNextBy happens from (Some turn) → IsNextBy too from (Some next) → IsNextBy (λ turn. happens turn ++ too turn) from (Some turn)
-  first_before turn next le a b = (a.0, a.1, first_some (happens turn) (too turn) a.2, λ u x y. nothing (happens u) (too u) (a.3 u x y) (b.3 u x (omega (arith, y, le))))
-
   pub second_before : (turn next : ℕ) → next ≤ turn → IsNextBy happens from (Some turn) → IsNextBy too from (Some next) → IsNextBy (λ turn. happens turn ++ too turn) from (Some next)
   second_before turn next le a b = (b.0, b.1, second_some (happens next) (too next) b.2, λ u x y. nothing (happens u) (too u) (a.3 u x (omega (arith, y, le))) (b.3 u x y))
 

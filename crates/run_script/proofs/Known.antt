@@ -1,5 +1,6 @@
 -- What is known of a script that is read.
 use Rattle.std.proofs.Common.{◌≡◌, ℕ, suc, zero, ◌+◌, ◌≤◌, ◌<◌, List, [], ◌∷◌, ◌++◌, length, get_or, refl, ◌∙◌, sym, arith, subst, Bool, true, false, nat_le, nat_lt, ◌||◌, ◌==◌, if◌then◌else◌, Result, Ok, Err, Option, Some, None, codes, bytes_eq, length-append, is_some}
+use Rattle.std.proofs.lemmas.Bool.{or_parts}
 use Rattle.std.specs.List.{count_by, list_all}
 use Rattle.std.proofs.lemmas.List.Elements.{All-push}
 use Rattle.std.proofs.lemmas.List.Sorted.{IsNonDecreasingBy-push}
@@ -30,6 +31,12 @@ choice false x y h k = k
 no_line_of_tick : (line : ℕ) → Tick ≡ Irq line → line < 64
 no_line_of_tick line e = absurd (cc)
 
+no_device_of_tick : (device byte : ℕ) → Tick ≡ Feed device byte → (device < 8) × (byte < 256)
+no_device_of_tick device byte e = absurd (cc)
+
+pub no_device_of_irq : (line device byte : ℕ) → Irq line ≡ Feed device byte → (device < 8) × (byte < 256)
+no_device_of_irq line device byte e = absurd (cc)
+
 line_of_irq : (line own : ℕ) → own ≤ 63 → Irq own ≡ Irq line → line < 64
 line_of_irq line own h e = let same : own ≡ line = (cc) in omega arith
 
@@ -39,21 +46,28 @@ known_period (Some n) h = let both = h n refl in record { some = omega (arith, b
 
 known_tick : (o : Option ℕ) → ((n : ℕ) → o ≡ Some n → (0 ≤ n) × (n ≤ 999999999)) → Known (tick_said o)
 known_tick None h = tt
-known_tick (Some n) h = let both = h n refl in record { turn = omega (arith, both.1); line = no_line_of_tick }
+known_tick (Some n) h = let both = h n refl in record { turn = omega (arith, both.1); line = no_line_of_tick; device = no_device_of_tick }
 
 known_irq : (o p : Option ℕ) → ((n : ℕ) → o ≡ Some n → (0 ≤ n) × (n ≤ 999999999)) → ((n : ℕ) → p ≡ Some n → (0 ≤ n) × (n ≤ 63)) → Known (irq_said o p)
 known_irq None p h k = tt
 known_irq (Some n) None h k = tt
-known_irq (Some n) (Some own) h k = let both = h n refl in let bound = k own refl in record { turn = omega (arith, both.1); line = λ line e. line_of_irq line own bound.1 e }
+known_irq (Some n) (Some own) h k = let both = h n refl in let bound = k own refl in record { turn = omega (arith, both.1); line = λ line e. line_of_irq line own bound.1 e; device = no_device_of_irq own }
 
 no_line_of_feed : (line device byte : ℕ) → Feed device byte ≡ Irq line → line < 64
 no_line_of_feed line device byte e = absurd (cc)
 
-known_feed : (o p q : Option ℕ) → ((n : ℕ) → o ≡ Some n → (0 ≤ n) × (n ≤ 999999999)) → Known (feed_said o p q)
-known_feed None p q h = tt
-known_feed (Some n) None q h = tt
-known_feed (Some n) (Some device) None h = tt
-known_feed (Some n) (Some device) (Some byte) h = let both = h n refl in record { turn = omega (arith, both.1); line = λ line e. no_line_of_feed line device byte e }
+device_of_feed : (device byte own value : ℕ) → own ≤ 7 → value ≤ 255 → Feed own value ≡ Feed device byte → (device < 8) × (byte < 256)
+device_of_feed device byte own value h k e = let same : own ≡ device = (cc) in let alike : value ≡ byte = (cc) in (omega (arith, h, same), omega (arith, k, alike))
+
+known_feed : (o p q : Option ℕ) → ((n : ℕ) → o ≡ Some n → (0 ≤ n) × (n ≤ 999999999)) → ((n : ℕ) → p ≡ Some n → (0 ≤ n) × (n ≤ 7)) → ((n : ℕ) → q ≡ Some n → (0 ≤ n) × (n ≤ 255)) → Known (feed_said o p q)
+known_feed None p q h k l = tt
+known_feed (Some n) None q h k l = tt
+known_feed (Some n) (Some device) None h k l = tt
+known_feed (Some n) (Some own) (Some value) h k l =
+    let both = h n refl in
+    let place = k own refl in
+    let bound = l value refl in
+    record { turn = omega (arith, both.1); line = λ line e. no_line_of_feed line own value e; device = λ device byte e. device_of_feed device byte own value place.1 bound.1 e }
 
 known_every : (ws : List (List ℕ)) → Known (every_said ws)
 known_every [] = tt
@@ -66,7 +80,7 @@ known_at [] = tt
 known_at (a ∷ []) = tt
 known_at (a ∷ b ∷ []) = choice (bytes_eq b (codes "tick")) _ _ (known_tick (turn_in a) (number_within_bounds 0 999999999 a)) tt
 known_at (a ∷ b ∷ c ∷ []) = choice (bytes_eq b (codes "irq")) _ _ (known_irq (turn_in a) (line_in c) (number_within_bounds 0 999999999 a) (number_within_bounds 0 63 c)) tt
-known_at (a ∷ b ∷ c ∷ d ∷ []) = choice (bytes_eq b (codes "in")) _ _ (known_feed (turn_in a) (device_in c) (byte_in d) (number_within_bounds 0 999999999 a)) tt
+known_at (a ∷ b ∷ c ∷ d ∷ []) = choice (bytes_eq b (codes "in")) _ _ (known_feed (turn_in a) (device_in c) (byte_in d) (number_within_bounds 0 999999999 a) (number_within_bounds 0 7 c) (number_within_bounds 0 255 d)) tt
 known_at (a ∷ b ∷ c ∷ d ∷ e ∷ ws) = tt
 
 known_words : (ws : List (List ℕ)) → Known (words_said ws)
@@ -86,17 +100,13 @@ when_ok false cause x d h = (refl, h)
 ok_same : (x d : ScriptData) → ◌≡◌ {A = Result ScriptData ℕ} (Ok x) (Ok d) → x ≡ d
 ok_same x d h = cc
 
-either : (b c : Bool) → (b || c) ≡ false → (b ≡ false) × (c ≡ false)
-either true c h = absurd (cc)
-either false c h = (refl, h)
-
 not_above : (n turn : ℕ) → nat_lt turn n ≡ false → n ≤ turn
 not_above n turn h = grind arith
 
 none_later : (events : List Listed) (turn : ℕ) → has_later events turn ≡ false → (i : ℕ) (d : Listed) → i < length events → (get_or events i d).0 ≤ turn
 none_later [] turn h i d lt = absurd (omega arith)
-none_later (l ∷ ls) turn h zero d lt = let both = either (nat_lt turn l.0) (has_later ls turn) h in not_above l.0 turn both.0
-none_later (l ∷ ls) turn h (suc i) d lt = let both = either (nat_lt turn l.0) (has_later ls turn) h in none_later ls turn both.1 i d (omega arith)
+none_later (l ∷ ls) turn h zero d lt = let both = or_parts (nat_lt turn l.0) (has_later ls turn) h in not_above l.0 turn both.0
+none_later (l ∷ ls) turn h (suc i) d lt = let both = or_parts (nat_lt turn l.0) (has_later ls turn) h in none_later ls turn both.1 i d (omega arith)
 
 room : (size n : ℕ) → (nat_le 65536 size || nat_le 8 n) ≡ false → (size < 65536) × (n < 8)
 room size n h = grind arith

@@ -1,5 +1,6 @@
 -- The events of a turn.
 use Rattle.std.proofs.Common.{◌≡◌, ℕ, suc, zero, ◌+◌, ◌≤◌, ◌<◌, List, [], ◌∷◌, length, get_or, slice_get, Option, Some, None, refl, ap, ◌∙◌, sym, arith, Bool, true, false, nat_lt, nat_le, ◌==◌, ◌||◌, if◌then◌else◌}
+use Rattle.std.proofs.lemmas.Bool.{ltb-true, ltb-false, or_right}
 use Rattle.std.specs.List.{list_any}
 use Rattle.std.specs.List.Sorted.{IsNonDecreasingBy}
 use Rattle.run_script.specs.declared.events.Event.{Event}
@@ -97,12 +98,6 @@ past_picks events i turn h = ap (pick turn) (get_past events i h)
 
 -- ---- with the place that the search finds
 
-under : (a b : ℕ) → nat_lt a b ≡ true → a < b
-under a b h = grind arith
-
-not_under : (a b : ℕ) → nat_lt a b ≡ false → b ≤ a
-not_under a b h = grind arith
-
 -- the first event that is not before the turn
 pub record IsFirst (events : List Listed) (turn first : ℕ) : Type 0 where
   pub sorted : IsNonDecreasingBy (λ (l : Listed). l.0) events
@@ -112,8 +107,8 @@ pub record IsFirst (events : List Listed) (turn first : ℕ) : Type 0 where
 
 searched : (events : List Listed) (turn first k : ℕ) → IsFirst events turn first → slice_get (listed_of turn events) k ≡ pick turn (slice_get events (first + k))
 searched events turn first k s = pick_at events first k (first + k) turn refl s.within s.sorted
-    (λ j lt. under (turn_at events j) turn (s.before j (0, Tick) lt))
-    (λ j a b. not_under (turn_at events j) turn (s.from j (0, Tick) a b))
+    (λ j lt. ltb-true (turn_at events j) turn (s.before j (0, Tick) lt))
+    (λ j a b. ltb-false (turn_at events j) turn (s.from j (0, Tick) a b))
 
 pub searched_own : (events xs : List Listed) (turn first k : ℕ) (d : Listed) → xs ≡ events → IsFirst events turn first → first + k < length xs → (get_or xs (first + k) d).0 ≡ turn → Some (get_or xs (first + k) d).1 ≡ slice_get (listed_of turn events) k
 searched_own events xs turn first k d e s lt h =
@@ -129,14 +124,10 @@ searched_past events xs turn first k e s h =
 
 -- ---- the last event
 
-or_true : (b c : Bool) → c ≡ true → (b || c) ≡ true
-or_true true c h = refl
-or_true false c h = h
-
 some_from : (events : List Listed) (i from : ℕ) → i < length events → nat_le from (turn_at events i) ≡ true → list_any (λ listed. nat_le from listed.0) events ≡ true
 some_from [] i from lt h = absurd (omega arith)
 some_from (l ∷ ls) zero from lt h = rw h refl
-some_from (l ∷ ls) (suc i) from lt h = or_true (nat_le from l.0) _ (some_from ls i from (omega arith) h)
+some_from (l ∷ ls) (suc i) from lt h = or_right (nat_le from l.0) _ (some_from ls i from (omega arith) h)
 
 below : (n from : ℕ) → n < from → nat_le from n ≡ false
 below n from h = grind arith

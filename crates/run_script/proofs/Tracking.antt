@@ -1,5 +1,6 @@
 -- A script that is being read: the turn of its last event, and how many events are of that turn.
 use Rattle.std.proofs.Common.{◌≡◌, ℕ, ◌+◌, ◌≤◌, ◌<◌, List, [], ◌∷◌, ◌++◌, length, refl, ap, ◌∙◌, sym, arith, Bool, true, false, nat_le, nat_lt, ◌||◌, ◌==◌, if◌then◌else◌, Ok, Err}
+use Rattle.std.proofs.lemmas.Bool.{le-ltb}
 use Rattle.std.proofs.lemmas.List.Folds.{list_any-append}
 use Rattle.std.proofs.lemmas.List.Sums.{sum_by-append}
 use Rattle.run_script.specs.declared.events.Event.{Event}
@@ -33,9 +34,6 @@ tracks_next events last here turn event h t = record {
 pub tracks_more : (events more : List Listed) (last here turn n : ℕ) (event : Event) → last ≤ turn → n ≡ (if turn == last then here else 0) → more ≡ events ++ (turn, event) ∷ [] → Tracks events last here → Tracks more turn (n + 1)
 tracks_more events more last here turn n event h e m t = rw (m, e) (tracks_next events last here turn event h t)
 
-no_later : (turn last : ℕ) → last ≤ turn → nat_lt turn last ≡ false
-no_later turn last h = grind arith
-
 has_room : (size n : ℕ) → size < 65536 → n < 8 → (nat_le 65536 size || nat_le 8 n) ≡ false
 has_room size n h k = grind arith
 
@@ -47,5 +45,5 @@ refused_here script turn event b d h k = rw (h, k) refl
 
 pub added : (script : ScriptData) (more : List Listed) (last here turn n : ℕ) (event : Event) → last ≤ turn → n ≡ (if turn == last then here else 0) → length script.events < 65536 → n < 8 → more ≡ script.events ++ (turn, event) ∷ [] → Tracks script.events last here → with_event script turn event ≡ Ok (record { every = script.every; events = more })
 added script more last here turn n event h e size few m t =
-    refused_here script turn event false false (t.later turn ∙ no_later turn last h) (full_by script.events last here turn n h e t ∙ has_room (length script.events) n size few)
+    refused_here script turn event false false (t.later turn ∙ le-ltb turn last h) (full_by script.events last here turn n h e t ∙ has_room (length script.events) n size few)
     ∙ ap (λ (es : List Listed). Ok (record { every = script.every; events = es })) (sym m)

@@ -3,6 +3,7 @@ use Rattle.std.proofs.Common.{◌≡◌, ℕ, suc, zero, ◌+◌, ◌<◌, ◌�
 use Rattle.std.proofs.Math.Seq.{drop-cons}
 use Rattle.text_lines.specs.Text.{with_first}
 use Rattle.run_script.specs.Words.{HasNoBlank, is_blank, ends_word, words, word_then}
+use Rattle.text_lines.proofs.Digits.{cell}
 
 pub words_nil : words [] ≡ []
 unfolding words
@@ -19,9 +20,6 @@ word_last c cs h k = rw (h, k) refl
 word_goes_on : (c : ℕ) (cs : List ℕ) → is_blank c ≡ false → ends_word cs ≡ false → words (c ∷ cs) ≡ with_first c (words cs)
 unfolding words
 word_goes_on c cs h k = rw (h, k) refl
-
-cell : (s : List ℕ) (i : ℕ) → i < length s → drop i s ≡ get_or s i 0 ∷ drop (i + 1) s
-cell s i lt = drop-cons s i 0 lt ∙ ap (λ n. get_or s i 0 ∷ drop n s) (sym (add-one i))
 
 pub skips : (s : List ℕ) (i : ℕ) → i < length s → is_blank (get_or s i 0) ≡ true → words (drop i s) ≡ words (drop (i + 1) s)
 skips s i lt h = ap words (cell s i lt) ∙ blank_first (get_or s i 0) (drop (i + 1) s) h

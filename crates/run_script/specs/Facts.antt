@@ -3,7 +3,7 @@ use Rattle.std.specs.Prelude.{ℕ, ◌≡◌, ◌≤◌, ◌<◌, List, Some, le
 use Rattle.std.specs.List.{All, count_by}
 use Rattle.std.specs.List.Sorted.{IsNonDecreasingBy}
 use Rattle.run_script.specs.declared.events.Event.{Event}
-use Rattle.run_script.specs.declared.events.Event.TheVariants.{Irq}
+use Rattle.run_script.specs.declared.events.Event.TheVariants.{Irq, Feed}
 use Rattle.run_script.specs.Scripts.{Listed, ScriptData, is_of}
 
 pub record IsPeriod (period : ℕ) : Type 0 where
@@ -14,9 +14,14 @@ pub record IsPeriod (period : ℕ) : Type 0 where
 abbrev pub HasLine : Event → Type 0
 HasLine event = (line : ℕ) → event ≡ Irq line → line < 64
 
+-- a byte is one, and comes for one of the devices that there may be
+abbrev pub HasDevice : Event → Type 0
+HasDevice event = (device byte : ℕ) → event ≡ Feed device byte → (device < 8) × (byte < 256)
+
 pub record IsListed (listed : Listed) : Type 0 where
   pub turn : listed.0 < 1000000000
   pub line : HasLine listed.1
+  pub device : HasDevice listed.1
 
 -- the events come by their turns, at most eight of each
 pub record Facts (script : ScriptData) : Type 0 where
@@ -30,3 +35,4 @@ pub record Facts (script : ScriptData) : Type 0 where
 pub record IsTurn (events : List Event) : Type 0 where
   pub few : length events ≤ 9
   pub lines : All HasLine events
+  pub devices : All HasDevice events

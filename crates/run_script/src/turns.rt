@@ -4,7 +4,7 @@ ghost use Rattle.std.specs.Prelude.{◌≡◌, ◌≤◌, ◌+◌, ◌<◌, ◌=
 ghost use Rattle.std.specs.List.{list_any};
 ghost use Rattle.std.specs.List.Sorted.{IsNonDecreasingBy};
 ghost use Rattle.run_script.specs.Events.{script_data};
-ghost use Rattle.run_script.specs.Facts.{Facts, HasLine, IsListed, IsPeriod, IsTurn};
+ghost use Rattle.run_script.specs.Facts.{Facts, HasDevice, HasLine, IsListed, IsPeriod, IsTurn};
 ghost use Rattle.run_script.specs.Next.{IsNextBy};
 ghost use Rattle.run_script.specs.Scripts.{Listed, IsNext, events_of, lasts, listed_of, ticks_of};
 
@@ -153,6 +153,7 @@ impl Script {
         ensures event { result ≡ slice_get (events_of (script_data self.now) turn) k }
         ensures few { OnSome result (k < 9) }
         ensures line { IfSome result HasLine }
+        ensures device { IfSome result HasDevice }
     {
         event_of(self, turn, k)
     }

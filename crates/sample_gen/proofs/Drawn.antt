@@ -9,6 +9,7 @@ use Rattle.run_script.specs.Scripts.{Listed}
 use Rattle.sample_gen.specs.Draws.{next, number, draw}
 use Rattle.sample_gen.specs.Sample.{draws_before, event, events_to, first_draw, offset, source_of}
 use Rattle.sample_gen.specs.Sources.{server_lines, text_of}
+use Rattle.app_toml.proofs.Related.{above_zero}
 
 pub after : (seed x y k m : ℕ) → x ≡ number seed k → y ≡ next x → m ≡ k + 1 → y ≡ number seed m
 unfolding number
@@ -81,9 +82,6 @@ five_draws seed i x y z u v w h e f g j k l =
     let q : first_draw i + 4 ≡ draws_before (i + 1) = twelve i ∙ sym (next_draws i h) in
     record { a = a; b = b; c = c; d = d; e = p; last = p ∙ ap (number seed) q }
 
-not_zero : (i : ℕ) → 0 < i → (i == 0) ≡ false
-not_zero i h = grind (arith, nat_tests)
-
 below_8 : (i : ℕ) → i < 8 → nat_lt i 8 ≡ true
 below_8 i h = grind (arith, nat_tests)
 
@@ -103,4 +101,4 @@ pub one_draw_next : (seed i x y : ℕ) → 0 < i → i < 8 → x ≡ number seed
 one_draw_next seed i x y h l e f = one_draw seed i x y h l e f ∙ ap (number seed) (sym (draws_after i h l))
 
 pub source_server : (seed i : ℕ) → 0 < i → i < 8 → source_of seed i ≡ text_of (server_lines (offset seed i))
-source_server seed i h l = rw (not_zero i h, below_8 i l) refl
+source_server seed i h l = rw (above_zero i h, below_8 i l) refl

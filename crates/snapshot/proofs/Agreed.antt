@@ -1,8 +1,9 @@
 -- What a wait that agrees with the others says of a call, and of a listen.
 use Rattle.std.proofs.Common.{◌≡◌, ◌≢◌, ◌∙◌, ◌+◌, ◌*◌, ◌/◌, ◌%◌, ◌<◌, ◌≤◌, inl, inr, ℕ, zero, suc, Bool, true, false, not, ◌&&◌, ◌||◌, cond, eqb, ltb, leb, List, [], map, Option, Some, None, is_none, arith, ap, sym, refl}
+use Rattle.std.proofs.lemmas.Option.{cond_some}
 use Rattle.std.specs.Prelude.{bit_and}
 use Rattle.std.proofs.Math.ListN.{get_or-map}
-use Rattle.std.proofs.lemmas.Bool.{and_parts, or_parts, eqb-true, eq-eqb, ltb-true, leb-true, ne_eqb, false≢true}
+use Rattle.std.proofs.lemmas.Bool.{and_parts, or_parts, eqb-true, eq-eqb, ltb-true, leb-true, ne_eqb, false≢true, not-true}
 use Rattle.std.proofs.lemmas.Bool.Decides.{eqb_tells}
 use Rattle.region_check.specs.declared.Region.{Region}
 use Rattle.region_check.specs.declared.Right.{Right}
@@ -16,15 +17,12 @@ use Rattle.snapshot.specs.declared.records.TaskRecord.{TaskRecord}
 use Rattle.snapshot.specs.Causes.{word, any_below}
 use Rattle.snapshot.specs.Waits.{regions_at, is_call, is_listen, server_id, names_other, has_number, is_granted, is_live_call, may_call, is_good_call, fits, is_live_listen, is_good_listen, is_good_wait}
 use Rattle.snapshot.specs.Restored.{birth_from, phase_from, senders_from, call_from, listen_from, call_in, listen_in}
+use Rattle.task_table.proofs.Frames.{none_is}
 
 -- ## tests
 
-not_true : (b : Bool) → not b ≡ true → b ≡ false
-not_true true e = cc
-not_true false e = refl
-
 apart : (a b : ℕ) → not (eqb a b) ≡ true → a ≢ b
-apart a b e same = false≢true (sym (not_true _ e) ∙ eq-eqb a b same)
+apart a b e same = false≢true (sym (not-true _ e) ∙ eq-eqb a b same)
 
 either : (a b : Bool) → (not a || b) ≡ true → a ≡ true → b ≡ true
 either true b e h = e
@@ -37,10 +35,6 @@ none_at test (suc n) j none lt = elim (eqb_tells j n) [
   | inl same ↦ ap test same.1 ∙ (or_parts (any_below test n) (test n) none).1
   | inr other ↦ let ne : j ≢ n = other.1 in none_at test n j (or_parts (any_below test n) (test n) none).0 (omega arith)
 ]
-
-none_of : {X : Type 0} (o : Option X) → is_none o ≡ true → o ≡ None
-none_of None e = refl
-none_of (Some x) e = cc
 
 -- ## a name and a range
 
@@ -68,7 +62,7 @@ pub granted : (g : Setup) (i : ℕ) (right : Right) (r : Slice) → is_granted (
 unfolding bad_byte
 granted g i right r e =
     let p = and_parts (leb (r.base + r.len) 4294967296) _ e in
-    (p.0, ap (λ (rs : List Region). first_bad rs right r.base r.len) (sym (get_or-map (λ (t : TaskSetup). t.regions) g.tasks i no_setup)) ∙ none_of _ p.1)
+    (p.0, ap (λ (rs : List Region). first_bad rs right r.base r.len) (sym (get_or-map (λ (t : TaskSetup). t.regions) g.tasks i no_setup)) ∙ none_is _ p.1)
 
 -- ## a call
 
@@ -94,7 +88,7 @@ called rs tasks n next i e =
       well = eqb-true _ _ well.0;
       server = named tasks n i (server_id t) well.1;
       below = ltb-true _ _ below.1;
-      alone = λ j lt. none_at (λ k. has_number (word t 0) (tasks k)) i j (not_true _ alone.1) lt;
+      alone = λ j lt. none_at (λ k. has_number (word t 0) (tasks k)) i j (not-true _ alone.1) lt;
       message = ranges.0;
       reply = ranges.1;
       table = may.1;
@@ -120,7 +114,7 @@ listened rs tasks n i e =
       well = eqb-true _ _ well.0;
       sender = λ five. named tasks n i (word t 1) (either _ _ well.1 (eq-eqb _ _ five));
       unmet = eqb-true _ _ unmet.1;
-      unfit = λ j lt. none_at (fits tasks i) n j (not_true _ unfit.1) lt;
+      unfit = λ j lt. none_at (fits tasks i) n j (not-true _ unfit.1) lt;
       buffer = p.1;
     }
 
@@ -150,16 +144,11 @@ listen_at rs tasks n next i e listens =
     let rest = left (is_call (tasks i)) (is_good_call rs tasks n next i) (not (is_listen (tasks i)) || is_good_listen rs tasks n i) e (no_call (tasks i).wait listens) in
     listened rs tasks n i (either (is_listen (tasks i)) _ rest listens)
 
--- there is one
-made : {X : Type 0} (b : Bool) (x y : X) → cond b (Some x) None ≡ Some y → (b ≡ true) × (x ≡ y)
-made true x y e = (refl, cc)
-made false x y e = cc
-
 pub the_call : (i : ℕ) (t : TaskRecord) (c : Call) → call_in i t ≡ Some c → (is_call t ≡ true) × (call_from i t ≡ c)
-the_call i t c e = made (is_call t) (call_from i t) c e
+the_call i t c e = cond_some (is_call t) (call_from i t) c e
 
 pub the_listen : (i : ℕ) (t : TaskRecord) (l : Listen) → listen_in i t ≡ Some l → (is_listen t ≡ true) × (listen_from i t ≡ l)
-the_listen i t l e = made (is_listen t) (listen_from i t) l e
+the_listen i t l e = cond_some (is_listen t) (listen_from i t) l e
 
 -- ## who is listened to
 

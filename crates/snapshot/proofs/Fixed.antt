@@ -27,14 +27,14 @@ use Rattle.task_table.specs.Chain.{Chain}
 use Rattle.task_table.specs.Grounds.{IsReached, AreReached, Untouched, Once}
 use Rattle.task_table.specs.Step.{Step, Notes, Gives, Returns, PassesSyscall, Runs, Clears, Posts, Times, Lines, Listens, Sends, Receives, Stores, Copies, Reaches, Looks, Borrows, Ceases, Halts, Strikes, Restarts}
 use Rattle.task_table.proofs.Chains.{chain_keeps}
-use Rattle.board_model.specs.declared.outcomes.End.{End}
-use Rattle.board_model.specs.declared.outcomes.End.TheVariants.{Bound}
 use Rattle.board_model.specs.declared.outcomes.Level.{Level}
 use Rattle.board_model.specs.Script.{Scenario}
 use Rattle.board_model.specs.Turn.{happened, after_events, with_current, turn_of, ended, turn}
-use Rattle.board_model.specs.Run.{run, ending, unless, ended_at, with_front, at_turn}
+use Rattle.board_model.specs.Run.{run}
 use Rattle.board_model.specs.Lifetimes.{devices_after}
-use Rattle.board_model.proofs.TurnChains.{sane-after, turn_chain, noted_state}
+use Rattle.board_model.proofs.Changes.{ram_turn}
+use Rattle.board_model.proofs.RunKeeps.{state_run}
+use Rattle.board_model.proofs.TurnChains.{turn_chain, noted_state}
 use Rattle.board_model.proofs.Reached.{reached_in, none_in, fed_before}
 use Rattle.snapshot.specs.Loaded.{sites}
 use Rattle.snapshot.proofs.Loads.{site}
@@ -237,28 +237,16 @@ sites_turn level x s h = by_choice (chosen x.setup (after_events x s).state) ref
 pub record IsFixed (s u : State) : Type 0 where
   pub lines : length u.lines ≡ length s.lines
   pub sites : sites u.devices ≡ sites s.devices
+  pub ram : length u.memory.ram ≡ length s.memory.ram
 
 fixed_here : (s : State) → IsFixed s s
-fixed_here s = record { lines = refl; sites = refl }
+fixed_here s = record { lines = refl; sites = refl; ram = refl }
 
 fixed_then : (s u v : State) → IsFixed s u → IsFixed u v → IsFixed s v
-fixed_then s u v a b = record { lines = b.lines ∙ a.lines; sites = b.sites ∙ a.sites }
+fixed_then s u v a b = record { lines = b.lines ∙ a.lines; sites = b.sites ∙ a.sites; ram = b.ram ∙ a.ram }
 
 fixed_turn : (level : Level) (x : Scenario) (s : State) → Sane x.setup s → IsFixed s (turn level x s).state
-fixed_turn level x s h = record { lines = many_turn level x s h; sites = sites_turn level x s h }
+fixed_turn level x s h = record { lines = many_turn level x s h; sites = sites_turn level x s h; ram = ram_turn level x s h }
 
 pub fixed_run : (level : Level) (x : Scenario) (n : ℕ) (s : State) → Sane x.setup s → IsFixed s (run level x n s).last
-unfolding run
-fixed_run level x zero s h = by_end (ending x 0 s)
-  where
-    by_end : (o : Option End) → IsFixed s (unless s o (ended_at s Bound)).last
-    by_end (Some e) = fixed_here s
-    by_end None = fixed_here s
-fixed_run level x (suc n) s h = by_end (fixed_run level x n next (sane-after level x s h)) (ending x (suc n) s)
-  where
-    next : State
-    next = (turn level x s).state
-
-    by_end : IsFixed next (run level x n next).last → (o : Option End) → IsFixed s (unless s o (with_front (at_turn s.turn (turn level x s).notes) (run level x n next))).last
-    by_end later (Some e) = fixed_here s
-    by_end later None = fixed_then s next (run level x n next).last (fixed_turn level x s h) later
+fixed_run level x n s h = state_run level x (IsFixed s) (λ z sane before. fixed_then s z (turn level x z).state before (fixed_turn level x z sane)) n s h (fixed_here s)

@@ -20,3 +20,4 @@ mod Loads
 mod Boards
 mod Written
 pub mod Fixed
+pub mod Runs

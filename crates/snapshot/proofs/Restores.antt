@@ -1,5 +1,6 @@
 -- Bytes that no cause refuses spell a sane state.
 use Rattle.std.proofs.Common.{◌≡◌, ◌∙◌, ◌+◌, ◌*◌, ◌%◌, ◌<◌, ◌≤◌, ℕ, zero, suc, Bool, true, false, ltb, List, [], length, length-drop, length-take, map, take, drop, get_or, IfSome, arith, ap, sym, subst, refl}
+use Rattle.std.proofs.lemmas.List.Elements.{Contains-get_or}
 use Rattle.std.specs.Prelude.{Contains, replicate}
 use Rattle.std.specs.List.{range_with_len}
 use Rattle.std.proofs.Math.ListN.{get_or-map}
@@ -26,7 +27,6 @@ use Rattle.snapshot.specs.Saved.{record_told, record_of, device_told, line_numbe
 use Rattle.snapshot.specs.Restored.{state_in, task_from, call_in, listen_in, line_from, device_from}
 use Rattle.snapshot.proofs.Splits.{spelled, num_small, rest_bytes}
 use Rattle.snapshot.proofs.Places.{tasks_index, devices_index}
-use Rattle.snapshot.proofs.Saves.{has_at}
 use Rattle.snapshot.proofs.Told.{told_again, task_sane, timer_ahead}
 use Rattle.snapshot.proofs.Collected.{made_of, map_same}
 use Rattle.snapshot.proofs.Agreed.{own}
@@ -258,7 +258,7 @@ module _ (g : Setup) (devices : List device.DeviceData) (bytes : List ℕ) (a : 
           let below : k < length devices = omega (arith, lt) in
           let place = devices_place n + 72 * k in
           let rest = rest_bytes place bytes are in
-          subst device.IsSaneDevice is (device_sane (device.device_at devices k) (device_in bytes n k) (sane.sane _ (has_at devices k no_device below)) (num_small (drop place bytes) 0 rest) (small_take 64 (drop 8 (drop place bytes)) (rest_bytes 8 (drop place bytes) rest)) (fits k below))
+          subst device.IsSaneDevice is (device_sane (device.device_at devices k) (device_in bytes n k) (sane.sane _ (Contains-get_or devices k no_device below)) (num_small (drop place bytes) 0 rest) (small_take 64 (drop 8 (drop place bytes)) (rest_bytes 8 (drop place bytes) rest)) (fits k below))
 
   ram_bytes : AreBytes bytes → (i : ℕ) → get_or (drop (ram_place n (length devices)) bytes) i 0 < 256
   ram_bytes are = rest_bytes (ram_place n (length devices)) bytes are

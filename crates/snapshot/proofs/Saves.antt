@@ -1,11 +1,12 @@
 -- What is saved of a sane state is accepted.
 use Rattle.std.proofs.Common.{◌≡◌, ◌≢◌, ◌∙◌, ◌+◌, ◌-◌, ◌*◌, ◌/◌, ◌%◌, ◌<◌, ◌≤◌, ◌⊎◌, inl, inr, ℕ, zero, suc, Bool, true, false, not, ◌&&◌, ◌||◌, cond, eqb, ltb, leb, List, [], ◌∷◌, ◌++◌, length, drop, map, get_or, Option, Some, None, IfSome, is_none, arith, ap, subst, sym, refl, length-append}
+use Rattle.std.proofs.lemmas.List.Elements.{Contains-get_or}
 use Rattle.std.specs.Prelude.{Contains, replicate, find, bit_and}
 use Rattle.std.specs.List.{range_with_len, list_any}
 use Rattle.std.proofs.Math.ListN.{get_or-map}
 use Rattle.std.proofs.lemmas.List.{length-map, length-replicate}
 use Rattle.std.proofs.lemmas.List.FromFn.{length-map-range_with_len, get_or-map-range_with_len}
-use Rattle.std.proofs.lemmas.Bool.{eqb-true, eq-eqb, lt-ltb, le-leb, false≢true, ne_eqb}
+use Rattle.std.proofs.lemmas.Bool.{eqb-true, eq-eqb, lt-ltb, le-leb, false≢true, ne_eqb, and_from, cases_Bool, false_from_ne_true, and_parts}
 use Rattle.kernel_abi.specs.Ids.{id_of}
 use Rattle.kernel_abi.specs.declared.Health.{Health}
 use Rattle.kernel_abi.specs.declared.Health.TheVariants.{Well, Stopped, Faulted}
@@ -36,6 +37,7 @@ use Rattle.region_check.specs.declared.Right.{Right}
 use Rattle.region_check.specs.declared.Right.TheVariants.{Read, Write}
 use Rattle.region_check.specs.Rights.{first_bad}
 use Rattle.snapshot.specs.Saved.{bit, health_number, fault_of, timer_flag, timer_of, from_number, from_id, wait_number, wait_words, record_told, record_of, device_told, line_number, parts_of, expected_of, SpellsState}
+use Rattle.task_table.proofs.Keeps.{found_in}
 
 -- ## the parts
 
@@ -80,10 +82,6 @@ are_parts s sixteen few =
 
 -- ## a record for itself
 
-true_and : (a b : Bool) → a ≡ true → b ≡ true → (a && b) ≡ true
-true_and true b e f = f
-true_and false b e f = cc
-
 bit_most : (b : Bool) (v : ℕ) → bit b v ≤ v
 bit_most true v = omega arith
 bit_most false v = omega arith
@@ -96,7 +94,7 @@ health_most (Faulted f) = omega arith
 fault_fits : (h : Health) → IsFaultKnown h → cond (eqb (health_number h) 2) (leb 1 (fault_of h).number && leb (fault_of h).number 10) (eqb (fault_of h).number 0) ≡ true
 fault_fits Well k = refl
 fault_fits Stopped k = refl
-fault_fits (Faulted f) k = true_and _ _ (le-leb _ _ k.0) (le-leb _ _ k.1)
+fault_fits (Faulted f) k = and_from _ _ (le-leb _ _ k.0) (le-leb _ _ k.1)
 
 fault_zeros : (h : Health) → health_number h ≢ 2 → ((fault_of h).x ≡ 0) × ((fault_of h).y ≡ 0)
 fault_zeros Well ne = (refl, refl)
@@ -201,23 +199,6 @@ births_small s i e =
 
 -- ## what is found
 
-bool_cases : (b : Bool) → (b ≡ true) ⊎ (b ≡ false)
-bool_cases true = inl refl
-bool_cases false = inr refl
-
-found_in : {X : Type 0} (p : X → Bool) (xs : List X) (x : X) → find p xs ≡ Some x → Contains xs x × (p x ≡ true)
-found_in p [] x h = absurd (no_some h)
-  where
-    no_some : None ≡ Some x → ⊥
-    no_some e = cc
-found_in p (y ∷ ys) x h = elim (bool_cases (p y)) [
-  | inl e ↦ let is : y ≡ x = same (rw e at h) in ((zero, omega arith, is), rw (← is) e)
-  | inr e ↦ let r = found_in p ys x (rw e at h) in ((suc r.0.0, omega (arith, r.0.1), r.0.2), r.1)
-]
-  where
-    same : Some y ≡ Some x → y ≡ x
-    same e = cc
-
 pub the_call : (s : State) (i : ℕ) (c : Call) → call_of s i ≡ Some c → Contains s.calls c × (c.client.index ≡ i)
 unfolding call_of
 the_call s i c e = let r = found_in (λ (k : Call). eqb k.client.index i) s.calls c e in (r.0, eqb-true _ _ r.1)
@@ -230,14 +211,6 @@ none_below : (test : ℕ → Bool) (n : ℕ) → ((j : ℕ) → j < n → test j
 unfolding any_below
 none_below test zero h = refl
 none_below test (suc n) h = let a = none_below test n (λ j lt. h j (omega arith)) in let b = h n (omega arith) in λ i. a i || b i
-
-refuted : (b : Bool) → (b ≡ true → ⊥) → b ≡ false
-refuted true h = absurd (h refl)
-refuted false h = refl
-
-and_parts : (a b : Bool) → (a && b) ≡ true → (a ≡ true) × (b ≡ true)
-and_parts true b e = (refl, e)
-and_parts false b e = cc
 
 not_none : {P : Type 0} → false ≡ true → P
 not_none e = cc
@@ -289,7 +262,7 @@ module _ (g : Setup) (s : State) (sane : Sane g s) (few : length g.tasks ≤ 102
       let young = births_small s b.index small in
       let generation : id / 1024 ≡ b.birth = omega (arith, is, inside, few, present, young) in
       let same : (tasks (id % 1024)).generation ≡ b.birth = ap (λ k. (tasks k).generation) index ∙ ap (λ (r : TaskRecord). r.generation) (told b.index (omega (arith, inside, many))) ∙ present in
-      true_and _ _ (true_and _ _ (lt-ltb _ _ (omega (arith, index, inside))) (differs (id % 1024) i (λ q. apart (sym index ∙ q)))) (eq-eqb _ _ (generation ∙ sym same))
+      and_from _ _ (and_from _ _ (lt-ltb _ _ (omega (arith, index, inside))) (differs (id % 1024) i (λ q. apart (sym index ∙ q)))) (eq-eqb _ _ (generation ∙ sym same))
     where
       differs : (a c : ℕ) → a ≢ c → not (eqb a c) ≡ true
       differs a c ne = ap not (ne_eqb a c ne)
@@ -300,7 +273,7 @@ module _ (g : Setup) (s : State) (sane : Sane g s) (few : length g.tasks ≤ 102
 
   granted : (i : ℕ) (right : Right) (r : Slice) → is_valid r ≡ true → bad_byte g i right r ≡ None → is_granted (own i) right r.base r.len ≡ true
   unfolding bad_byte
-  granted i right r valid none = true_and _ _ valid (ap (λ (rs : List Region). is_none (first_bad rs right r.base r.len)) (get_or-map (λ (t : TaskSetup). t.regions) g.tasks i no_setup) ∙ ap is_none none)
+  granted i right r valid none = and_from _ _ valid (ap (λ (rs : List Region). is_none (first_bad rs right r.base r.len)) (get_or-map (λ (t : TaskSetup). t.regions) g.tasks i no_setup) ∙ ap is_none none)
 
   good_call : (i : ℕ) (c : Call) → i < length s.tasks → call_of s i ≡ Some c → is_good_call (own i) tasks (length g.tasks) s.next_call i ≡ true
   good_call i c lt e =
@@ -312,15 +285,15 @@ module _ (g : Setup) (s : State) (sane : Sane g s) (few : length g.tasks ≤ 102
       let server : server_id (tasks i) ≡ id_of c.server.index c.server.birth = ap server_id t ∙ id_in_word _ c.operation (omega (arith, server_index, few)) in
       let number : word (tasks i) 0 ≡ c.number = ap (λ (r : TaskRecord). word r 0) t in
       let below = sane.steady.calls.below c here.0 in
-      let once : any_below (λ j. has_number (word (tasks i) 0) (tasks j)) i ≡ false = none_below _ i (λ j less. refuted _ (λ hit. another j less hit)) in
+      let once : any_below (λ j. has_number (word (tasks i) 0) (tasks j)) i ≡ false = none_below _ i (λ j less. false_from_ne_true _ (λ hit. another j less hit)) in
       let live : is_live_call tasks (length g.tasks) s.next_call i ≡ true =
-      true_and _ _ (true_and _ _ (true_and _ _ (eq-eqb _ _ (ap (λ (r : TaskRecord). r.health) t ∙ ap health_number well))
+      and_from _ _ (and_from _ _ (and_from _ _ (eq-eqb _ _ (ap (λ (r : TaskRecord). r.health) t ∙ ap health_number well))
       (names i c.server _ server fit.server (λ q. fit.apart (here.1 ∙ sym q)) (sane.present.server c here.0 tt)))
       (lt-ltb _ _ (omega (arith, number, below)))) (ap not once) in
       let readable : bad_byte g i Read c.message ≡ None = ap (λ k. bad_byte g k Read c.message) (sym here.1) ∙ fit.readable in
       let writable : bad_byte g i Write c.reply ≡ None = ap (λ k. bad_byte g k Write c.reply) (sym here.1) ∙ fit.writable in
-      let may : may_call (own i) (tasks i) ≡ true = ap (may_call (own i)) t ∙ true_and _ _ (true_and _ _ (granted i Read c.message fit.valid.0 readable) (granted i Write c.reply fit.valid.1 writable)) fit.valid.2 in
-      true_and _ _ live may
+      let may : may_call (own i) (tasks i) ≡ true = ap (may_call (own i)) t ∙ and_from _ _ (and_from _ _ (granted i Read c.message fit.valid.0 readable) (granted i Write c.reply fit.valid.1 writable)) fit.valid.2 in
+      and_from _ _ live may
     where
       another : (j : ℕ) → j < i → has_number (word (tasks i) 0) (tasks j) ≡ true → ⊥
       another j less hit =
@@ -350,7 +323,7 @@ module _ (g : Setup) (s : State) (sane : Sane g s) (few : length g.tasks ≤ 102
   named_or KernelOnly m b n r ok h = refl
 
   both_births : (x d : Birth) → x.index ≡ d.index → x.birth ≡ d.birth → same_birth x d ≡ true
-  both_births x d e f = true_and _ _ (eq-eqb _ _ e) (eq-eqb _ _ f)
+  both_births x d e f = and_from _ _ (eq-eqb _ _ e) (eq-eqb _ _ f)
 
   -- no offered call fits
   misfits : (i j : ℕ) (l : Listen) → i < length s.tasks → j < length s.tasks → call_of s i ≡ None → listen_of s i ≡ Some l → fits tasks i j ≡ true → ⊥
@@ -393,14 +366,14 @@ module _ (g : Setup) (s : State) (sane : Sane g s) (few : length g.tasks ≤ 102
       ∙ named_or l.from l.mask l.buffer.base l.buffer.len (record_told (task_at s i) None (Some l)) _ (λ x is.
       let n = fit.names x is in
       names i x (from_id l.from) (ap from_id is) n.0 (λ q. n.1 (q ∙ sym its.1)) (sane.present.named l x its.0 is tt)) in
-      let alone : any_below (fits tasks i) (length g.tasks) ≡ false = none_below (fits tasks i) (length g.tasks) (λ j less. refuted _ (misfits i j l lt (omega (arith, less, many)) none e)) in
+      let alone : any_below (fits tasks i) (length g.tasks) ≡ false = none_below (fits tasks i) (length g.tasks) (λ j less. false_from_ne_true _ (misfits i j l lt (omega (arith, less, many)) none e)) in
       let live : is_live_listen tasks (length g.tasks) i ≡ true =
-      true_and _ _ (true_and _ _ (true_and _ _ (eq-eqb _ _ (ap (λ (r : TaskRecord). r.health) t ∙ ap health_number well)) named)
+      and_from _ _ (and_from _ _ (and_from _ _ (eq-eqb _ _ (ap (λ (r : TaskRecord). r.health) t ∙ ap health_number well)) named)
       (eq-eqb _ _ (ap (λ (r : TaskRecord). bit_and r.posted (word r 0)) t ∙ unmet))) (ap not alone) in
       let writable : bad_byte g i Write l.buffer ≡ None = ap (λ k. bad_byte g k Write l.buffer) (sym its.1) ∙ fit.writable in
       let may : is_granted (own i) Write (word (tasks i) 2) (word (tasks i) 3) ≡ true =
       ap (λ (r : TaskRecord). is_granted (own i) Write (word r 2) (word r 3)) t ∙ granted i Write l.buffer fit.valid writable in
-      true_and _ _ live may
+      and_from _ _ live may
 
   -- ## any wait
 
@@ -465,11 +438,6 @@ few_of g s i sane few = by (listen_of s i) refl
     by : (lo : Option Listen) → listen_of s i ≡ lo → IsFewOf lo
     by None e = tt
     by (Some l) e = by_from l l.from refl (the_listen s i l e).0
-
-pub has_at : {X : Type 0} (xs : List X) (k : ℕ) (d : X) → k < length xs → Contains xs (get_or xs k d)
-has_at [] k d lt = absurd (omega arith)
-has_at (x ∷ xs) zero d lt = (zero, omega arith, refl)
-has_at (x ∷ xs) (suc k) d lt = let r = has_at xs k d (omega arith) in (suc r.0, omega (arith, r.1), r.2)
 
 -- the spelling of a sane state, whose counts are in order, has no cause
 pub saved_is_accepted : (g : Setup) (s : State) (bytes : List ℕ) → Sane g s → IsCounted s → s.turn ≤ 1000000000 → length g.tasks ≤ 1024 → SpellsState g s bytes → IsAccepted (expected_of g s.devices) bytes
@@ -553,6 +521,6 @@ saved_is_accepted g s bytes sane counted turns few spells = subst (IsAccepted (e
           let here : k < length s.devices = omega (arith, lt, length-map s.devices (λ (d : DeviceData). d.kind)) in
           let kind : kind_at (map (λ (d : DeviceData). d.kind) s.devices) k ≡ (get_or s.devices k no_device).kind = get_or-map (λ (d : DeviceData). d.kind) s.devices k no_device in
           let is : device_in b (length (expected_of g s.devices).regions) k ≡ device_told (get_or s.devices k no_device) = ap (λ n. device_in b n k) tasks_count ∙ device_is k no_device here in
-          let good = device_fits (get_or s.devices k no_device) (set _ (has_at s.devices k no_device here)) in
+          let good = device_fits (get_or s.devices k no_device) (set _ (Contains-get_or s.devices k no_device here)) in
           subst (λ (x : Kind). IsGoodDevice x (device_in b (length (expected_of g s.devices).regions) k)) (sym kind) (subst (IsGoodDevice (get_or s.devices k no_device).kind) (sym is) good);
     }

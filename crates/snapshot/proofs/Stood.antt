@@ -27,6 +27,7 @@ use Rattle.snapshot.specs.Saved.{SpellsState, parts_of, spelling}
 use Rattle.snapshot.proofs.Again.{whole_again}
 use Rattle.snapshot.proofs.Places.{header_place}
 use Rattle.snapshot.proofs.Saves.{are_parts, few_queued}
+use Rattle.board_model.proofs.Views.{map_again}
 
 -- ## as much as the image fixes
 
@@ -54,10 +55,6 @@ pub large_stood : {X : Type 0} {H : X → Type 0} (shown : Shows X H) (x : Scena
 large_stood shown x b s st = large_by shown b.machine.loaded x.setup b.machine.reach b.machine.glider.runner.processor _ st.holds.machine
 
 -- ## births taken modulo 64 once more
-
-map_again : {X : Type 0} (f : X → X) → ((x : X) → f (f x) ≡ f x) → (xs : List X) → map f (map f xs) ≡ map f xs
-map_again f e [] = refl
-map_again f e (x ∷ xs) = λ i. e x i ∷ map_again f e xs i
 
 abbrev births : ℕ → ℕ
 births b = b % 64

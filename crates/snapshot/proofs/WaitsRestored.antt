@@ -2,7 +2,7 @@
 use Rattle.std.proofs.Common.{◌≡◌, ◌≢◌, ◌∙◌, ◌/◌, ◌%◌, ◌<◌, ◌≤◌, inl, inr, ℕ, Bool, true, false, List, length, Some, arith, ap, sym, subst, refl}
 use Rattle.std.specs.Prelude.{Contains, filter_map, bit_and}
 use Rattle.std.specs.List.{range_with_len}
-use Rattle.std.proofs.lemmas.Bool.{and_from, eq-eqb, false≢true}
+use Rattle.std.proofs.lemmas.Bool.{and_from, eq-eqb, false≢true, false_from_ne_true}
 use Rattle.std.proofs.lemmas.Bool.Decides.{eqb_tells}
 use Rattle.kernel_abi.specs.declared.Health.TheVariants.{Well}
 use Rattle.kernel_abi.specs.declared.Fault.{Fault}
@@ -18,10 +18,6 @@ use Rattle.snapshot.specs.Accepted.{IsGoodRecord}
 use Rattle.snapshot.specs.Restored.{health_from, task_from, slice_from, call_from, listen_from, call_in, listen_in}
 use Rattle.snapshot.proofs.Collected.{found, collected, once}
 use Rattle.snapshot.proofs.Agreed.{own, granted, IsCallAt, IsListenAt, call_at, listen_at, no_call, the_call, the_listen, sender_is, heard, offered_is}
-
-refuted : (b : Bool) → (b ≡ true → ⊥) → b ≡ false
-refuted true h = absurd (h refl)
-refuted false h = refl
 
 well_from : (h : ℕ) (f : Fault) → h ≡ 0 → health_from h f ≡ Well
 well_from h f e = ap (λ n. health_from n f) e
@@ -206,4 +202,4 @@ module _ (g : Setup) (s : State) (tasks : ℕ → TaskRecord) (good : (i : ℕ) 
       false≢true (sym (p.agrees.unfit o.at o.inside) ∙ and_from _ _ offers hear)
 
   pub are_unfit : AreUnfit Every s
-  are_unfit c l here there phase to any = refuted _ (unheard c l (of_call c here) (of_listen l there) phase to)
+  are_unfit c l here there phase to any = false_from_ne_true _ (unheard c l (of_call c here) (of_listen l there) phase to)

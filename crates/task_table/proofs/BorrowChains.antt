@@ -19,14 +19,14 @@ use Rattle.task_table.specs.Effects.{looked, copied, faulted}
 use Rattle.task_table.specs.Rows.{misused, denied}
 use Rattle.task_table.specs.Borrows.{entry_range, grant, lease_range, entry_read, Way, reading, writing, moved, refused, buffer_of, part_of, borrowed_by, borrowed, uninformed, informed_by, informed}
 use Rattle.task_table.specs.Sane.{Sane}
-use Rattle.task_table.specs.Grounds.{IsTakenBy, IsAlive}
+use Rattle.task_table.specs.Grounds.{IsTakenBy, IsLent, IsAlive}
 use Rattle.task_table.specs.Chain.{Here}
 use Rattle.task_table.specs.Step.{IsOpenAs, IsMoved, Copies, Looks, Borrows, Strikes, IsEntry, ReadsEntries}
 use Rattle.task_table.proofs.Chains.{one, ◌▷◌}
 use Rattle.task_table.proofs.Keeps.{added_in}
 use Rattle.task_table.proofs.MessageChains.{found_taken, another}
 use Rattle.task_table.proofs.Outcomes.{Leads, Comes, by_outcome, comes-faulted_after, comes-misused, goes_with}
-use Rattle.task_table.proofs.Ranges.{may-write}
+use Rattle.task_table.proofs.Ranges.{may-read, may-write}
 use Rattle.task_table.proofs.Receives.{none_left}
 
 -- a read changes nothing, notes nothing and writes nothing
@@ -87,52 +87,61 @@ module _ (g : Setup) (c : ℕ) (t : Turn) (h : Sane g t.state) (inside : c < len
     still_after : (lease : ℕ) (e : LeaseEntry) → (entry_read k lease e t).state.calls ≡ t.state.calls
     still_after lease e = ap (λ (s : State). s.calls) (state-looked (entry lease e) t)
 
-    -- its entry is read; then the borrower may fault still
-    reads_entry : (lease : ℕ) (e : LeaseEntry) → Leads g c t (entry_read k lease e t)
-    reads_entry lease e = one (Looks _ t (alive t), tt)
+    -- the entry of a lease that it has, as memory has it, where the lender may read it
+    record IsThere (lease : ℕ) (e : LeaseEntry) : Type 0 where
+      there : lease < k.leases
+      is : grant t.state k lease ≡ e
+      readable : bad_byte g k.client.index right.Read (entry_range k lease) ≡ None
 
-    faults_after : (lease : ℕ) (e : LeaseEntry) (fault : Fault) → 1 ≤ fault.number → fault.number ≤ 10 → Comes g c t (faulted g c fault (entry_read k lease e t))
-    faults_after lease e fault low high =
-        comes-faulted_after g c t inside fault (entry_read k lease e t) low high (reads_entry lease e) (state-looked (entry lease e) t) (notes-looked (entry lease e) t) (writes-looked (entry lease e) t) (reads-looked (entry lease e) t tt)
+    abbrev lent : (lease : ℕ) (e : LeaseEntry) → IsThere lease e → IsLent t.state c k.number e
+    lent lease e h = record { call = k; taken = taken; lease = lease; there = h.there; in_memory = h.is }
 
-    misuses_after : (lease : ℕ) (e : LeaseEntry) (usage : ℕ) → Comes g c t (misused g c usage (entry_read k lease e t))
-    misuses_after lease e usage = faults_after lease e record { number = 7; x = usage; y = 0 } (omega arith) (omega arith)
+    -- it is read; then the borrower may fault still
+    reads_entry : (lease : ℕ) (e : LeaseEntry) → IsThere lease e → Leads g c t (entry_read k lease e t)
+    reads_entry lease e h = one (Looks (entry lease e) t (alive t, record { lent = lent lease e h; base = refl; len = refl; may = λ a low high. may-read g k.client.index (entry_range k lease) a h.readable (low, high) }), tt)
 
-    denies_after : (lease : ℕ) (e : LeaseEntry) (y : ℕ) (bad : Option ℕ) → Comes g c t (denied g c y bad (entry_read k lease e t))
-    denies_after lease e y bad = faults_after lease e _ (omega arith) (omega arith)
+    faults_after : (lease : ℕ) (e : LeaseEntry) → IsThere lease e → (fault : Fault) → 1 ≤ fault.number → fault.number ≤ 10 → Comes g c t (faulted g c fault (entry_read k lease e t))
+    faults_after lease e h fault low high =
+        comes-faulted_after g c t inside fault (entry_read k lease e t) low high (reads_entry lease e h) (state-looked (entry lease e) t) (notes-looked (entry lease e) t) (writes-looked (entry lease e) t) (reads-looked (entry lease e) t tt)
+
+    misuses_after : (lease : ℕ) (e : LeaseEntry) → IsThere lease e → (usage : ℕ) → Comes g c t (misused g c usage (entry_read k lease e t))
+    misuses_after lease e h usage = faults_after lease e h record { number = 7; x = usage; y = 0 } (omega arith) (omega arith)
+
+    denies_after : (lease : ℕ) (e : LeaseEntry) → IsThere lease e → (y : ℕ) (bad : Option ℕ) → Comes g c t (denied g c y bad (entry_read k lease e t))
+    denies_after lease e h y bad = faults_after lease e h _ (omega arith) (omega arith)
 
   -- ## the bytes of a lease move, once all is checked
 
   abbrev Moving : Way → BorrowArgs → Type 0
   Moving way x =
-      (k : Call) (e : LeaseEntry) → IsTakenBy t.state c k.number k → x.lease < k.leases → grant t.state k x.lease ≡ e → bit_and e.attributes way.bit ≢ 0 → x.offset ≤ e.len → bad_byte g c way.own (buffer_of x) ≡ None → bad_byte g k.client.index way.lender (part_of x e) ≡ None →
+      (k : Call) (e : LeaseEntry) (taken : IsTakenBy t.state c k.number k) → IsThere k taken x.lease e → bit_and e.attributes way.bit ≢ 0 → x.offset ≤ e.len → bad_byte g c way.own (buffer_of x) ≡ None → bad_byte g k.client.index way.lender (part_of x e) ≡ None →
       Leads g c t (moved way.borrow k (part_of x e).base x.buffer_base (part_of x e).len (entry_read k x.lease e t))
 
   read_moves : (x : BorrowArgs) → Moving reading x
-  read_moves x k e taken there is bit offset own lender =
+  read_moves x k e taken h bit offset own lender =
       let part = part_of x e in
       let t1 = entry_read k x.lease e t in
       let r : Read = record { call = k.number; part = Leased; base = part.base; len = part.len } in
-      reads_entry k taken x.lease e
-      ▷ (Looks r t1 (alive k taken t1), tt)
+      reads_entry k taken x.lease e h
+      ▷ (Looks r t1 (alive k taken t1, record { entry = e; lent = lent k taken x.lease e h; readable = bit; low = omega arith; high = omega arith; may = λ a from below. may-read g k.client.index part a lender (from, below) }), tt)
       ▷ (Copies Own part.base x.buffer_base part.len c (buffer_of x) (looked r t1) record { good = own; base = refl; fits = omega arith } (λ a low high. may-write g c (buffer_of x) a own (low, omega arith)), tt)
 
   write_moves : (x : BorrowArgs) → Moving writing x
   unfolding looked
-  write_moves x k e taken there is bit offset own lender =
+  write_moves x k e taken h bit offset own lender =
       let part = part_of x e in
       let t1 = entry_read k x.lease e t in
-      reads_entry k taken x.lease e
+      reads_entry k taken x.lease e h
       ▷ (
         Copies (Lease k.number) x.buffer_base part.base part.len k.client.index part t1 record { good = lender; base = refl; fits = omega arith } (λ a low high. record {
           call = k;
           taken = taken;
           lease = x.lease;
-          there = there;
+          there = h.there;
           attributes = e.attributes;
           range = lease_range e;
           read = Contains-push t.reads (entry k taken x.lease e);
-          in_memory = is;
+          in_memory = h.is;
           writable = bit;
           lies = (omega arith, omega arith);
           may = may-write g k.client.index part a lender (low, high);
@@ -147,19 +156,20 @@ module _ (g : Setup) (c : ℕ) (t : Turn) (h : Sane g t.state) (inside : c < len
       let bad = bad_byte g k.client.index right.Read (entry_range k x.lease) in
       let e = grant t.state k x.lease in
       let t1 = entry_read k x.lease e t in
-      let x1 = reads_entry k f x.lease e in
       let buffer = buffer_of x in
       let part = part_of x e in
       let lacking = bad_byte g k.client.index way.lender part in
       by_outcome (leb k.leases x.lease) (λ out. comes-misused g c t inside 8) (λ there.
       by_outcome (is_some bad) (λ b. refuses 1 (denied g k.client.index 2 bad t) (denies_lender k f 2 bad t (Here t))) (λ readable.
+      let here : IsThere k f x.lease e = record { there = leb-false k.leases x.lease there; is = refl; readable = none_left _ readable } in
+      let x1 = reads_entry k f x.lease e here in
       by_outcome (not (is_valid (lease_range e))) (λ b. refuses 1 (misused g k.client.index 3 t1) (misuses_lender k f 3 t1 x1)) (λ valid.
       by_outcome (eqb (bit_and e.attributes way.bit) 0) (λ clear. refuses 1 t1 x1) (λ set.
-      by_outcome (ltb e.len x.offset) (λ far. misuses_after k f x.lease e 7) (λ near.
-      by_outcome (not (is_valid buffer)) (λ b. misuses_after k f x.lease e 3) (λ ok.
-      by_outcome (is_some (bad_byte g c way.own buffer)) (λ b. denies_after k f x.lease e (access_number way.own_access) (bad_byte g c way.own buffer)) (λ own.
+      by_outcome (ltb e.len x.offset) (λ far. misuses_after k f x.lease e here 7) (λ near.
+      by_outcome (not (is_valid buffer)) (λ b. misuses_after k f x.lease e here 3) (λ ok.
+      by_outcome (is_some (bad_byte g c way.own buffer)) (λ b. denies_after k f x.lease e here (access_number way.own_access) (bad_byte g c way.own buffer)) (λ own.
       by_outcome (is_some lacking) (λ b. refuses 1 (denied g k.client.index (access_number way.lender_access) lacking t1) (denies_lender k f (access_number way.lender_access) lacking t1 x1)) (λ lender.
-      let moving1 = moving k e f (leb-false k.leases x.lease there) refl (λ zero. absurd (false≢true (sym set ∙ eq-eqb _ _ zero))) (ltb-false e.len x.offset near) (none_left _ own) (none_left _ lender) in
+      let moving1 = moving k e f here (λ zero. absurd (false≢true (sym set ∙ eq-eqb _ _ zero))) (ltb-false e.len x.offset near) (none_left _ own) (none_left _ lender) in
       goes_with g c t inside (0 ∷ part.len ∷ []) _ (omega arith)
       (moving1 ▷ (Borrows k.number way.borrow x.lease x.offset part.len (moved way.borrow k part.base x.buffer_base part.len t1) (alive k f (moved way.borrow k part.base x.buffer_base part.len t1)) (still k f (moved way.borrow k part.base x.buffer_base part.len t1) (calls-moved way.borrow k part.base x.buffer_base part.len t1 ∙ still_after k f x.lease e)) (fits x.offset part.len), tt))))))))))
 
@@ -188,9 +198,9 @@ module _ (g : Setup) (c : ℕ) (t : Turn) (h : Sane g t.state) (inside : c < len
       let bad = bad_byte g k.client.index right.Read (entry_range k lease) in
       let e = grant t.state k lease in
       let t1 = entry_read k lease e t in
-      let x1 = reads_entry k f lease e in
       by_outcome (leb k.leases lease) (λ out. comes-misused g c t inside 8) (λ there.
       by_outcome (is_some bad) (λ b. uninforms 1 (denied g k.client.index 2 bad t) (denies_lender k f 2 bad t (Here t))) (λ readable.
+      let x1 = reads_entry k f lease e record { there = leb-false k.leases lease there; is = refl; readable = none_left _ readable } in
       by_outcome (not (is_valid (lease_range e))) (λ b. uninforms 1 (misused g k.client.index 3 t1) (misuses_lender k f 3 t1 x1)) (λ valid.
       goes_with g c t inside (0 ∷ bit_and e.attributes 3 ∷ e.len ∷ []) _ (omega arith) (x1 ▷ (Borrows k.number borrow.Info lease 0 0 t1 (alive k f t1) (still k f t1 (still_after k f lease e)) (refl, refl), tt)))))
 

@@ -26,11 +26,6 @@ infixl 5 ◌▷◌
 pub ◌▷◌ : {R : Turn → Turn → Type 0} {t u v : Turn} → Chain R t u → R u v → Chain R t v
 ◌▷◌ {t = t} {u = u} {v = v} c s = More t u v c s
 
--- both sides of a test, and each step of a fold
-pub by_chain : {R : Turn → Turn → Type 0} {t : Turn} (b : Bool) {x y : Turn} → (b ≡ true → Chain R t x) → (b ≡ false → Chain R t y) → Chain R t (cond b x y)
-by_chain true here later = here refl
-by_chain false here later = later refl
-
 pub chain-fold : {R : Turn → Turn → Type 0} {A : Type 0} (f : Turn → A → Turn) (xs : List A) (u : Turn) → ((x : A) (v : Turn) → Contains xs x → Chain R v (f v x)) → Chain R u (fold f u xs)
 chain-fold f [] u step = Here u
 chain-fold {R} f (x ∷ xs) u step = joined R u (f u x) _ (step x u (zero, omega arith, refl)) (chain-fold f xs (f u x) (λ y v here. step y v (suc here.0, omega (arith, here.1), here.2)))

@@ -96,6 +96,7 @@ same_but-with_task s i x = record {
   next_call = refl;
   lines = refl;
   turn = refl;
+  devices = refl;
 }
 
 -- it waits as before
@@ -127,6 +128,7 @@ same_but-with_task_again s i x y = record {
   next_call = refl;
   lines = refl;
   turn = refl;
+  devices = refl;
 }
 
 pub same_but-without_call : (s : State) (i : ℕ) → IsSameBut i s (without_call i s)
@@ -142,6 +144,7 @@ same_but-without_call s i = record {
   next_call = refl;
   lines = refl;
   turn = refl;
+  devices = refl;
 }
 
 pub same_but-without_listen : (s : State) (i : ℕ) → IsSameBut i s (without_listen i s)
@@ -157,6 +160,7 @@ same_but-without_listen s i = record {
   next_call = refl;
   lines = refl;
   turn = refl;
+  devices = refl;
 }
 
 -- one change after another, and none
@@ -172,10 +176,11 @@ same_but_then i s u v a b = record {
   next_call = b.next_call ∙ a.next_call;
   lines = b.lines ∙ a.lines;
   turn = b.turn ∙ a.turn;
+  devices = b.devices ∙ a.devices;
 }
 
 pub same_but_here : (i : ℕ) (s : State) → IsSameBut i s s
-same_but_here i s = record { count = refl; task = λ j ne. refl; call = λ j ne. refl; listen = λ j ne. refl; memory = refl; now = refl; current = refl; next_call = refl; lines = refl; turn = refl }
+same_but_here i s = record { count = refl; task = λ j ne. refl; call = λ j ne. refl; listen = λ j ne. refl; memory = refl; now = refl; current = refl; next_call = refl; lines = refl; turn = refl; devices = refl }
 
 -- ## dropping what is not there
 

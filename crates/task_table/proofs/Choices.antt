@@ -2,11 +2,12 @@
 use Rattle.std.proofs.Common.{◌≡◌, ◌+◌, ◌-◌, ◌*◌, ◌/◌, ◌%◌, ◌<◌, ◌≤◌, ◌⊎◌, inl, inr, ℕ, zero, suc, Bool, true, false, not, ◌&&◌, ◌||◌, List, [], ◌∷◌, ◌++◌, length, Option, Some, None, refl, sym, subst, ◌∙◌, ap, arith, leb}
 use Rattle.std.specs.Prelude.{find}
 use Rattle.std.specs.List.{range_with_len, list_all}
-use Rattle.std.proofs.lemmas.Bool.{cases_lt, leb-true, le-leb, false≢true}
+use Rattle.std.proofs.lemmas.Bool.{cases_lt, leb-true, le-leb, false≢true, cases_Bool, and_parts, and_from, false_from_ne_true}
 use Rattle.std.proofs.lemmas.Bool.Decides.{eqb_tells}
 use Rattle.task_table.specs.TaskSets.{has, IsFirstFrom}
 use Rattle.task_table.specs.Reading.{around}
 use Rattle.task_table.specs.Order.{AreOrdered, IsKeyFrom, IsKeyOf, IsPlaceOf, first_around, has_task, is_lowest, key_in, place_in, priority_at}
+use Rattle.region_check.proofs.FirstBad.{find_range_none}
 
 -- ## a search in the order
 
@@ -14,17 +15,9 @@ abbrev or_else : {X : Type 0} → Option X → Option X → Option X
 or_else None b = b
 or_else (Some x) b = Some x
 
-bool_cases : (b : Bool) → (b ≡ true) ⊎ (b ≡ false)
-bool_cases true = inl refl
-bool_cases false = inr refl
-
-find_append : {X : Type 0} (p : X → Bool) (xs ys : List X) → find p (xs ++ ys) ≡ or_else (find p xs) (find p ys)
+pub find_append : {X : Type 0} (p : X → Bool) (xs ys : List X) → find p (xs ++ ys) ≡ or_else (find p xs) (find p ys)
 find_append p [] ys = refl
-find_append p (x ∷ xs) ys = elim (bool_cases (p x)) [ inl t ↦ rw t | inr f ↦ simp f (find_append p xs ys) ]
-
-find_nothing : (p : ℕ → Bool) (from n : ℕ) → ((i : ℕ) → from ≤ i → i < from + n → p i ≡ false) → find p (range_with_len from n) ≡ None
-find_nothing p from zero h = refl
-find_nothing p from (suc n) h = let here : p from ≡ false = h from (omega arith) (omega arith) in rw here (find_nothing p (from + 1) n (λ i a b. h i (omega arith) (omega arith)))
+find_append p (x ∷ xs) ys = elim (cases_Bool (p x)) [ inl t ↦ rw t | inr f ↦ simp f (find_append p xs ys) ]
 
 find_first : (p : ℕ → Bool) (from n first : ℕ) → from ≤ first → first < from + n → p first ≡ true → ((i : ℕ) → from ≤ i → i < first → p i ≡ false) → find p (range_with_len from n) ≡ Some first
 find_first p from zero first above below here before = absurd (omega (arith, above, below))
@@ -38,8 +31,8 @@ find_first p from (suc n) first above below here before = elim (cases_lt from fi
 around_nothing : (p : ℕ → Bool) (n from : ℕ) → from ≤ n → ((i : ℕ) → i < n → p i ≡ false) → find p (around n from) ≡ None
 around_nothing p n from inside h =
     find_append p (range_with_len from (n - from)) (range_with_len 0 from)
-    ∙ ap (λ o. or_else o (find p (range_with_len 0 from))) (find_nothing p from (n - from) (λ i a b. h i (omega (arith, a, b, inside))))
-    ∙ find_nothing p 0 from (λ i a b. h i (omega (arith, b, inside)))
+    ∙ ap (λ o. or_else o (find p (range_with_len 0 from))) (find_range_none p from (n - from) (λ i a b. h i (omega (arith, a, b, inside))))
+    ∙ find_range_none p 0 from (λ i a b. h i (omega (arith, b, inside)))
 
 -- the first from a task on
 around_above : (p : ℕ → Bool) (n from first : ℕ) → from ≤ first → first < n → p first ≡ true → ((i : ℕ) → from ≤ i → i < first → p i ≡ false) → find p (around n from) ≡ Some first
@@ -51,20 +44,13 @@ around_above p n from first above inside here before =
 around_below : (p : ℕ → Bool) (n from first : ℕ) → from ≤ n → first < n → p first ≡ true → ((i : ℕ) → i < first → p i ≡ false) → ((i : ℕ) → from ≤ i → i < n → p i ≡ false) → find p (around n from) ≡ Some first
 around_below p n from first short inside here before none =
     find_append p (range_with_len from (n - from)) (range_with_len 0 from)
-    ∙ ap (λ o. or_else o (find p (range_with_len 0 from))) (find_nothing p from (n - from) (λ i a b. none i a (omega (arith, a, b, short))))
+    ∙ ap (λ o. or_else o (find p (range_with_len 0 from))) (find_range_none p from (n - from) (λ i a b. none i a (omega (arith, a, b, short))))
     ∙ elim (cases_lt first from) [
       | inl lt ↦ find_first p 0 from first (omega arith) (omega (arith, lt)) here (λ i a b. before i b)
       | inr ge ↦ absurd (false≢true (sym (none first ge inside) ∙ here))
     ]
 
 -- ## tests
-
-both_true : (a b : Bool) → (a && b) ≡ true → (a ≡ true) × (b ≡ true)
-both_true true b h = (refl, h)
-both_true false b h = absurd (false≢true h)
-
-and_true : (a b : Bool) → a ≡ true → b ≡ true → (a && b) ≡ true
-and_true a b x y = rw (x, y)
 
 passes : (a : Bool) (x y : ℕ) → (not a || leb x y) ≡ true → a ≡ true → x ≤ y
 passes true x y h t = leb-true _ _ h
@@ -77,7 +63,7 @@ pass false x y h = refl
 all_at : (p : ℕ → Bool) (from n i : ℕ) → list_all p (range_with_len from n) ≡ true → from ≤ i → i < from + n → p i ≡ true
 all_at p from zero i h a b = absurd (omega arith)
 all_at p from (suc n) i h a b =
-    let both = both_true (p from) (list_all p (range_with_len (from + 1) n)) h in
+    let both = and_parts (p from) (list_all p (range_with_len (from + 1) n)) h in
     elim (cases_lt from i) [ inl lt ↦ all_at p (from + 1) n i both.1 (omega arith) (omega arith) | inr ge ↦ let same : i ≡ from = omega arith in rw same both.0 ]
 
 all_by : (p : ℕ → Bool) (from n : ℕ) → ((i : ℕ) → from ≤ i → i < from + n → p i ≡ true) → list_all p (range_with_len from n) ≡ true
@@ -122,22 +108,18 @@ at_least ps keys places words first j h below is =
 -- they are those of the priority number of the first one
 lowest_of : (ps keys places words : List ℕ) (first i : ℕ) → Low ps keys places words first → i < length ps → has_task places words i ≡ true → priority_at ps i ≡ key_in keys first / 1024 → is_lowest ps (has_task places words) (length ps) i ≡ true
 lowest_of ps keys places words first i h below is priority =
-    and_true _ _ is (all_by _ 0 (length ps) (λ j a b. pass (has_task places words j) (priority_at ps i) (priority_at ps j)
+    and_from _ _ is (all_by _ 0 (length ps) (λ j a b. pass (has_task places words j) (priority_at ps i) (priority_at ps j)
     (λ t. let at = at_least ps keys places words first j h (omega (arith, b)) t in omega (arith, at.1, priority, b, h.order.few))))
 
 priority_from : (ps keys places words : List ℕ) (first i : ℕ) → Low ps keys places words first → i < length ps → is_lowest ps (has_task places words) (length ps) i ≡ true → (has_task places words i ≡ true) × (priority_at ps i ≡ key_in keys first / 1024)
 priority_from ps keys places words first i h below is =
-    let both = both_true (has_task places words i) _ is in
+    let both = and_parts (has_task places words i) _ is in
     let there = h.inside first h.least.1 in
     let t = key_in keys first % 1024 in
     let its : has_task places words t ≡ true = ap (has words) (h.order.place first there) ∙ h.least.1 in
     let low = passes (has_task places words t) (priority_at ps i) (priority_at ps t) (all_at _ 0 (length ps) t both.1 (omega arith) (omega (arith, h.order.there first there))) its in
     let high = at_least ps keys places words first i h below both.0 in
     (both.0, omega (arith, low, high.1, key_at ps keys places first h.order there, below, h.order.few))
-
-not_lowest : (b : Bool) → (b ≡ true → ⊥) → b ≡ false
-not_lowest true h = absurd (h refl)
-not_lowest false h = refl
 
 pub first_in_order : (ps keys places words : List ℕ) (first from start key : ℕ) → AreOrdered ps keys places → IsFirstFrom words 0 (Some first) → ((p : ℕ) → has words p ≡ true → p < length keys) → from ≤ length ps
     → IsPlaceOf keys (key_in keys first / 1024 * 1024 + from) start → IsKeyFrom keys words start (key_in keys first / 1024) (key_in keys first) key
@@ -177,7 +159,7 @@ first_in_order ps keys places words first from start key order least inside shor
         let in_set : has_task places words t ≡ true = ap (has words) (order.place first there) ∙ least.1 in
         around_below test n from t short (order.there first there)
         (lowest_of ps keys places words first t low (order.there first there) in_set (omega (arith, its, order.there first there, order.few)))
-        (λ i lt. not_lowest (test i) (λ t.
+        (λ i lt. false_from_ne_true (test i) (λ t.
         let below : i < length ps = omega (arith, lt, order.there first there) in
         let mine = priority_from ps keys places words first i low below t in
         let at = at_least ps keys places words first i low below mine.0 in
@@ -186,11 +168,11 @@ first_in_order ps keys places words first from start key order least inside shor
 
     go : (found : Option ℕ) → IsFirstFrom words start found → IsKeyOf keys priority (key_in keys first) key found → find test (around n from) ≡ Some (key % 1024)
     go None none same =
-        rw same (all_first (λ i above below. not_lowest (test i) (λ t. let b = behind i below above t in false≢true (sym (none (place_in places i) b.0) ∙ b.1))))
+        rw same (all_first (λ i above below. false_from_ne_true (test i) (λ t. let b = behind i below above t in false≢true (sym (none (place_in places i) b.0) ∙ b.1))))
     go (Some c) here same = elim (eqb_tells (key_in keys c / 1024) priority) [
       | inr other ↦
           let is_first : key ≡ key_in keys first = rw other.0 at same in
-          rw is_first (all_first (λ i above below. not_lowest (test i) (λ t. other.1 (priority_between i above below t))))
+          rw is_first (all_first (λ i above below. false_from_ne_true (test i) (λ t. other.1 (priority_between i above below t))))
       | inl equal ↦
           let is_found : key ≡ key_in keys c = rw equal.0 at same in
           let its = key_at ps keys places c order c_there in
@@ -199,7 +181,7 @@ first_in_order ps keys places words first from start key order least inside shor
           let mine : priority_at ps u ≡ priority = omega (arith, its, equal.1, order.there c c_there, order.few) in
           rw is_found (around_above test n from u (omega (arith, place.above c here.0 (omega (arith, c_there, order.key_count)), its, mine, equal.1)) (order.there c c_there)
           (lowest_of ps keys places words first u low (order.there c c_there) in_set mine)
-          (λ i above lt. not_lowest (test i) (λ t.
+          (λ i above lt. false_from_ne_true (test i) (λ t.
           let below : i < length ps = omega (arith, lt, order.there c c_there) in
           let b = behind i below above t in
           let m = priority_from ps keys places words first i low below t in
@@ -235,7 +217,7 @@ unfolding first_around
 first_at_once ps keys places words first from order least inside above =
     sym (around_above test (length ps) from t above (order.there first there)
     (lowest_of ps keys places words first t low (order.there first there) in_set (omega (arith, its, order.there first there, order.few)))
-    (λ i over lt. not_lowest (test i) (λ is.
+    (λ i over lt. false_from_ne_true (test i) (λ is.
     let below : i < length ps = omega (arith, lt, order.there first there) in
     let mine = priority_from ps keys places words first i low below is in
     let at = at_least ps keys places words first i low below mine.0 in

@@ -1,7 +1,7 @@
 -- The one call of a client, and whether it is offered or taken.
 use Rattle.std.proofs.Common.{◌≡◌, ◌≢◌, ◌⊎◌, inl, inr, ℕ, zero, suc, Bool, true, false, cond, ◌&&◌, List, [], ◌∷◌, Option, Some, None, refl, sym, ◌∙◌, ap, arith, eqb}
 use Rattle.std.specs.Prelude.{find, Contains}
-use Rattle.std.proofs.lemmas.Bool.{eqb-true, false≢true}
+use Rattle.std.proofs.lemmas.Bool.{eqb-true, false≢true, cases_Bool, and_parts, false_from_ne_true}
 use Rattle.mem_banks.specs.Memory.{IsWithin, IsWithinRam}
 use Rattle.task_table.specs.State.{Setup, Call, State, Birth, Phase}
 use Rattle.task_table.specs.Reading.{task_at, call_of, present, is_offered, offer_by, is_taken, taken_by}
@@ -9,23 +9,15 @@ use Rattle.task_table.specs.Sane.{Sane}
 use Rattle.task_table.proofs.Keeps.{found_in, not_found}
 use Rattle.task_table.proofs.Ranges.{within-good, within_ram-good}
 
-no_some : {A P : Type 0} {a : A} → None ≡ Some a → P
+pub no_some : {A P : Type 0} {a : A} → None ≡ Some a → P
 no_some e = cc
 
-same_some : {A : Type 0} {a b : A} → Some a ≡ Some b → a ≡ b
+pub same_some : {A : Type 0} {a b : A} → Some a ≡ Some b → a ≡ b
 same_some e = cc
-
-bool_cases : (b : Bool) → (b ≡ true) ⊎ (b ≡ false)
-bool_cases true = inl refl
-bool_cases false = inr refl
 
 pub option_cases : {A : Type 0} (o : Option A) → (o ≡ None) ⊎ ((x : A) × (o ≡ Some x))
 option_cases None = inl refl
 option_cases (Some x) = inr (x, refl)
-
-both_true : (a b : Bool) → (a && b) ≡ true → (a ≡ true) × (b ≡ true)
-both_true true b h = (refl, h)
-both_true false b h = absurd (false≢true h)
 
 -- ## what is found in a list
 
@@ -39,20 +31,16 @@ find_none f (x ∷ xs) never =
     let here : f x ≡ false = never x (zero, omega arith, refl) in
     rw here (find_none f xs (λ y h. never y (contains_more x y xs h)))
 
-not_true : (b : Bool) → (b ≡ true → ⊥) → b ≡ false
-not_true true h = absurd (h refl)
-not_true false h = refl
-
 -- a finer test than one that one element alone passes
 find_finer_none : {X : Type 0} (p f : X → Bool) (xs : List X) → ((x : X) → f x ≡ true → p x ≡ true) → find p xs ≡ None → find f xs ≡ None
-find_finer_none p f xs finer h = find_none f xs (λ x inside. not_true (f x) (λ t. not_found p xs x h inside (finer x t)))
+find_finer_none p f xs finer h = find_none f xs (λ x inside. false_from_ne_true (f x) (λ t. not_found p xs x h inside (finer x t)))
 
 find_finer : {X : Type 0} (p f : X → Bool) (xs : List X) (c : X) → ((x : X) → f x ≡ true → p x ≡ true) → ((x y : X) → Contains xs x → Contains xs y → p x ≡ true → p y ≡ true → x ≡ y) → find p xs ≡ Some c → find f xs ≡ cond (f c) (Some c) None
 find_finer p f xs c finer single h =
     let here = found_in p xs c h in
-    elim (bool_cases (f c)) [
+    elim (cases_Bool (f c)) [
       | inl e ↦ rw e (at_one e here)
-      | inr e ↦ rw e (find_none f xs (λ x inside. not_true (f x) (λ t. let same : x ≡ c = single x c inside here.0 (finer x t) here.1 in absurd (false≢true (sym e ∙ rw same at t)))))
+      | inr e ↦ rw e (find_none f xs (λ x inside. false_from_ne_true (f x) (λ t. let same : x ≡ c = single x c inside here.0 (finer x t) here.1 in absurd (false≢true (sym e ∙ rw same at t)))))
     ]
   where
     at_one : f c ≡ true → Contains xs c × (p c ≡ true) → find f xs ≡ Some c
@@ -80,7 +68,7 @@ is_call p i j c = (eqb c.client.index i && eqb c.server.index j) && p c.phase
 
 call_client : (p : Phase → Bool) (i j : ℕ) (c : Call) → is_call p i j c ≡ true → eqb c.client.index i ≡ true
 unfolding is_call
-call_client p i j c h = (both_true (eqb c.client.index i) (eqb c.server.index j) (both_true (eqb c.client.index i && eqb c.server.index j) (p c.phase) h).0).0
+call_client p i j c h = (and_parts (eqb c.client.index i) (eqb c.server.index j) (and_parts (eqb c.client.index i && eqb c.server.index j) (p c.phase) h).0).0
 
 one_of : (g : Setup) (s : State) (i : ℕ) → Sane g s → (c d : Call) → Contains s.calls c → Contains s.calls d → eqb c.client.index i ≡ true → eqb d.client.index i ≡ true → c ≡ d
 one_of g s i sane c d a b e f = sane.steady.calls.client c d a b (eqb-true _ _ e ∙ sym (eqb-true _ _ f))
@@ -139,7 +127,7 @@ call_by p g s i j c sane h =
           let inside = found_call s i c here in
           let fit = sane.steady.calls.fit c inside in
           let client = client_is s i c here in
-          let server : c.server.index ≡ j = sym (ap (λ (x : Call). x.server.index) tests.1) ∙ eqb-true _ _ (both_true (eqb d.server.index j) (p d.phase) tests.0).0 in
+          let server : c.server.index ≡ j = sym (ap (λ (x : Call). x.server.index) tests.1) ∙ eqb-true _ _ (and_parts (eqb d.server.index j) (p d.phase) tests.0).0 in
           record {
             call = here;
             client = same_birth_is c.client i (task_at s i).births client (sym (sane.present.client c inside) ∙ ap (λ x. (task_at s x).births) client);

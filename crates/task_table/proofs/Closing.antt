@@ -119,10 +119,10 @@ closed_stays s u h k gone = (
   λ o. elim (h.open_before o.0 o.1) [ inl later ↦ let same = o.2 in let lt = gone.0 in absurd (omega arith) | inr before ↦ gone.1 (before.0, before.1, before.2 ∙ o.2) ],
 )
 
-same_some : {a b : ℕ} → Some a ≡ Some b → a ≡ b
+pub same_some : {a b : ℕ} → Some a ≡ Some b → a ≡ b
 same_some e = cc
 
-none_some : {A : Type 0} {b : ℕ} → None ≡ Some b → A
+pub none_some : {A : Type 0} {b : ℕ} → None ≡ Some b → A
 none_some e = cc
 
 -- no turn from s touches it

@@ -17,17 +17,11 @@ use Rattle.task_table.specs.declared.slot.OpenCall.{OpenCall}
 use Rattle.task_table.specs.declared.slot.Slot.{Slot}
 use Rattle.task_table.specs.declared.slot.Wait.TheVariants as wait
 use Rattle.task_table.proofs.Changes.{listen_of-with_task}
-use Rattle.task_table.proofs.Clients.{option_cases, found_call, taken_by_none, taken_by_call}
+use Rattle.task_table.proofs.Clients.{option_cases, found_call, taken_by_none, taken_by_call, no_some, same_some}
 use Rattle.task_table.proofs.Messages.{index_of-id_of, kept_if}
 use Rattle.task_table.proofs.Posting.{found_listen}
 use Rattle.task_table.proofs.Ranges.{within_ram-good}
 use Rattle.task_table.proofs.Waiting.{find_added, find_added_other}
-
-no_some : {A P : Type 0} {a : A} → None ≡ Some a → P
-no_some e = cc
-
-same_some : {A : Type 0} {a b : A} → Some a ≡ Some b → a ≡ b
-same_some e = cc
 
 -- ## a taken call
 
@@ -117,6 +111,7 @@ same_but s k = record {
   next_call = refl;
   lines = refl;
   turn = refl;
+  devices = refl;
 }
 
 pub same_but-with_call : (s : State) (k : Call) (i : ℕ) → k.client.index ≡ i → IsSameBut i (numbered s) (with_call k s)

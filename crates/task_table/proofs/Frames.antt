@@ -1,7 +1,7 @@
 -- What effects leave alone: who waits, and other tasks.
 use Rattle.std.proofs.Common.{◌≡◌, ℕ, Bool, true, false, ◌&&◌, List, [], ◌∷◌, Option, Some, None, inl, inr, refl, ◌∙◌, eqb, bit_and, cond, is_none}
 use Rattle.std.proofs.lemmas.Bool.Decides.{eqb_tells}
-use Rattle.std.proofs.lemmas.Bool.{false≢true}
+use Rattle.std.proofs.lemmas.Bool.{false≢true, and_parts}
 use Rattle.kernel_abi.specs.declared.Note.{Note}
 use Rattle.kernel_abi.specs.declared.Timer.{Timer}
 use Rattle.task_table.specs.declared.Line.{Line}
@@ -10,20 +10,16 @@ use Rattle.task_table.specs.Reading.{task_at, call_of, listen_of, is_ready, is_w
 use Rattle.task_table.specs.Effects.{without_listen, changed, noted, given, returned, bits_added, bits_cleared, woken_by, woken, posted, with_timer, with_line, stored}
 use Rattle.task_table.proofs.Changes.{call_of-with_task, listen_of-with_task, call_of-without_listen, listen_of-without_listen, listen_of-without_listen_other, same_but-with_task, same_but-without_listen, same_but_here, same_but_then}
 
-none_is : {A : Type 0} (o : Option A) → is_none o ≡ true → o ≡ None
+pub none_is : {A : Type 0} (o : Option A) → is_none o ≡ true → o ≡ None
 none_is None h = refl
 none_is (Some x) h = absurd (false≢true h)
-
-both_true : (a b : Bool) → (a && b) ≡ true → (a ≡ true) × (b ≡ true)
-both_true true b h = (refl, h)
-both_true false b h = absurd (false≢true h)
 
 -- who is ready waits for nothing
 pub idle-ready : (s : State) (i : ℕ) → is_ready s i ≡ true → IsIdle s i
 unfolding is_ready
 idle-ready s i h =
-    let two = both_true (is_well (task_at s i).health && is_none (call_of s i)) (is_none (listen_of s i)) h in
-    record { call = none_is _ (both_true (is_well (task_at s i).health) (is_none (call_of s i)) two.0).1; listen = none_is _ two.1 }
+    let two = and_parts (is_well (task_at s i).health && is_none (call_of s i)) (is_none (listen_of s i)) h in
+    record { call = none_is _ (and_parts (is_well (task_at s i).health) (is_none (call_of s i)) two.0).1; listen = none_is _ two.1 }
 
 -- a store, a note and another current task leave each task as it was
 pub same_at-stored : (j : ℕ) (on : Ground) (a : ℕ) (bytes : List ℕ) (t : Turn) → IsSameAt j t.state (stored on a bytes t).state
@@ -57,15 +53,6 @@ idle-timer i j timer t h = record { call = call_of-with_task t.state j i _ ∙ h
 pub idle-line : (i k : ℕ) (line : Line) (t : Turn) → IsIdle t.state i → IsIdle (with_line k line t).state i
 unfolding with_line call_of listen_of
 idle-line i k line t h = record { call = h.call; listen = h.listen }
-
-pub idle-woken : (i mask : ℕ) (t : Turn) → call_of t.state i ≡ None → IsIdle (bits_cleared i mask (changed (without_listen i) t)).state i
-unfolding bits_cleared
-idle-woken i mask t none =
-    let u = without_listen i t.state in
-    record {
-      call = call_of-with_task u i i _ ∙ call_of-without_listen t.state i i ∙ none;
-      listen = listen_of-with_task u i i _ ∙ listen_of-without_listen t.state i;
-    }
 
 -- a post does not make a task wait
 idle-added : (i j bits : ℕ) (t : Turn) → IsIdle t.state i → IsIdle (bits_added j bits t).state i

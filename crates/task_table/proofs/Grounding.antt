@@ -4,15 +4,16 @@ use Rattle.std.specs.Prelude.{Contains}
 use Rattle.std.proofs.lemmas.Bool.{false≢true}
 use Rattle.std.proofs.lemmas.List.Elements.{Contains-append_left, Contains-append_cases}
 use Rattle.kernel_abi.specs.declared.Ending.{Ending}
+use Rattle.kernel_abi.specs.declared.LeaseEntry.{LeaseEntry}
 use Rattle.kernel_abi.specs.declared.Note.{Note}
 use Rattle.kernel_abi.specs.declared.Note.TheVariants as note
 use Rattle.mem_banks.specs.Memory.{bytes_at}
-use Rattle.task_table.specs.State.{Setup, State, Call, Slice, Ground, Own, Message, Reply, Lease, Write as Written, Read, MessageFront, Turn}
+use Rattle.task_table.specs.State.{Setup, State, Call, Slice, Ground, Own, Message, Reply, Lease, Write as Written, Read, Part, MessageFront, Entry, Leased, Turn}
 use Rattle.task_table.specs.Reading.{call_of}
 use Rattle.task_table.specs.Effects.{with_taken, with_call, noted, stored, copied, looked, writes_on, close_notes, closed, offered}
 use Rattle.task_table.specs.Borrows.{grant}
 use Rattle.task_table.specs.Placed.{ArePlaced}
-use Rattle.task_table.specs.Grounds.{MayChange, AreGrounded, IsAlive, AreAlive, call_of_ground, touched}
+use Rattle.task_table.specs.Grounds.{MayChange, AreGrounded, IsLent, IsRightRead, AreGranted, IsAlive, AreAlive, call_of_ground, touched}
 use Rattle.task_table.specs.Chain.{Chain}
 use Rattle.task_table.specs.Step.{is_plain, MayChangeAll, Step}
 use Rattle.task_table.specs.Lives.{IsFresh}
@@ -28,7 +29,7 @@ pub record IsMoved (g : Setup) (s : State) (c : ℕ) (u v : Turn) : Type 0 where
   pub notes : (n : Note) → Contains u.notes n → Contains v.notes n
   pub reads : (r : Read) → Contains u.reads r → Contains v.reads r
   pub written : (w : Written) → Contains v.writes w → Contains u.writes w ⊎ MayChange g s c v w.on w.address
-  pub read : (r : Read) → Contains v.reads r → Contains u.reads r ⊎ IsAlive s c v r.call
+  pub read : (r : Read) → Contains v.reads r → Contains u.reads r ⊎ (IsAlive s c v r.call × IsRightRead g s c r r.part)
   pub touches : (n : Note) → Contains v.notes n → Contains u.notes n ⊎ IfSome (touched n) (IsAlive s c v)
 
 -- what is alive stays so
@@ -106,13 +107,13 @@ module _ (g : Setup) (s : State) (c : ℕ) where
     touches = λ n h. inl h;
   }
 
-  moved-looked : (r : Read) (u : Turn) → IsAlive s c u r.call → IsMoved g s c u (looked r u)
+  moved-looked : (r : Read) (u : Turn) → IsAlive s c u r.call × IsRightRead g s c r r.part → IsMoved g s c u (looked r u)
   unfolding looked
-  moved-looked r u alive = record {
+  moved-looked r u good = record {
     notes = λ n h. h;
     reads = λ x h. Contains-append_left u.reads (r ∷ []) x h;
     written = λ w h. inl h;
-    read = λ x h. elim (Contains-append_cases u.reads (r ∷ []) x h) [ inl old ↦ inl old | inr new ↦ inr (rw (← one_in r x new) alive) ];
+    read = λ x h. elim (Contains-append_cases u.reads (r ∷ []) x h) [ inl old ↦ inl old | inr new ↦ inr (rw (← one_in r x new) good) ];
     touches = λ n h. inl h;
   }
 
@@ -158,7 +159,7 @@ module _ (g : Setup) (s : State) (c : ℕ) where
               let few = few_bytes u.state.memory k.message.base n in
               inr (rw i.0 (t.may w.address (i.1, omega (arith, i.2, few))))
         ];
-        read = λ x h. elim (Contains-append_cases u.reads (r ∷ []) x h) [ inl old ↦ inl old | inr new ↦ inr (rw (← one_in r x new) alive) ];
+        read = λ x h. elim (Contains-append_cases u.reads (r ∷ []) x h) [ inl old ↦ inl old | inr new ↦ inr (rw (← one_in r x new) (alive, tt)) ];
         touches = touches_one s c v u.notes (note.Take k.number n) alive;
       }
 
@@ -192,6 +193,7 @@ module _ (g : Setup) (s : State) (c : ℕ) where
 pub record IsHonest (g : Setup) (s : State) (c : ℕ) (u : Turn) : Type 0 where
   pub grounded : AreGrounded g s c u
   pub read : (r : Read) → Contains u.reads r → IsAlive s c u r.call
+  pub granted : AreGranted g s c u
   pub touches : (n : Note) → Contains u.notes n → IfSome (touched n) (IsAlive s c u)
 
 some_stays : (s : State) (c : ℕ) (u v : Turn) (o : Option ℕ) → ((n : Note) → Contains u.notes n → Contains v.notes n) → IfSome o (IsAlive s c u) → IfSome o (IsAlive s c v)
@@ -203,7 +205,8 @@ move_honest g s c u v m h =
     let f = moved g s c u v m in
     record {
       grounded = λ w here. elim (f.written w here) [ inl old ↦ may_stays g s c u v w.on w.address f.notes f.reads (h.grounded w old) | inr new ↦ new ];
-      read = λ r here. elim (f.read r here) [ inl old ↦ alive_stays s c u v r.call f.notes (h.read r old) | inr new ↦ new ];
+      read = λ r here. elim (f.read r here) [ inl old ↦ alive_stays s c u v r.call f.notes (h.read r old) | inr new ↦ new.0 ];
+      granted = λ r here. elim (f.read r here) [ inl old ↦ h.granted r old | inr new ↦ new.1 ];
       touches = λ n here. elim (f.touches n here) [ inl old ↦ some_stays s c u v (touched n) f.notes (h.touches n old) | inr new ↦ new ];
     }
 
@@ -222,6 +225,7 @@ fresh_honest : (g : Setup) (s : State) (c : ℕ) (u : Turn) → IsFresh s u → 
 fresh_honest g s c u f = record {
   grounded = λ w here. absurd (omega (arith, (rw f.writes at here).1));
   read = λ r here. absurd (omega (arith, (rw f.reads at here).1));
+  granted = λ r here. absurd (omega (arith, (rw f.reads at here).1));
   touches = λ n here. plain_alive s c u n (f.plain n here);
 }
 
@@ -243,10 +247,19 @@ may_same g s z c u v calls listens memory notes reads (Lease k) a h = record { c
 alive_same : (s z : State) (c : ℕ) (u v : Turn) → z.calls ≡ s.calls → v.notes ≡ u.notes → (k : ℕ) → IsAlive s c u k → IsAlive z c v k
 alive_same s z c u v calls notes k h = rw (calls, notes) h
 
+abbrev lent_same : (s z : State) (c k : ℕ) (entry : LeaseEntry) → z.calls ≡ s.calls → z.memory ≡ s.memory → IsLent s c k entry → IsLent z c k entry
+lent_same s z c k entry calls memory h = record { call = h.call; taken = record { here = rw calls h.taken.here; number = h.taken.number; server_is = h.taken.server_is; phase = h.taken.phase }; lease = h.lease; there = h.there; in_memory = same_grant s z h.call h.lease memory ∙ h.in_memory }
+
+right_same : (g : Setup) (s z : State) (c : ℕ) → z.calls ≡ s.calls → z.memory ≡ s.memory → (r : Read) (p : Part) → IsRightRead g s c r p → IsRightRead g z c r p
+right_same g s z c calls memory r MessageFront h = tt
+right_same g s z c calls memory r (Entry attributes base len) h = record { lent = lent_same s z c r.call _ calls memory h.lent; base = h.base; len = h.len; may = h.may }
+right_same g s z c calls memory r Leased h = record { entry = h.entry; lent = lent_same s z c r.call h.entry calls memory h.lent; readable = h.readable; low = h.low; high = h.high; may = h.may }
+
 pub honest_same : (g : Setup) (s z : State) (c : ℕ) (u v : Turn) → z.calls ≡ s.calls → z.listens ≡ s.listens → z.memory ≡ s.memory → v.notes ≡ u.notes → v.reads ≡ u.reads → v.writes ≡ u.writes → IsHonest g s c u → IsHonest g z c v
 honest_same g s z c u v calls listens memory notes reads writes h = record {
   grounded = λ w here. may_same g s z c u v calls listens memory notes reads w.on w.address (h.grounded w (rw writes at here));
   read = λ r here. alive_same s z c u v calls notes r.call (h.read r (rw reads at here));
+  granted = λ r here. right_same g s z c calls memory r r.part (h.granted r (rw reads at here));
   touches = λ n here. by_touch (touched n) (h.touches n (rw notes at here));
 }
   where

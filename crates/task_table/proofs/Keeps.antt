@@ -2,7 +2,7 @@
 use Rattle.std.proofs.Common.{◌≡◌, ◌≢◌, ◌<◌, ◌≤◌, ◌⊎◌, inl, inr, ℕ, zero, suc, Bool, true, false, cond, not, List, [], ◌∷◌, ◌++◌, length, Some, None, refl, sym, subst, ◌∙◌, ap, arith, eqb, bit_and, IfSome}
 use Rattle.std.specs.Prelude.{Contains, filter, find, map}
 use Rattle.std.specs.List.{count_by}
-use Rattle.std.proofs.lemmas.Bool.{eq-eqb, false≢true}
+use Rattle.std.proofs.lemmas.Bool.{eq-eqb, false≢true, cases_Bool}
 use Rattle.std.proofs.lemmas.Bool.Decides.{eqb_tells}
 use Rattle.std.proofs.lemmas.List.Elements.{Contains-append_cases}
 use Rattle.kernel_abi.specs.declared.Health.TheVariants.{Well}
@@ -19,15 +19,11 @@ use Rattle.task_table.proofs.Changes.{task_at-with_task, task_at-with_task_other
 no_some : {A P : Type 0} {a : A} → None ≡ Some a → P
 no_some e = cc
 
-bool_cases : (b : Bool) → (b ≡ true) ⊎ (b ≡ false)
-bool_cases true = inl refl
-bool_cases false = inr refl
-
 pub not_found : {X : Type 0} (p : X → Bool) (xs : List X) (x : X) → find p xs ≡ None → Contains xs x → p x ≡ true → ⊥
 not_found p [] x h c t = absurd (omega (arith, c.1))
 not_found p (y ∷ ys) x h (zero, lt, e) t = let same : y ≡ x = e in let b : p y ≡ true = rw same t in no_some (sym (rw b at h))
 not_found p (y ∷ ys) x h (suc k, lt, e) t =
-    elim (bool_cases (p y)) [
+    elim (cases_Bool (p y)) [
       | inl b ↦ no_some (sym (rw b at h))
       | inr b ↦ not_found p ys x (rw b at h) (k, omega arith, e) t
     ]
@@ -43,7 +39,7 @@ same_some e = cc
 -- what is found is in the list, and passes
 pub found_in : {X : Type 0} (p : X → Bool) (xs : List X) (x : X) → find p xs ≡ Some x → Contains xs x × (p x ≡ true)
 found_in p [] x h = no_some h
-found_in p (y ∷ ys) x h = elim (bool_cases (p y)) [
+found_in p (y ∷ ys) x h = elim (cases_Bool (p y)) [
   | inl e ↦ let s : y ≡ x = same_some (rw e at h) in ((zero, omega arith, s), rw (← s) e)
   | inr e ↦ let r = found_in p ys x (rw e at h) in (contains_more y x ys r.0, r.1)
 ]

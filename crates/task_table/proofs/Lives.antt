@@ -3,7 +3,7 @@ use Rattle.std.proofs.Common.{◌≡◌, ◌≢◌, ◌+◌, ◌<◌, ◌≤◌,
 use Rattle.std.specs.Prelude.{Contains}
 use Rattle.std.specs.List.{count_by}
 use Rattle.std.proofs.lemmas.List.Sums.{sum_by-cons}
-use Rattle.std.proofs.lemmas.Bool.{false≢true}
+use Rattle.std.proofs.lemmas.Bool.{false≢true, and_parts}
 use Rattle.kernel_abi.specs.declared.Note.{Note}
 use Rattle.task_table.specs.State.{State, Call}
 use Rattle.task_table.specs.Ledger.{Saying, Offers, Takes, Closes, Nothing, saying, is_answer, says_offer, says_take, says_close, says_answer, is_offer_of, is_take_of, is_close_of, IsOpen, IsLedger}
@@ -256,14 +256,10 @@ close_where k (Closes call ending) l e h = go (is_answer ending) l (λ w. h (rw 
     go b Wrong h = absurd (h refl)
 close_where k Nothing l e h = absurd (false≢true e)
 
-both_true : (a b : Bool) → (a && b) ≡ true → (a ≡ true) × (b ≡ true)
-both_true true b h = (refl, h)
-both_true false b h = absurd (false≢true h)
-
 answer_where : (k : ℕ) (x : Saying) (l : Life) → says_answer k x ≡ true → after k x l ≢ Wrong → l ≡ Held
 answer_where k (Offers call) l e h = absurd (false≢true e)
 answer_where k (Takes call) l e h = absurd (false≢true e)
-answer_where k (Closes call ending) l e h = let two = both_true (eqb call k) (is_answer ending) e in go l (λ w. h (rw (two.0, two.1) w))
+answer_where k (Closes call ending) l e h = let two = and_parts (eqb call k) (is_answer ending) e in go l (λ w. h (rw (two.0, two.1) w))
   where
     go : (l : Life) → after_close true l ≢ Wrong → l ≡ Held
     go New h = absurd (h refl)

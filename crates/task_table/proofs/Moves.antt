@@ -14,7 +14,7 @@ use Rattle.mem_banks.specs.Memory.{IsWithinRam}
 use Rattle.task_table.specs.State.{Setup, State, Call, Listen, Slice, Offered, Taken, Ground, Read, MessageFront, Turn}
 use Rattle.task_table.specs.Reading.{task_at, call_of, listen_of}
 use Rattle.task_table.specs.Effects.{with_task, without_listen, with_listen, with_taken, changed, noted, with_processor, with_health, stored, copied, looked, given, returned, past_syscall, bits_added, bits_cleared, woken_by, woken, posted, with_timer, clocked, with_line, closed, offered, reborn, with_devices}
-use Rattle.task_table.specs.Grounds.{Lies, MayChange, IsAlive, IsReached}
+use Rattle.task_table.specs.Grounds.{Lies, MayChange, IsAlive, IsRightRead, IsReached}
 use Rattle.task_table.specs.Step.{is_plain, IsOpenAs, IsMoved, IsNew, MayChangeAll, Ends}
 
 -- ## what stands aside
@@ -196,7 +196,7 @@ pub record IsTaking (g : Setup) (s : State) (c : ℕ) (u : Turn) (on : Ground) (
 pub data Move (g : Setup) (s : State) (c : ℕ) : Turn → Turn → Type 0 where
   Aside : (u v : Turn) → IsAside u v → Move g s c u v
   Writes : (on : Ground) (at : ℕ) (bytes : List ℕ) (u : Turn) → IsWithinRam s.memory at (length bytes) → MayChangeAll g s c u on at (length bytes) → Move g s c u (stored on at bytes u)
-  Reads : (r : Read) (u : Turn) → IsAlive s c u r.call → Move g s c u (looked r u)
+  Reads : (r : Read) (u : Turn) → IsAlive s c u r.call × IsRightRead g s c r r.part → Move g s c u (looked r u)
   Alters : (devices : List DeviceData) (u : Turn) → IsReached g c u.state.devices devices → Move g s c u (with_devices devices u)
   Lends : (k : ℕ) (borrow : Borrow) (lease offset moved : ℕ) (u : Turn) → IsAlive s c u k → IsOpenAs u.state k Taken → IsMoved borrow offset moved → Move g s c u (noted (note.Borrow k borrow lease offset moved) u)
   Offers : (k : Call) (u : Turn) → IsNew s c u k → Move g s c u (offered k u)

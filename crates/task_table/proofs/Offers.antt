@@ -49,7 +49,7 @@ range_has a (suc n) k from below = elim (eqb_tells a k) [
   | inr other ↦ let ne : a ≢ k = other.1 in let r = range_has (a + 1) n k (omega arith) (omega arith) in (suc r.0, omega (arith, r.1), r.2)
 ]
 
-range_below : (a n k : ℕ) → Contains (range_with_len a n) k → k < a + n
+pub range_below : (a n k : ℕ) → Contains (range_with_len a n) k → k < a + n
 range_below a zero k h = absurd (omega (arith, h.1))
 range_below a (suc n) k (zero, lt, same) = let e : a ≡ k = same in omega arith
 range_below a (suc n) k (suc i, lt, same) = let r = range_below (a + 1) n k (i, omega arith, same) in omega arith

@@ -4,13 +4,10 @@ use Rattle.std.specs.Prelude.{find, filter, map}
 use Rattle.std.specs.List.{count_by}
 use Rattle.std.proofs.lemmas.Bool.Decides.{eqb_tells}
 use Rattle.std.proofs.lemmas.List.Sums.{sum_by-cons, sum_by-append}
+use Rattle.words_core.proofs.Signs.{bit-le}
 
 abbrev bit : Bool → ℕ
 bit b = cond b 1 0
-
-bit_few : (b : Bool) → bit b ≤ 1
-bit_few true = omega arith
-bit_few false = omega arith
 
 counted : {X : Type 0} (p : X → Bool) (x : X) (xs : List X) → count_by p (x ∷ xs) ≡ bit (p x) + count_by p xs
 counted p x xs = sum_by-cons (λ y. cond (p y) 1 0) x xs
@@ -50,7 +47,7 @@ once_more key xs x once none i =
     elim (eqb_tells (key x) i) [
       | inl same ↦
           let nobody : count_by (λ y. eqb (key y) i) xs ≡ 0 = rw same.1 at (none_of (λ y. eqb (key y) (key x)) xs none) in
-          let few = bit_few (eqb (key x) i) in
+          let few = bit-le (eqb (key x) i) in
           omega (arith, more, nobody, few)
       | inr other ↦
           let here : bit (eqb (key x) i) ≡ 0 = ap bit other.0 in

@@ -59,7 +59,7 @@ abbrev EachOrder : (Order → Type 0) → List Order → Type 0
 EachOrder P [] = Unit {0}
 EachOrder P (o ∷ list) = P o × EachOrder P list
 
-each_found : (P : Order → Type 0) (list : List Order) (number : ℕ) → EachOrder P list → IfSome (find (λ (o : Order). eqb o.number number) list) P
+pub each_found : (P : Order → Type 0) (list : List Order) (number : ℕ) → EachOrder P list → IfSome (find (λ (o : Order). eqb o.number number) list) P
 each_found P [] number each = tt
 each_found P (o ∷ list) number each = by_number (eqb o.number number) each.0 (each_found P list number each.1)
   where

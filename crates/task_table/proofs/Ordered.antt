@@ -92,9 +92,6 @@ keys_fit ps keys few same = (length_permutation (keyed 0 ps) keys same ∙ keyed
 
 -- ## places
 
-pub placed_none : (keys places : List ℕ) → HavePlaces keys 0 places
-placed_none keys places p lt = absurd (omega (arith, lt))
-
 pub placed_more : (keys places : List ℕ) (n : ℕ) → n < length keys → AreOnce keys → key_in keys n % 1024 < length places → HavePlaces keys n places → HavePlaces keys (n + 1) (set places (key_in keys n % 1024) n)
 placed_more keys places n below once inside h p lt = elim (cases_lt p n) [
   | inl earlier ↦ get_or-set_other places (key_in keys n % 1024) (key_in keys p % 1024) n 0 (λ same. differ keys once p n earlier below same) ∙ h p earlier
@@ -105,15 +102,12 @@ placed_more keys places n below once inside h p lt = elim (cases_lt p n) [
 
 -- ## the order
 
-number_order : IsTotalOrder nat_cmp
-number_order = nat_cmp_total
-
 not_less : (x y : ℕ) → is_lt (nat_cmp y x) ≡ false → x ≤ y
 not_less x y h = grind (arith, nat_tests)
 
 rising_in : (ps keys : List ℕ) → AreOnce keys → IsSorted nat_cmp keys → (p q : ℕ) → p < q → q < length keys → key_in keys p < key_in keys q
 rising_in ps keys once up p q lt below =
-    let low = not_less (key_in keys p) (key_in keys q) (sorted_far _ (ranks_by number_order (λ (o : ℕ). o)) keys up p q 0 (omega (arith, lt)) below) in
+    let low = not_less (key_in keys p) (key_in keys q) (sorted_far _ (ranks_by nat_cmp_total (λ (o : ℕ). o)) keys up p q 0 (omega (arith, lt)) below) in
     elim (cases_lt (key_in keys p) (key_in keys q)) [
       | inl less ↦ less
       | inr ge ↦ absurd (differ keys once p q lt below (let same : key_in keys p ≡ key_in keys q = omega (arith, low, ge) in ap (λ (k : ℕ). k % 1024) same))

@@ -103,9 +103,6 @@ module _ {M F T : ℕ → Type 0} {W : ℕ → ℕ → Type 0} {g : Setup} where
 pub keeps-goes_on : {M F T : ℕ → Type 0} {W : ℕ → ℕ → Type 0} {g : Setup} (c : ℕ) (t : Turn) → IsSaneBut M F T W g t.state → c < length t.state.tasks → IsSaneBut M F T W g (returned c (past_syscall c t)).state
 keeps-goes_on c t h inside = keeps-returned c (past_syscall c t) (keeps-past_syscall c t h inside)
 
-pub keeps-goes_on_with : {M F T : ℕ → Type 0} {W : ℕ → ℕ → Type 0} {g : Setup} (c : ℕ) (values : List ℕ) (t : Turn) → IsSaneBut M F T W g t.state → c < length t.state.tasks → length values ≤ 6 → IsSaneBut M F T W g (returned c (past_syscall c (given c values t))).state
-keeps-goes_on_with c values t h inside six = let h1 = keeps-given c values t h inside six in keeps-goes_on c (given c values t) h1 (still h h1 inside)
-
 -- ## bits are posted
 
 but : ℕ → ℕ → Type 0

@@ -1,25 +1,17 @@
 -- Bytes that a task may use lie in memory.
 use Rattle.std.proofs.Common.{◌≡◌, ◌+◌, ◌<◌, ◌≤◌, ◌⊎◌, inl, inr, ℕ, zero, suc, Bool, true, false, not, ◌&&◌, length, None, refl, arith, leb, ltb}
-use Rattle.std.proofs.lemmas.Bool.{leb-true, ltb-true, false≢true}
+use Rattle.std.proofs.lemmas.Bool.{leb-true, ltb-true, false≢true, and_parts, not-true}
 use Rattle.std.proofs.lemmas.List.Folds.{Any-from_list_any}
 use Rattle.region_check.specs.declared.Region.{Region}
 use Rattle.region_check.specs.declared.Right.{Right}
-use Rattle.region_check.specs.declared.Right.TheVariants.{Write}
+use Rattle.region_check.specs.declared.Right.TheVariants.{Read, Write}
 use Rattle.region_check.specs.Rights.{may_copy, gives_copy, is_inside, has_right}
 use Rattle.region_check.proofs.FirstBad.{first_bad_none}
 use Rattle.mem_banks.specs.Memory.{Memory, IsWithin, IsWithinRam}
 use Rattle.task_table.specs.State.{Setup, Slice}
 use Rattle.task_table.specs.Reading.{setup_at, bad_byte}
 use Rattle.task_table.specs.Placed.{ArePlaced}
-use Rattle.task_table.specs.Grounds.{Lies, MayWrite}
-
-both_true : (a b : Bool) → (a && b) ≡ true → (a ≡ true) × (b ≡ true)
-both_true true b h = (refl, h)
-both_true false b h = absurd (false≢true h)
-
-not_true : (b : Bool) → not b ≡ true → b ≡ false
-not_true true h = absurd (false≢true h)
-not_true false h = refl
+use Rattle.task_table.specs.Grounds.{Lies, MayRead, MayWrite}
 
 -- what a region gives a copy
 record Gives (right : Right) (a : ℕ) (r : Region) : Type 0 where
@@ -30,10 +22,10 @@ record Gives (right : Right) (a : ℕ) (r : Region) : Type 0 where
 
 gives_is : (right : Right) (a : ℕ) (r : Region) → gives_copy right a r ≡ true → Gives right a r
 gives_is right a r h =
-    let all = both_true (is_inside r a && has_right r.rights right) (not r.rights.device) h in
-    let two = both_true (is_inside r a) (has_right r.rights right) all.0 in
-    let inside = both_true (leb r.base a) (ltb a (r.base + r.size)) two.0 in
-    record { from = leb-true _ _ inside.0; below = ltb-true _ _ inside.1; has = two.1; no_device = not_true _ all.1 }
+    let all = and_parts (is_inside r a && has_right r.rights right) (not r.rights.device) h in
+    let two = and_parts (is_inside r a) (has_right r.rights right) all.0 in
+    let inside = and_parts (leb r.base a) (ltb a (r.base + r.size)) two.0 in
+    record { from = leb-true _ _ inside.0; below = ltb-true _ _ inside.1; has = two.1; no_device = not-true _ all.1 }
 
 ram_byte : (m : Memory) (base size a : ℕ) → IsWithinRam m base size → base ≤ a → a < base + size → IsWithinRam m a 1
 ram_byte m base size a w from below = elim w [ inl none ↦ absurd (omega arith) | inr x ↦ inr (omega arith, omega arith) ]
@@ -57,7 +49,7 @@ within_ram-given g m i a placed h =
     let gives = gives_is Write a r found.4 in
     ram_byte m r.base r.size a (placed.writable i r (found.0, found.2, found.3) gives.no_device gives.has) gives.from gives.below
 
-one_in_ram : (m : Memory) (a : ℕ) → IsWithinRam m a 1 → (0x20000000 ≤ a) × (a < 0x20000000 + length m.ram)
+pub one_in_ram : (m : Memory) (a : ℕ) → IsWithinRam m a 1 → (0x20000000 ≤ a) × (a < 0x20000000 + length m.ram)
 one_in_ram m a w = elim w [ inl none ↦ absurd (omega arith) | inr x ↦ (x.0, omega arith) ]
 
 one_in : (m : Memory) (a : ℕ) → IsWithin m a 1 → ((0x20000000 ≤ a) × (a < 0x20000000 + length m.ram)) ⊎ ((0x08000000 ≤ a) × (a < 0x08000000 + length m.flash))
@@ -100,3 +92,8 @@ within_ram-front m a n k h le = elim h [ inl none ↦ inl (omega arith) | inr x 
 pub may-write : (g : Setup) (i : ℕ) (r : Slice) (a : ℕ) → bad_byte g i Write r ≡ None → Lies r a → MayWrite g i a
 unfolding bad_byte
 may-write g i r a good lies = first_bad_none (setup_at g i).regions Write r.base r.len a good lies.0 lies.1
+
+-- and each byte of one without a bad byte for reading may be read
+pub may-read : (g : Setup) (i : ℕ) (r : Slice) (a : ℕ) → bad_byte g i Read r ≡ None → Lies r a → MayRead g i a
+unfolding bad_byte
+may-read g i r a good lies = first_bad_none (setup_at g i).regions Read r.base r.len a good lies.0 lies.1

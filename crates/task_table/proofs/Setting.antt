@@ -62,6 +62,7 @@ same_but-with_open_call s c i same = record {
   next_call = refl;
   lines = refl;
   turn = refl;
+  devices = refl;
 }
 
 task_open : (s : State) (c : Call) (i : ℕ) → task_at (with_open_call c s) i ≡ task_at s i

@@ -3,7 +3,7 @@ use Rattle.std.proofs.Common.{◌≡◌, ◌≢◌, ◌<◌, ◌≤◌, ◌+◌,
 use Rattle.std.specs.Option.{option_map}
 use Rattle.std.proofs.lemmas.Bool.Decides.{eqb_tells}
 use Rattle.std.proofs.lemmas.Bool.{false≢true}
-use Rattle.std.proofs.lemmas.List.{nil_from_length}
+use Rattle.std.proofs.lemmas.List.{nil_from_length, set_past}
 use Rattle.kernel_abi.specs.declared.Note.{Note}
 use Rattle.mem_banks.specs.Memory.{Memory, with_bytes, IsWithinRam}
 use Rattle.mem_banks.proofs.Copies.{with_bytes_none, with_bytes_ram, length-pasted}
@@ -266,15 +266,10 @@ holds_line g k t n line setup h e = record {
   lines = ap (λ xs. set xs n line) h.lines;
 }
 
-set_away : {X : Type 0} (xs : List X) (n : ℕ) (x : X) → length xs ≤ n → set xs n x ≡ xs
-set_away [] n x h = refl
-set_away (y ∷ ys) zero x h = absurd (omega arith)
-set_away (y ∷ ys) (suc n) x h = ap (λ zs. y ∷ zs) (set_away ys n x (omega arith))
-
 -- a line that is not there stays away
 pub line_away : (t : Turn) (n : ℕ) (line : Line) → length t.state.lines ≤ n → with_line n line t ≡ t
 unfolding with_line
-line_away t n line h = ap (λ xs. record t { state = record t.state { lines = xs } }) (set_away t.state.lines n line h)
+line_away t n line h = ap (λ xs. record t { state = record t.state { lines = xs } }) (set_past t.state.lines n line h)
 
 -- the turn's number is kept by the board
 pub holds_turn : (g : Setup) (k : Kept) (t : Turn) (n : ℕ) → Shows g k t → Shows g k record t { state = record t.state { turn = n } }

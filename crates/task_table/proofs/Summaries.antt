@@ -44,9 +44,6 @@ told_none words s w h none = elim (eqb_tells (get_or words w 0) 0) [
 pub told_some : (words : List ℕ) (s w : ℕ) → IsSummary words s → has (one s) w ≡ true → get_or words w 0 ≢ 0
 told_some words s w h some e = absurd (false≢true (sym (h w ∙ ap (λ (n : ℕ). not (eqb n 0)) e) ∙ some))
 
-tells_none : (words : List ℕ) (s w : ℕ) → IsSummary words s → get_or words w 0 ≡ 0 → has (one s) w ≡ false
-tells_none words s w h none = h w ∙ ap (λ (n : ℕ). not (eqb n 0)) none
-
 not_zero : (n : ℕ) → 0 < n → not (eqb n 0) ≡ true
 not_zero n some = elim (eqb_tells n 0) [ inl same ↦ absurd (omega (arith, some, same.1)) | inr other ↦ ap not other.0 ]
 
@@ -104,17 +101,6 @@ summary_removed words s place left there low none h w =
         rw (first, same) at (has_removed (one s) wd w (omega (arith, first)))
 
 -- ## whether there is a member
-
-pub empty_summary : (words : List ℕ) (s : ℕ) → s ≡ 0 → IsSummary words s → (i : ℕ) → has words i ≡ false
-empty_summary words s none h i = no_word words (i / 32) i (told_none words s (i / 32) h (ap (λ (n : ℕ). has (one n) (i / 32)) none ∙ has_none 1 (i / 32))) refl
-
-pub some_summary : (words : List ℕ) (s : ℕ) → 0 < s → s < 2 ^ 32 → ((w : ℕ) → get_or words w 0 < 2 ^ 32) → IsSummary words s → (i : ℕ) × (has words i ≡ true)
-some_summary words s some small low h =
-    let z = word_bit s some small in
-    let w = z.0 in
-    let there : has (one s) w ≡ true = has_bit s w z.1 ∙ ap (λ (n : ℕ). eqb n 1) z.2 in
-    let y = word_bit (get_or words w 0) (above_zero _ (told_some words s w h there)) (low w) in
-    (w * 32 + y.0, has_in words w y.0 y.1 ∙ ap (λ (n : ℕ). eqb n 1) y.2)
 
 -- ## the least bit from one on
 

@@ -16,6 +16,7 @@ use Rattle.task_table.specs.Sane.{Sane, IsSaneBut, Every, Both, IsOwned}
 use Rattle.task_table.proofs.Changes.{task_at-with_task}
 use Rattle.task_table.proofs.Keeps.{found_in, keeps-lines, keeps-now}
 use Rattle.task_table.proofs.Posting.{still, keeps-noted, keeps-timer, sane-posted}
+use Rattle.task_table.proofs.Offering.{fold_keeps}
 
 -- ## a tick
 
@@ -55,13 +56,6 @@ sane-expired {g} k t inside h = by_timer (task_at t.state k).timer refl
             let h2 = one_more k h1 (none_ahead _ _ (timer_gone k t inside)) in
             sane-posted k x.bits (with_timer k None t) h2 (still h h2 inside)
         by_due false later = one_more k h (rw e (leb-false _ _ later))
-
--- what holds at every step holds of a fold
-fold_keeps : {B : Type 0} (P : ℕ → B → Type 0) (f : B → ℕ → B) (a n : ℕ) (b : B) → P a b → ((k : ℕ) (x : B) → a ≤ k → k < a + n → P k x → P (k + 1) (f x k)) → P (a + n) (fold f b (range_with_len a n))
-fold_keeps P f a zero b h step = let e : a ≡ a + 0 = omega arith in rw (← e) h
-fold_keeps P f a (suc n) b h step =
-    let e : a + 1 + n ≡ a + suc n = omega arith in
-    rw e at (fold_keeps P f (a + 1) n (f b a) (step a b (omega arith) (omega arith) h) (λ k x from below. step k x (omega arith) (omega arith)))
 
 clock_started : {g : Setup} (t : Turn) → Sane g t.state → IsSaneBut Every Every (Upto 0) Both g (clocked t).state
 unfolding clocked noted Upto

@@ -8,7 +8,7 @@ use Rattle.task_table.specs.State.{Call, Listen, State}
 use Rattle.task_table.specs.Reading.{task_at, call_of, listen_of, IsSameBut}
 use Rattle.task_table.specs.Effects.{with_listen, with_taken, taken_from}
 
-no_some : {A P : Type 0} {a : A} → Some a ≡ None → P
+pub no_some : {A P : Type 0} {a : A} → Some a ≡ None → P
 no_some e = cc
 
 -- ## a listen added
@@ -54,6 +54,7 @@ same_but-with_listen s l = record {
   next_call = refl;
   lines = refl;
   turn = refl;
+  devices = refl;
 }
 
 -- ## a call taken
@@ -106,4 +107,5 @@ same_but-with_taken s i = record {
   next_call = refl;
   lines = refl;
   turn = refl;
+  devices = refl;
 }

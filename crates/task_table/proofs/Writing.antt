@@ -1,6 +1,6 @@
 -- The writes of a turn take the old memory to the new one.
 use Rattle.std.proofs.Common.{◌≡◌, ◌+◌, ◌-◌, ◌<◌, ◌≤◌, inl, inr, ℕ, zero, suc, List, [], ◌∷◌, ◌++◌, length, take, drop, min, refl, sym, ◌∙◌, ap, arith}
-use Rattle.mem_banks.proofs.Copies.{with_bytes_ram, with_bytes_none}
+use Rattle.mem_banks.proofs.Copies.{with_bytes_ram, with_bytes_none, nothing_dropped}
 use Rattle.mem_banks.specs.Memory.{Memory, bytes_at, with_bytes, copied as copied_memory, IsWithinRam}
 use Rattle.task_table.specs.State.{Setup, State, Ground, Write as Written, Turn}
 use Rattle.task_table.specs.Effects.{with_call, with_taken, without_call, noted, stored, copied, looked, writes_on, closed, offered, with_devices}
@@ -22,10 +22,6 @@ unfoldable pub over : List ℕ → ℕ → List ℕ → List ℕ
 over xs zero bytes = bytes ++ drop (length bytes) xs
 over [] (suc i) bytes = bytes
 over (x ∷ xs) (suc i) bytes = x ∷ over xs i bytes
-
-dropped_none : (n : ℕ) → drop {A = ℕ} n [] ≡ []
-dropped_none zero = refl
-dropped_none (suc n) = refl
 
 over_is : (xs : List ℕ) (i : ℕ) (bytes : List ℕ) → i ≤ length xs → take i xs ++ bytes ++ drop (i + length bytes) xs ≡ over xs i bytes
 unfolding over
@@ -51,7 +47,7 @@ over_none xs zero h = refl
 over_none [] (suc i) h = absurd (omega arith)
 over_none (x ∷ xs) (suc i) h = ap (λ ys. x ∷ ys) (over_none xs i (omega arith))
 
-with_over : (m : Memory) (i at : ℕ) (bytes : List ℕ) → at ≡ 0x20000000 + i → i ≤ length m.ram → with_bytes m at bytes ≡ record m { ram = over m.ram i bytes }
+pub with_over : (m : Memory) (i at : ℕ) (bytes : List ℕ) → at ≡ 0x20000000 + i → i ≤ length m.ram → with_bytes m at bytes ≡ record m { ram = over m.ram i bytes }
 with_over m i at bytes e h =
     let place : at - 0x20000000 ≡ i = omega arith in
     with_bytes_ram m at bytes (omega arith) ∙ rw place (ap (λ r. record m { ram = r }) (over_is m.ram i bytes h))

@@ -1,6 +1,7 @@
 -- On whose ground a task's turn writes, and which calls it touches.
 -- (s: the state after the events of the turn; c: the chosen task; u: what the turn has come to)
 use Rattle.std.specs.Prelude.{ℕ, ◌+◌, ◌*◌, ◌<◌, ◌≤◌, ◌≡◌, ◌≢◌, ◌⊎◌, true, Option, None, Some, IfSome, Contains, bit_and, List, [], ◌∷◌, fold}
+use Rattle.kernel_abi.specs.declared.LeaseEntry.{LeaseEntry}
 use Rattle.kernel_abi.specs.declared.Note.{Note}
 use Rattle.kernel_abi.specs.declared.Note.TheVariants as note
 use Rattle.kernel_abi.specs.Devices.{DeviceData, devices_loaded, devices_stored}
@@ -8,7 +9,7 @@ use Rattle.region_check.specs.declared.Right.{Right}
 use Rattle.region_check.specs.declared.Right.TheVariants.{Read, Write}
 use Rattle.region_check.specs.Rights.{may_copy, may_use}
 use Rattle.mem_banks.specs.Memory.{Memory, with_bytes}
-use Rattle.task_table.specs.State.{Setup, State, Call, Listen, Slice, Taken, Ground, Own, Message, Reply, Lease, Write as Written, Read as ReadPart, Entry, Turn}
+use Rattle.task_table.specs.State.{Setup, State, Call, Listen, Slice, Taken, Ground, Own, Message, Reply, Lease, Write as Written, Read as ReadPart, Part, MessageFront, Entry, Leased, Turn}
 use Rattle.task_table.specs.Reading.{setup_at}
 use Rattle.task_table.specs.Borrows.{grant}
 
@@ -88,6 +89,46 @@ AreGrounded g s c u = (w : Written) → Contains u.writes w → MayChange g s c 
 -- the memory once all this is written, in order
 abbrev pub with_writes : Memory → List Written → Memory
 with_writes m writes = fold (λ v w. with_bytes v w.address (w.byte ∷ [])) m writes
+
+-- ## what a turn may read of a lease
+
+-- a task may read the byte, in a region that is no device
+abbrev pub MayRead : Setup → ℕ → ℕ → Type 0
+MayRead g i a = may_copy (setup_at g i).regions Read a ≡ true
+
+-- call k is open, c has taken it, and it has this lease; its entry in memory is this one
+pub record IsLent (s : State) (c k : ℕ) (entry : LeaseEntry) : Type 0 where
+  pub call : Call
+  pub taken : IsTakenBy s c k call
+  pub lease : ℕ
+  pub there : lease < call.leases
+  pub in_memory : grant s call lease ≡ entry
+
+-- an entry is read at its place in the lease table, as memory has it after the events, and the client may read its bytes
+pub record IsEntryRead (g : Setup) (s : State) (c : ℕ) (r : ReadPart) (entry : LeaseEntry) : Type 0 where
+  pub lent : IsLent s c r.call entry
+  pub base : r.base ≡ lent.call.table + 12 * lent.lease
+  pub len : r.len ≡ 12
+  pub may : (a : ℕ) → r.base ≤ a → a < r.base + r.len → MayRead g lent.call.client.index a
+
+-- bytes are read in the range of a lease whose entry has bit 0 set, and the client may read them
+pub record IsLeaseRead (g : Setup) (s : State) (c : ℕ) (r : ReadPart) : Type 0 where
+  pub entry : LeaseEntry
+  pub lent : IsLent s c r.call entry
+  pub readable : bit_and entry.attributes 1 ≢ 0
+  pub low : entry.base ≤ r.base
+  pub high : r.base + r.len ≤ entry.base + entry.len
+  pub may : (a : ℕ) → r.base ≤ a → a < r.base + r.len → MayRead g lent.call.client.index a
+
+-- by its part; of the front of a message nothing more is said than that its call is alive
+abbrev pub IsRightRead : Setup → State → ℕ → ReadPart → Part → Type 0
+IsRightRead g s c r MessageFront = Unit {0}
+IsRightRead g s c r (Entry attributes base length) = IsEntryRead g s c r record { attributes = attributes; base = base; len = length }
+IsRightRead g s c r Leased = IsLeaseRead g s c r
+
+-- every read of an entry or of a lease is as memory grants it
+abbrev pub AreGranted : Setup → State → ℕ → Turn → Type 0
+AreGranted g s c u = (r : ReadPart) → Contains u.reads r → IsRightRead g s c r r.part
 
 -- ## which calls it touches
 

@@ -167,6 +167,7 @@ pub record IsSameBut (i : ℕ) (s u : State) : Type 0 where
   pub next_call : u.next_call ≡ s.next_call
   pub lines : u.lines ≡ s.lines
   pub turn : u.turn ≡ s.turn
+  pub devices : u.devices ≡ s.devices
 
 -- task i waits for nothing
 pub record IsIdle (s : State) (i : ℕ) : Type 0 where

@@ -24,7 +24,7 @@ use Rattle.task_table.specs.Rows.{listened_from, goes_on_with}
 use Rattle.task_table.specs.Sends.{offers_call}
 use Rattle.task_table.specs.Sane.{IsFitCall, IsFitListen, IsOwned}
 use Rattle.task_table.specs.Counts.{AreWhole}
-use Rattle.task_table.specs.Grounds.{IsReached, MayChange, IsAlive}
+use Rattle.task_table.specs.Grounds.{IsReached, MayChange, IsAlive, IsRightRead}
 use Rattle.task_table.specs.Chain.{Chain}
 
 -- a note that offers, takes, closes and borrows from no call; a byte comes from one of the devices that there may be
@@ -133,7 +133,7 @@ pub data Step (g : Setup) (s : State) (c : ℕ) : Turn → Turn → Type 0 where
   Stores : (on : Ground) (at : ℕ) (bytes : List ℕ) (u : Turn) → AreAllBytes bytes → IsWithinRam u.state.memory at (length bytes) → IsWithinRam s.memory at (length bytes) → MayChangeAll g s c u on at (length bytes) → Step g s c u (stored on at bytes u)
   Copies : (on : Ground) (from at n i : ℕ) (r : Slice) (u : Turn) → IsTarget g i r at n → MayChangeAll g s c u on at n → Step g s c u (copied on from at n u)
   Reaches : (devices : List DeviceData) (u : Turn) → IsReached g c u.state.devices devices → Step g s c u (with_devices devices u)
-  Looks : (r : Read) (u : Turn) → IsAlive s c u r.call → Step g s c u (looked r u)
+  Looks : (r : Read) (u : Turn) → IsAlive s c u r.call × IsRightRead g s c r r.part → Step g s c u (looked r u)
   Borrows : (k : ℕ) (way : Borrow) (lease offset moved : ℕ) (u : Turn) → IsAlive s c u k → IsOpenAs u.state k Taken → IsMoved way offset moved → Step g s c u (noted (note.Borrow k way lease offset moved) u)
   Ceases : (i : ℕ) (ending : Ending) (u : Turn) → Ends ending (call_of u.state i) → Step g s c u (closed i ending u)
   Halts : (fault : Fault) (u : Turn) → c < length g.tasks → 1 ≤ fault.number → fault.number ≤ 10 → Step g s c u (faulted g c fault u)

@@ -24,7 +24,7 @@ ghost use Rattle.task_table.specs.Sane.{Sane, IsCounted};
 ghost use Rattle.task_table.specs.Counts.{AreWhole, IsSameTime, AreCounts, IsNoted, AreNoted, IsAsReady};
 ghost use Rattle.task_table.specs.Chain.{Chain};
 ghost use Rattle.task_table.specs.Step.{Step, Outcome};
-ghost use Rattle.task_table.specs.Grounds.{AreGrounded, AreAlive, AreReached, with_writes};
+ghost use Rattle.task_table.specs.Grounds.{AreGrounded, AreGranted, AreAlive, AreReached, with_writes};
 ghost use Rattle.task_table.specs.Ledger.{IsLedger};
 ghost use Rattle.task_table.specs.Lives.{IsAsNoted, IsFresh, IsClosed, IsSilent};
 ghost use Rattle.task_table.specs.Parts.{IsSound};
@@ -100,10 +100,11 @@ pub fn chains_keep_what_steps_keep()
 {}
 
 /// Where nothing has happened in a turn yet, and a chain of steps follows: each byte is written on a ground where the chosen
-/// task may, no call is touched but those that were open or that the task offers, and the writes in order take the old
+/// task may, what is read of a lease and of its entry is as memory grants it, no call is touched but those that were open or that the task offers, and the writes in order take the old
 /// memory to the new one. A call that is closed stays so, and nothing is written on its ground.
 pub fn chains_stand_on_their_grounds()
     ensures grounded { (g : Setup) (s : State) (c : ℕ) (u v : Turn) → ArePlaced g s.memory → Chain (Step g s c) u v → IsFresh s u → AreGrounded g s c v }
+    ensures granted { (g : Setup) (s : State) (c : ℕ) (u v : Turn) → ArePlaced g s.memory → Chain (Step g s c) u v → IsFresh s u → AreGranted g s c v }
     ensures alive { (g : Setup) (s : State) (c : ℕ) (u v : Turn) → ArePlaced g s.memory → Chain (Step g s c) u v → IsFresh s u → AreAlive s c v }
     ensures written { (g : Setup) (s : State) (c : ℕ) (u v : Turn) → ArePlaced g s.memory → Chain (Step g s c) u v → IsFresh s u → v.state.memory ≡ with_writes s.memory v.writes }
     ensures closed { (g : Setup) (s : State) (c k : ℕ) (u v : Turn) → ArePlaced g s.memory → Chain (Step g s c) u v → IsFresh s u → IsClosed s k → IsClosed v.state k }

@@ -1,5 +1,6 @@
 -- Numbers, digit by digit.
 use Rattle.std.proofs.Common.{◌≡◌, ℕ, suc, zero, ◌+◌, ◌*◌, ◌^◌, ◌<◌, ◌≤◌, List, [], ◌∷◌, length, get_or, drop, refl, ap, ◌∙◌, sym, arith, add_assoc, Bool, true, false, nat_le, nat_lt, ◌&&◌, Option, Some, None, if◌then◌else◌, zero-add, add-zero, add-one}
+use Rattle.std.proofs.lemmas.Bool.{le-leb, lt-leb, and_right}
 use Rattle.std.proofs.Math.Seq.{drop-cons}
 use Rattle.text_lines.proofs.Ends.{drop_over}
 use Rattle.std.proofs.Math.Nat.{pow-succ', mul_assoc, add-mul, zero-mul, mul-one, le-mul_of_pos_right, pow-zero, one-le-mul}
@@ -13,14 +14,8 @@ fitted b n max = if b && nat_le n max then Some n else None
 abbrev pub so_far : (ℕ → Bool) → ℕ → ℕ → List ℕ → ℕ → Option ℕ
 so_far p base value rest max = fitted (list_all p rest) (value * base ^ length rest + value_in base rest) max
 
-positive : (n : ℕ) → nat_lt 0 (suc n) ≡ true
+pub positive : (n : ℕ) → nat_lt 0 (suc n) ≡ true
 positive n = grind arith
-
-below : (n max : ℕ) → n ≤ max → nat_le n max ≡ true
-below n max h = grind arith
-
-above : (n max : ℕ) → max < n → nat_le n max ≡ false
-above n max h = grind arith
 
 pub start : (p : ℕ → Bool) (base : ℕ) (s : List ℕ) (max : ℕ) → 0 < length s → number_in p base s max ≡ so_far p base 0 s max
 start p base [] max h = absurd (omega arith)
@@ -47,21 +42,17 @@ power_positive : (base n : ℕ) → 0 < base → 0 < base ^ n
 power_positive base zero h = rw (pow-zero base) (omega arith)
 power_positive base (suc n) h = rw (pow-succ' base n) (one-le-mul h (power_positive base n h))
 
-and_false : (b c : Bool) → c ≡ false → (b && c) ≡ false
-and_false true c h = h
-and_false false c h = refl
-
 pub too_large : (p : ℕ → Bool) (base v : ℕ) (cs : List ℕ) (max : ℕ) → 0 < base → max < v → so_far p base v cs max ≡ None
 too_large p base v cs max b h =
     let q : 0 < base ^ length cs = power_positive base (length cs) b in
     let e : v ≤ v * base ^ length cs = le-mul_of_pos_right v q in
-    rw (and_false (list_all p cs) _ (above (v * base ^ length cs + value_in base cs) max (omega arith))) refl
+    rw (and_right (list_all p cs) _ (lt-leb (v * base ^ length cs + value_in base cs) max (omega arith))) refl
 
 pub at_end : (p : ℕ → Bool) (base v max : ℕ) → v ≤ max → so_far p base v [] max ≡ Some v
 unfolding value_in
-at_end p base v max h = ap (λ n. fitted true n max) (ap (λ z. v * z + 0) (pow-zero base) ∙ ap (λ z. z + 0) (mul-one v) ∙ add-zero v) ∙ rw (below v max h) refl
+at_end p base v max h = ap (λ n. fitted true n max) (ap (λ z. v * z + 0) (pow-zero base) ∙ ap (λ z. z + 0) (mul-one v) ∙ add-zero v) ∙ rw (le-leb v max h) refl
 
-cell : (s : List ℕ) (i : ℕ) → i < length s → drop i s ≡ get_or s i 0 ∷ drop (i + 1) s
+pub cell : (s : List ℕ) (i : ℕ) → i < length s → drop i s ≡ get_or s i 0 ∷ drop (i + 1) s
 cell s i lt = drop-cons s i 0 lt ∙ ap (λ n. get_or s i 0 ∷ drop n s) (sym (add-one i))
 
 pub stops : (p : ℕ → Bool) (base v max i : ℕ) (s : List ℕ) → i < length s → p (get_or s i 0) ≡ false → so_far p base v (drop i s) max ≡ None

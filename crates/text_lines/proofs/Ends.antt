@@ -1,17 +1,11 @@
 -- Where lines end.
 use Rattle.std.proofs.Common.{◌≡◌, ℕ, suc, zero, ◌+◌, ◌-◌, ◌<◌, ◌≤◌, List, [], ◌∷◌, ◌++◌, length, get_or, inl, inr, subst, ◌⊎◌, take, drop, refl, ap, ◌∙◌, sym, arith, Bool, true, false, nat_eq, ◌&&◌}
+use Rattle.std.proofs.lemmas.Bool.{ne_eqb, and_right}
 use Rattle.std.proofs.Common.{add-one}
 use Rattle.std.proofs.Math.Seq.{drop-cons}
 use Rattle.std.proofs.lemmas.List.{take-append-drop, get_or-take, length-take-le, length-drop}
 use Rattle.std.proofs.Math.Seq.{take-length}
 use Rattle.text_lines.specs.Text.{lines_of, without_cr, with_first, starts_with, HasNoLf}
-
-eq_false : (c d : ℕ) → (c ≡ d → ⊥) → nat_eq c d ≡ false
-eq_false c d h = grind arith
-
-and_false : (b c : Bool) → c ≡ false → (b && c) ≡ false
-and_false true c h = h
-and_false false c h = refl
 
 pub step_lf : (cs : List ℕ) → lines_of (10 ∷ cs) ≡ [] ∷ lines_of cs
 unfolding lines_of
@@ -39,7 +33,7 @@ lines_nil = refl
 
 without_cr_one : (c : ℕ) → (c ≡ 13 → ⊥) → without_cr (c ∷ []) ≡ c ∷ []
 unfolding without_cr
-without_cr_one c h = rw (eq_false c 13 h) refl
+without_cr_one c h = rw (ne_eqb c 13 h) refl
 
 without_cr_more : (c d : ℕ) (ds : List ℕ) → without_cr (c ∷ d ∷ ds) ≡ c ∷ without_cr (d ∷ ds)
 unfolding without_cr
@@ -48,22 +42,22 @@ without_cr_more c d ds = refl
 one_cases : (c : ℕ) (ys : List ℕ) → (c ≡ 10 → ⊥) → (c ≡ 13) ⊎ (c ≡ 13 → ⊥) → lines_of (c ∷ 10 ∷ ys) ≡ without_cr (c ∷ []) ∷ lines_of ys
 unfolding without_cr
 one_cases c ys h (inl e) = subst (λ x. lines_of (x ∷ 10 ∷ ys) ≡ without_cr (x ∷ []) ∷ lines_of ys) (sym e) (step_cr ys ∙ step_lf ys)
-one_cases c ys h (inr e) = rw (without_cr_one c e) (step_other c (10 ∷ ys) (eq_false c 10 h) (rw (eq_false c 13 e) refl) ∙ ap (with_first c) (step_lf ys))
+one_cases c ys h (inr e) = rw (without_cr_one c e) (step_other c (10 ∷ ys) (ne_eqb c 10 h) (rw (ne_eqb c 13 e) refl) ∙ ap (with_first c) (step_lf ys))
 
 -- a line and its LF
 pub lines_lf : (xs ys : List ℕ) → HasNoLf xs → lines_of (xs ++ (10 ∷ ys)) ≡ without_cr xs ∷ lines_of ys
 lines_lf [] ys h = rw without_cr_nil (step_lf ys)
 lines_lf (c ∷ []) ys h = one_cases c ys (h 0 (omega arith)) (grind arith)
 lines_lf (c ∷ d ∷ ds) ys h =
-    step_other c (d ∷ (ds ++ (10 ∷ ys))) (eq_false c 10 (h 0 (omega arith))) (and_false _ _ (eq_false 10 d (λ e. h 1 (omega arith) (sym e))))
+    step_other c (d ∷ (ds ++ (10 ∷ ys))) (ne_eqb c 10 (h 0 (omega arith))) (and_right _ _ (ne_eqb 10 d (λ e. h 1 (omega arith) (sym e))))
     ∙ ap (with_first c) (lines_lf (d ∷ ds) ys (λ k lt. h (suc k) (omega arith))) ∙ ap (λ t. t ∷ lines_of ys) (sym (without_cr_more c d ds))
 
 -- the last line without one
 pub lines_last : (xs : List ℕ) → 0 < length xs → HasNoLf xs → lines_of xs ≡ xs ∷ []
 lines_last [] lt h = absurd (omega arith)
-lines_last (c ∷ []) lt h = step_other c [] (eq_false c 10 (h 0 lt)) (and_false _ false refl) ∙ ap (with_first c) lines_nil
+lines_last (c ∷ []) lt h = step_other c [] (ne_eqb c 10 (h 0 lt)) (and_right _ false refl) ∙ ap (with_first c) lines_nil
 lines_last (c ∷ d ∷ ds) lt h =
-    step_other c (d ∷ ds) (eq_false c 10 (h 0 lt)) (and_false _ _ (eq_false 10 d (λ e. h 1 (omega arith) (sym e))))
+    step_other c (d ∷ ds) (ne_eqb c 10 (h 0 lt)) (and_right _ _ (ne_eqb 10 d (λ e. h 1 (omega arith) (sym e))))
     ∙ ap (with_first c) (lines_last (d ∷ ds) (omega arith) (λ k lt. h (suc k) (omega arith)))
 
 pub without_cr_at : (s : List ℕ) (j : ℕ) → suc j ≡ length s → get_or s j 0 ≡ 13 → without_cr s ≡ take j s

@@ -1,16 +1,11 @@
 -- Questions about registers, one by one.
 use Rattle.std.proofs.Common.{◌≡◌, ℕ, suc, zero, ◌+◌, ◌<◌, refl, ap, ◌∙◌, arith, subst, add-one, Bool, true, false, ◌||◌, nat_eq}
+use Rattle.std.proofs.lemmas.Bool.{or_from, or_left}
 use Rattle.thumb_asm.specs.Sizes.{any_below}
 
 or_right : (b : Bool) → (b || true) ≡ true
 or_right true = refl
 or_right false = refl
-
-or_both : (b c : Bool) → b ≡ false → c ≡ false → (b || c) ≡ false
-or_both b c h k = rw (h, k) refl
-
-or_left : (b c : Bool) → b ≡ true → (b || c) ≡ true
-or_left b c h = rw h refl
 
 pub any_start : (p : ℕ → Bool) → any_below p 0 ≡ false
 unfolding any_below
@@ -21,7 +16,7 @@ unfolding any_below
 any_more p k = refl
 
 pub any_next : (p : ℕ → Bool) (k : ℕ) → any_below p k ≡ false → p k ≡ false → any_below p (k + 1) ≡ false
-any_next p k h q = ap (any_below p) (add-one k) ∙ any_more p k ∙ or_both (any_below p k) (p k) h q
+any_next p k h q = ap (any_below p) (add-one k) ∙ any_more p k ∙ or_from (any_below p k) (p k) h q
 
 any_case : (p : ℕ → Bool) (k r : ℕ) → r < suc k → p r ≡ true → (r < k → any_below p k ≡ true) → (b : Bool) → nat_eq r k ≡ b → (any_below p k || p k) ≡ true
 any_case p k r lt h ih true e = let same : r ≡ k = grind arith in ap (λ q. any_below p k || q) (subst (λ n. p n ≡ true) same h) ∙ or_right (any_below p k)

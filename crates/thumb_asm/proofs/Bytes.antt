@@ -1,6 +1,6 @@
 -- How the reader cuts texts that have no blank, comma, bracket, quote, colon or semicolon, and those in brackets.
 use Rattle.std.proofs.Common.{◌≡◌, ℕ, List, [], ◌∷◌, ◌++◌, refl, ap, ◌∙◌, sym, arith, Bool, true, false, not, nat_eq, ◌&&◌, ◌||◌, Some, None, append_assoc}
-use Rattle.std.proofs.lemmas.Bool.{not-true}
+use Rattle.std.proofs.lemmas.Bool.{not-true, and_parts, and_from, and_right, or_parts}
 use Rattle.std.proofs.lemmas.Bool.Decides.{nat_tests}
 use Rattle.std.specs.List.{list_all, list_any}
 use Rattle.text_lines.specs.Text.{with_first}
@@ -33,49 +33,34 @@ is_inner c = is_plain c && is_flat c
 abbrev pub is_solid : ℕ → Bool
 is_solid c = is_inner c && (is_visible c && not (nat_eq c 44))
 
-pub both : (a b : Bool) → (a && b) ≡ true → (a ≡ true) × (b ≡ true)
-both true b e = (refl, e)
-both false b e = cc
-
-pub join : (a b : Bool) → a ≡ true → b ≡ true → (a && b) ≡ true
-join a b e f = rw (e, f) refl
-
-pub and_false : (b c : Bool) → c ≡ false → (b && c) ≡ false
-and_false true c h = h
-and_false false c h = refl
-
 pub all_by : (p q : ℕ → Bool) → ((c : ℕ) → p c ≡ true → q c ≡ true) → (t : List ℕ) → list_all p t ≡ true → list_all q t ≡ true
 all_by p q f [] h = refl
-all_by p q f (c ∷ cs) h = let e = both (p c) (list_all p cs) h in join (q c) (list_all q cs) (f c e.0) (all_by p q f cs e.1)
+all_by p q f (c ∷ cs) h = let e = and_parts (p c) (list_all p cs) h in and_from (q c) (list_all q cs) (f c e.0) (all_by p q f cs e.1)
 
 pub all_append : (p : ℕ → Bool) (a b : List ℕ) → list_all p a ≡ true → list_all p b ≡ true → list_all p (a ++ b) ≡ true
 all_append p [] b h k = k
-all_append p (c ∷ cs) b h k = let e = both (p c) (list_all p cs) h in join (p c) (list_all p (cs ++ b)) e.0 (all_append p cs b e.1 k)
+all_append p (c ∷ cs) b h k = let e = and_parts (p c) (list_all p cs) h in and_from (p c) (list_all p (cs ++ b)) e.0 (all_append p cs b e.1 k)
 
 pub inner_of : (c : ℕ) → is_solid c ≡ true → is_inner c ≡ true
-inner_of c h = (both (is_inner c) _ h).0
+inner_of c h = (and_parts (is_inner c) _ h).0
 
 pub visible_of : (c : ℕ) → is_solid c ≡ true → is_visible c ≡ true
-visible_of c h = (both (is_visible c) _ (both (is_inner c) _ h).1).0
+visible_of c h = (and_parts (is_visible c) _ (and_parts (is_inner c) _ h).1).0
 
 pub plain_of : (c : ℕ) → is_solid c ≡ true → is_plain c ≡ true
-plain_of c h = (both (is_plain c) _ (inner_of c h)).0
+plain_of c h = (and_parts (is_plain c) _ (inner_of c h)).0
 
 pub plain_inner : (c : ℕ) → is_inner c ≡ true → is_plain c ≡ true
-plain_inner c h = (both (is_plain c) _ h).0
+plain_inner c h = (and_parts (is_plain c) _ h).0
 
 pub comma_of : (c : ℕ) → is_solid c ≡ true → nat_eq c 44 ≡ false
-comma_of c h = not-true _ (both (is_visible c) _ (both (is_inner c) _ h).1).1
-
-pub neither : (a b : Bool) → (a || b) ≡ false → (a ≡ false) × (b ≡ false)
-neither true b e = cc
-neither false b e = (refl, e)
+comma_of c h = not-true _ (and_parts (is_visible c) _ (and_parts (is_inner c) _ h).1).1
 
 pub allowed_of : (c : ℕ) → is_plain c ≡ true → is_allowed c ≡ true
-allowed_of c h = (both (is_allowed c) (is_unmarked c) h).0
+allowed_of c h = (and_parts (is_allowed c) (is_unmarked c) h).0
 
 unmarked_of : (c : ℕ) → is_plain c ≡ true → is_unmarked c ≡ true
-unmarked_of c h = (both (is_allowed c) (is_unmarked c) h).1
+unmarked_of c h = (and_parts (is_allowed c) (is_unmarked c) h).1
 
 pub no_quote : (c : ℕ) → is_plain c ≡ true → nat_eq c 34 ≡ false
 no_quote c h = let e = unmarked_of c h in grind (arith, nat_tests)
@@ -92,14 +77,14 @@ pub before_plain : (t : List ℕ) → list_all is_plain t ≡ true → before 59
 unfolding before
 before_plain [] h = refl
 before_plain (c ∷ cs) h =
-    let e = both (is_plain c) (list_all is_plain cs) h in
+    let e = and_parts (is_plain c) (list_all is_plain cs) h in
     rw (no_semicolon c e.0, no_quote c e.0) (ap (λ t. c ∷ t) (before_plain cs e.1))
 
 pub after_plain : (t : List ℕ) → list_all is_plain t ≡ true → after 58 Outside t ≡ None
 unfolding after
 after_plain [] h = refl
 after_plain (c ∷ cs) h =
-    let e = both (is_plain c) (list_all is_plain cs) h in
+    let e = and_parts (is_plain c) (list_all is_plain cs) h in
     rw (no_colon c e.0, no_quote c e.0) (after_plain cs e.1)
 
 -- The first word.
@@ -108,14 +93,14 @@ pub word_of : (name rest : List ℕ) → list_all is_visible name ≡ true → u
 unfolding until
 word_of [] rest h = refl
 word_of (c ∷ cs) rest h =
-    let e = both (is_visible c) (list_all is_visible cs) h in
+    let e = and_parts (is_visible c) (list_all is_visible cs) h in
     rw (not-true _ e.0) (ap (λ t. c ∷ t) (word_of cs rest e.1))
 
 pub rest_of : (name rest : List ℕ) → list_all is_visible name ≡ true → from_first is_blank (name ++ (32 ∷ rest)) ≡ 32 ∷ rest
 unfolding from_first
 rest_of [] rest h = refl
 rest_of (c ∷ cs) rest h =
-    let e = both (is_visible c) (list_all is_visible cs) h in
+    let e = and_parts (is_visible c) (list_all is_visible cs) h in
     rw (not-true _ e.0) (rest_of cs rest e.1)
 
 -- Blanks at the ends.
@@ -137,8 +122,8 @@ pub nil_append : (a b : List ℕ) → is_nil b ≡ false → is_nil (a ++ b) ≡
 nil_append [] b h = h
 nil_append (c ∷ cs) b h = refl
 
-keeps : (x : ℕ) (cs : List ℕ) → is_nil cs ≡ false → unless_last x cs ≡ x ∷ cs
-keeps x cs h = rw (and_false (is_blank x) (is_nil cs) h) refl
+pub keeps : (x : ℕ) (cs : List ℕ) → is_nil cs ≡ false → unless_last x cs ≡ x ∷ cs
+keeps x cs h = rw (and_right (is_blank x) (is_nil cs) h) refl
 
 pub ends_append : (front a : List ℕ) → is_nil a ≡ false → strip_end a ≡ a → strip_end (front ++ a) ≡ front ++ a
 unfolding strip_end
@@ -153,7 +138,7 @@ pub ends_solid : (t : List ℕ) → list_all is_solid t ≡ true → strip_end t
 unfolding strip_end
 ends_solid [] h = refl
 ends_solid (c ∷ cs) h =
-    let e = both (is_solid c) (list_all is_solid cs) h in
+    let e = and_parts (is_solid c) (list_all is_solid cs) h in
     ap (unless_last c) (ends_solid cs e.1) ∙ rw (not-true _ (visible_of c e.0)) refl
 
 -- Commas.
@@ -175,7 +160,7 @@ flat : (c : ℕ) → is_flat c ≡ true → (nat_eq c 91 ≡ false) × (nat_eq c
 flat c h = (grind (arith, nat_tests), grind (arith, nat_tests), grind (arith, nat_tests), grind (arith, nat_tests))
 
 flat_of : (c : ℕ) → is_inner c ≡ true → (nat_eq c 91 ≡ false) × (nat_eq c 93 ≡ false) × (nat_eq c 123 ≡ false) × (nat_eq c 125 ≡ false)
-flat_of c h = flat c (both (is_plain c) (is_flat c) h).1
+flat_of c h = flat c (and_parts (is_plain c) (is_flat c) h).1
 
 one_solid : (c : ℕ) (cs : List ℕ) → is_solid c ≡ true → pieces Outside 0 (c ∷ cs) ≡ with_first c (pieces Outside 0 cs)
 unfolding pieces
@@ -195,13 +180,13 @@ one_inner c cs h =
 pub solid_pieces : (t rest : List ℕ) → list_all is_solid t ≡ true → pieces Outside 0 (t ++ rest) ≡ with_text t (pieces Outside 0 rest)
 solid_pieces [] rest h = refl
 solid_pieces (c ∷ cs) rest h =
-    let e = both (is_solid c) (list_all is_solid cs) h in
+    let e = and_parts (is_solid c) (list_all is_solid cs) h in
     one_solid c (cs ++ rest) e.0 ∙ ap (with_first c) (solid_pieces cs rest e.1)
 
 inner_pieces : (t rest : List ℕ) → list_all is_inner t ≡ true → pieces Outside 1 (t ++ rest) ≡ with_text t (pieces Outside 1 rest)
 inner_pieces [] rest h = refl
 inner_pieces (c ∷ cs) rest h =
-    let e = both (is_inner c) (list_all is_inner cs) h in
+    let e = and_parts (is_inner c) (list_all is_inner cs) h in
     one_inner c (cs ++ rest) e.0 ∙ ap (with_first c) (inner_pieces cs rest e.1)
 
 -- what stands in brackets
@@ -254,9 +239,9 @@ closed_framed mark (c ∷ cs) h = closed_more mark c (cs ++ (mark ∷ [])) (nil_
 pub closed_none : (mark : ℕ) (t : List ℕ) → list_all (λ c. not (nat_eq c mark)) t ≡ true → closed_by mark t ≡ None
 unfolding closed_by
 closed_none mark [] h = refl
-closed_none mark (c ∷ []) h = rw (not-true _ (both (not (nat_eq c mark)) true h).0) refl
-closed_none mark (c ∷ d ∷ ds) h = ap (λ o. o >>= λ front. Some (c ∷ front)) (closed_none mark (d ∷ ds) (both (not (nat_eq c mark)) _ h).1)
+closed_none mark (c ∷ []) h = rw (not-true _ (and_parts (not (nat_eq c mark)) true h).0) refl
+closed_none mark (c ∷ d ∷ ds) h = ap (λ o. o >>= λ front. Some (c ∷ front)) (closed_none mark (d ∷ ds) (and_parts (not (nat_eq c mark)) _ h).1)
 
 pub none_is : (mark : ℕ) (t : List ℕ) → list_all (λ c. not (nat_eq c mark)) t ≡ true → list_any (λ c. nat_eq c mark) t ≡ false
 none_is mark [] h = refl
-none_is mark (c ∷ cs) h = let e = both (not (nat_eq c mark)) (list_all (λ c. not (nat_eq c mark)) cs) h in rw (not-true _ e.0) (none_is mark cs e.1)
+none_is mark (c ∷ cs) h = let e = and_parts (not (nat_eq c mark)) (list_all (λ c. not (nat_eq c mark)) cs) h in rw (not-true _ e.0) (none_is mark cs e.1)

@@ -176,7 +176,3 @@ pub gave_padding : (env : Env) (at : ℕ) (e old new : List ℕ) (n : ℕ) (r : 
 unfolding Means shape_cause shape_size
 gave_padding env at e old new n (Ok u) q h = record { own = repeat n (0 ∷ []); bytes = h; size = repeat_length n ∙ q; means = ap (λ k. repeat k (0 ∷ [])) q; accepted = refl }
 gave_padding env at e old new n (Err x) q h = tt
-
-pub any_stop : (r : Result (Unit {0}) Stop) (cause : Option Cause) → IfErr r (λ e. (o : Option Cause) → Stops e o) → IfErr r (λ e. Stops e cause)
-any_stop (Ok u) cause h = tt
-any_stop (Err x) cause h = h cause

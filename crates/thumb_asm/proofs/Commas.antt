@@ -1,5 +1,6 @@
 -- Commas that separate operands.
 use Rattle.std.proofs.Common.{◌≡◌, ℕ, ◌+◌, ◌<◌, ◌≤◌, List, [], ◌∷◌, ◌++◌, length, get_or, take, drop, refl, ap, ◌∙◌, sym, arith, true, false, nat_eq, cond, ◌&&◌, add-one, append_assoc}
+use Rattle.std.proofs.lemmas.Bool.{eq-eqb, ne_eqb}
 use Rattle.std.proofs.Math.Seq.{take-suc, take-length}
 use Rattle.std.proofs.lemmas.List.{append-nil}
 use Rattle.text_lines.specs.Text.{with_first}
@@ -96,17 +97,11 @@ split_last : (mark : ℕ) → split_by mark [] ≡ [] ∷ []
 unfolding split_by
 split_last mark = refl
 
-eq_true : (c d : ℕ) → c ≡ d → nat_eq c d ≡ true
-eq_true c d h = grind arith
-
-eq_false : (c d : ℕ) → (c ≡ d → ⊥) → nat_eq c d ≡ false
-eq_false c d h = grind arith
-
 pub split_step : (mark : ℕ) (text : List ℕ) (i : ℕ) → i < length text → (get_or text i 0 ≡ mark → ⊥) → Splitting mark text i → Splitting mark text (i + 1)
-split_step mark text i lt h s = s ∙ ap (λ t. glued (take i text) (split_by mark t)) (cell text i lt) ∙ ap (glued (take i text)) (split_more mark (get_or text i 0) (drop (i + 1) text) (eq_false _ mark h)) ∙ glue_first (take i text) (get_or text i 0) _ ∙ ap (λ t. glued t (split_by mark (drop (i + 1) text))) (sym (take_more text i lt))
+split_step mark text i lt h s = s ∙ ap (λ t. glued (take i text) (split_by mark t)) (cell text i lt) ∙ ap (glued (take i text)) (split_more mark (get_or text i 0) (drop (i + 1) text) (ne_eqb _ mark h)) ∙ glue_first (take i text) (get_or text i 0) _ ∙ ap (λ t. glued t (split_by mark (drop (i + 1) text))) (sym (take_more text i lt))
 
 pub split_found : (mark : ℕ) (text : List ℕ) (i : ℕ) → i < length text → get_or text i 0 ≡ mark → Splitting mark text i → split_by mark text ≡ take i text ∷ split_by mark (drop (i + 1) text)
-split_found mark text i lt h s = s ∙ ap (λ t. glued (take i text) (split_by mark t)) (cell text i lt) ∙ ap (glued (take i text)) (split_stop mark (get_or text i 0) (drop (i + 1) text) (eq_true _ mark h)) ∙ ap (λ t. t ∷ split_by mark (drop (i + 1) text)) (append-nil (take i text))
+split_found mark text i lt h s = s ∙ ap (λ t. glued (take i text) (split_by mark t)) (cell text i lt) ∙ ap (glued (take i text)) (split_stop mark (get_or text i 0) (drop (i + 1) text) (eq-eqb _ mark h)) ∙ ap (λ t. t ∷ split_by mark (drop (i + 1) text)) (append-nil (take i text))
 
 pub split_none : (mark : ℕ) (text : List ℕ) (i : ℕ) → i ≡ length text → Splitting mark text i → split_by mark text ≡ text ∷ []
 split_none mark text i h s = s ∙ ap (λ t. glued (take i text) (split_by mark t)) (drop_all text i (omega arith)) ∙ ap (glued (take i text)) (split_last mark) ∙ ap (λ t. t ∷ []) (append-nil (take i text) ∙ ap (λ n. take n text) h ∙ take-length text)

@@ -1,5 +1,6 @@
 -- Operands that are expressions.
 use Rattle.std.proofs.Common.{◌≡◌, ℕ, List, [], ◌∷◌, map, refl, ap, ◌∙◌, Bool, true, false, cond, nat_eq, ◌&&◌, Option, Some, None, is_some}
+use Rattle.std.proofs.lemmas.Bool.{and_parts}
 use Rattle.std.specs.List.{list_all, list_any}
 use Rattle.thumb_insn.specs.Fields.{reg}
 use Rattle.thumb_insn.specs.declared.Reg.{Reg}
@@ -74,10 +75,6 @@ unfolding operand
 operand_self [] = λ h. cc
 operand_self (c ∷ cs) = self_cond (c ∷ cs) (nat_eq c 35) _ _ (self_other (c ∷ cs) _ (quoted_other (list_any (λ d. nat_eq d 34) cs) (Immediate cs) refl)) (self_cond (c ∷ cs) (nat_eq c 91) _ _ (self_other (c ∷ cs) _ (brackets_other cs)) (self_cond (c ∷ cs) (nat_eq c 123) _ _ (self_other (c ∷ cs) _ (braces_other cs)) (self_cond (c ∷ cs) (nat_eq c 34) _ _ (self_other (c ∷ cs) _ (quotes_other cs)) (bare_self (c ∷ cs)))))
 
-and_true : (b c : Bool) → (b && c) ≡ true → (b ≡ true) × (c ≡ true)
-and_true true c h = (refl, h)
-and_true false c h = cc
-
 operands_next : (p : List ℕ) (ps : List (List ℕ)) → operands (p ∷ ps) ≡ (operand p >>= λ o. operands ps >>= λ os. Some (o ∷ os))
 unfolding operands
 operands_next p ps = refl
@@ -89,7 +86,7 @@ operands_none = refl
 all_operands : (ps : List (List ℕ)) → list_all is_expression ps ≡ true → operands ps ≡ Some (map Expression ps)
 all_operands [] h = operands_none
 all_operands (p ∷ ps) h =
-    let both = and_true (is_expression p) (list_all is_expression ps) h in
+    let both = and_parts (is_expression p) (list_all is_expression ps) h in
     operands_next p ps ∙ ap (λ o. o >>= λ x. operands ps >>= λ xs. Some (x ∷ xs)) (operand_self p both.0) ∙ ap (λ r. r >>= λ xs. Some (Expression p ∷ xs)) (all_operands ps both.1)
 
 all_texts : (ps : List (List ℕ)) → expressions (map Expression ps) ≡ Some ps

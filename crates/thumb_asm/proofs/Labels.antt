@@ -1,5 +1,6 @@
 -- Names in maps and in lists.
 use Rattle.std.proofs.Common.{◌≡◌, ℕ, ◌+◌, ◌<◌, List, [], ◌∷◌, ◌++◌, length, get_or, take, refl, ap, ◌∙◌, sym, arith, subst, Bool, true, false, cond, ◌&&◌, add-one, Option, Some, None, is_some, String, string_bytes, bytes_eq, IfSome, option_map, Bor, Result, Ok, Err, OnOk}
+use Rattle.std.proofs.lemmas.Bool.{and_parts}
 use Rattle.std.specs.List.{list_all}
 use Rattle.std.specs.BTreeMap.{BTreeMap, get_by_text}
 use Rattle.std.specs.Str.{IsUtf8, IsAscii}
@@ -18,25 +19,21 @@ use Rattle.thumb_asm.specs.declared.AsmFault.{AsmFault}
 use Rattle.thumb_asm.specs.declared.AsmFault.TheVariants as fault
 use Rattle.std.specs.declared.alloc.AllocError.{AllocError}
 
-and_true : (b c : Bool) → (b && c) ≡ true → (b ≡ true) × (c ≡ true)
-and_true true c h = (refl, h)
-and_true false c h = cc
-
 word_ascii : (c : ℕ) → is_word c ≡ true → c < 128
 word_ascii c h = grind arith
 
 words_ascii : (w : List ℕ) → list_all is_word w ≡ true → IsAscii w
 words_ascii [] h = IsAscii-nil
-words_ascii (c ∷ cs) h = let both = and_true (is_word c) (list_all is_word cs) h in IsAscii-cons c cs (word_ascii c both.0) (words_ascii cs both.1)
+words_ascii (c ∷ cs) h = let both = and_parts (is_word c) (list_all is_word cs) h in IsAscii-cons c cs (word_ascii c both.0) (words_ascii cs both.1)
 
 pub name_text : (w : List ℕ) → is_name w ≡ true → IsUtf8 w
-name_text w h = let front = (and_true _ _ h).0 in IsUtf8-from_ascii w (words_ascii w (and_true _ _ front).1)
+name_text w h = let front = (and_parts _ _ h).0 in IsUtf8-from_ascii w (words_ascii w (and_parts _ _ front).1)
 
 pub if_some_now : (o : Option (Bor (List ℕ))) (P : List ℕ → Type 0) → IfSome (option_map (λ r. r.now) o) P → IfSome o (λ r. P r.now)
 if_some_now None P h = tt
 if_some_now (Some r) P h = h
 
-or_push : (b : Bool) (v : ℕ) (o p : Option ℕ) → cond b (Some v) (or_else o p) ≡ or_else (cond b (Some v) o) p
+pub or_push : (b : Bool) (v : ℕ) (o p : Option ℕ) → cond b (Some v) (or_else o p) ≡ or_else (cond b (Some v) o) p
 or_push true v o p = refl
 or_push false v o p = refl
 
@@ -82,14 +79,6 @@ hidden true v o h = let x = h refl in rw x.1 refl
 hidden false v None h = refl
 hidden false v (Some x) h = refl
 
-pub symbol_hidden : (f : Env) (name : List ℕ) (v x : ℕ) → f name ≡ Some x → (q : List ℕ) → f q ≡ with_symbol name v f q
-symbol_hidden f name v x n q = hidden (bytes_eq q name) v (f q) (λ e. (x, ap f (same_text q name (sym e)) ∙ n))
-
--- a symbol that is the first of its name
-pub symbol_added : (f g : Env) (name text : List ℕ) (v : ℕ) (r : Result (Unit {0}) AllocError) → f name ≡ None → text ≡ name → OnOk r ((q : List ℕ) → g q ≡ cond (bytes_eq q text) (Some v) (f q)) → OnOk r ((q : List ℕ) → g q ≡ with_symbol name v f q)
-symbol_added f g name text v (Ok u) n e k = λ q. k q ∙ ap (λ t. cond (bytes_eq q t) (Some v) (f q)) e ∙ labelled (bytes_eq q name) v (f q) (λ h. ap f (same_text q name (sym h)) ∙ n)
-symbol_added f g name text v (Err x) n e k = tt
-
 pub symbol_next : (f g : Env) (names : Names) (name : List ℕ) (v : ℕ) → ((q : List ℕ) → f q ≡ entry_at names q) → ((q : List ℕ) → g q ≡ with_symbol name v f q) → (q : List ℕ) → g q ≡ entry_at (names ++ ((name, v) ∷ [])) q
 symbol_next f g names name v h k q = k q ∙ ap (λ t. or_else t (cond (bytes_eq q name) (Some v) None)) (h q) ∙ sym (entry_more names (name, v) q)
 
@@ -120,9 +109,3 @@ empty_index m e q = rw e refl
 pub refuses_first : (e : AsmFault) (x y : Option (Cause × ℕ)) → Refuses e x → Refuses e (or_else x y)
 refuses_first fault.Memory x y h = tt
 refuses_first (fault.Refused c k) x y h = ap (λ o. or_else o y) h
-
-pub refuses_second : (e : AsmFault) (x y : Option (Cause × ℕ)) → x ≡ None → Refuses e y → Refuses e (or_else x y)
-refuses_second e x y h k = subst (λ o. Refuses e (or_else o y)) (sym h) k
-
-pub accepts_both : (x y : Option (Cause × ℕ)) → x ≡ None → y ≡ None → or_else x y ≡ None
-accepts_both x y h k = ap (λ o. or_else o y) h ∙ k

@@ -1,5 +1,6 @@
 -- How the reader cuts a line of a mnemonic and operands.
 use Rattle.std.proofs.Common.{◌≡◌, ℕ, ◌≤◌, ◌+◌, ◌*◌, length, length-append, arith, List, [], ◌∷◌, ◌++◌, map, refl, ap, ◌∙◌, sym, true, false, Option, Some, None, Ok, append-nil, append_assoc, codes, if◌then◌else◌}
+use Rattle.std.proofs.lemmas.Bool.{and_parts}
 use Rattle.std.specs.List.{list_all}
 use Rattle.text_lines.specs.Text.{with_first}
 use Rattle.thumb_insn.specs.Text.{joined, line}
@@ -10,7 +11,7 @@ use Rattle.thumb_asm.specs.Parts.{after, parts, pieces, operand_pieces, with_lab
 use Rattle.thumb_asm.specs.Operands.{Operand, operand, operands, ◌>>=◌}
 use Rattle.thumb_asm.specs.Syntax.{Shape, mnemonic, shaped}
 use Rattle.thumb_asm.specs.Sizes.{checked, named, shaped_by, statement_of}
-use Rattle.thumb_asm.proofs.Bytes.{is_visible, is_plain, is_solid, is_inner, both, all_by, all_append, visible_of, plain_of, plain_inner, before_plain, after_plain, word_of, rest_of, front_visible, front_blank, starts_append, nil_append, ends_append, end_visible, ends_solid, with_text, text_first, solid_pieces, bracket_pieces, brace_pieces, framed}
+use Rattle.thumb_asm.proofs.Bytes.{is_visible, is_plain, is_solid, is_inner, all_by, all_append, visible_of, plain_of, plain_inner, before_plain, after_plain, word_of, rest_of, front_visible, front_blank, starts_append, nil_append, ends_append, end_visible, ends_solid, with_text, text_first, solid_pieces, bracket_pieces, brace_pieces, framed}
 
 -- a text that is one piece, with no blank around it
 pub record Piece (a : List ℕ) : Type 0 where
@@ -50,7 +51,7 @@ all_operands (a ∷ xs) (o ∷ os) h = rw (h.0.is, all_operands xs os h.1) refl
 
 starts_solid : (a : List ℕ) → is_nil a ≡ false → list_all is_solid a ≡ true → starts_by is_visible a ≡ true
 starts_solid [] h k = cc
-starts_solid (c ∷ cs) h k = visible_of c (both (is_solid c) (list_all is_solid cs) k).0
+starts_solid (c ∷ cs) h k = visible_of c (and_parts (is_solid c) (list_all is_solid cs) k).0
 
 pub solid_piece : (a : List ℕ) → is_nil a ≡ false → list_all is_solid a ≡ true → length a ≤ 60 → Piece a
 solid_piece a h k l = record {

@@ -122,9 +122,6 @@ emit_step env base lines rest more out out' number l e m s =
       sizes = s.sizes ∙ ap (λ t. length out + size_from at t) e ∙ ap (λ t. length out + t) (size_next at l more) ∙ sym (add_assoc (length out) _ _) ∙ ap (λ n. length out + n + size_from (at + n) more) (sym m.size) ∙ ap (λ n. n + size_from (at + length m.own) more) (sym long) ∙ ap (λ n. length out' + size_from n more) next;
     }
 
-pub emit_fails : (env : Env) (base : ℕ) (lines rest more : List (List ℕ)) (out : List ℕ) (number : ℕ) (l : List ℕ) (c : Cause) → rest ≡ l ∷ more → second_group env (base + length out) (statement_of (parts l).statement) ≡ Some c → Emitting env base lines rest out number → second_in env base 1 lines ≡ Some (c, number + 1)
-emit_fails env base lines rest more out number l c e h s = s.seconds ∙ ap (second_in env (base + length out) (number + 1)) e ∙ second_here env (base + length out) (number + 1) l more c h
-
 pub emit_ends : (env : Env) (base : ℕ) (lines rest : List (List ℕ)) (out : List ℕ) (number : ℕ) → rest ≡ [] → Emitting env base lines rest out number → (second_in env base 1 lines ≡ None) × Lays env base lines out (labels_from base lines)
 emit_ends env base lines rest out number e s =
     let at = base + length out in (

@@ -3,14 +3,11 @@ use Rattle.std.proofs.Common.{◌≡◌, ℕ, List, [], ◌∷◌, refl, ap, ◌
 use Rattle.thumb_asm.specs.Chars.{is_nil, strip}
 use Rattle.thumb_asm.specs.Operands.{◌>>=◌, ends, ranges, stripped_by, register_list, text_of, escape, with_byte}
 use Rattle.thumb_asm.specs.Kinds.{with_range, good_ranges, ranges_in, with_good, good_text}
+use Rattle.thumb_asm.proofs.Counts.{none_of}
 
 some_is : {A : Type 0} (o : Option A) → is_some o ≡ true → (x : A) × (o ≡ Some x)
 some_is None h = cc
 some_is (Some x) h = (x, refl)
-
-none_is : {A : Type 0} (o : Option A) → is_some o ≡ false → o ≡ None
-none_is None h = refl
-none_is (Some x) h = cc
 
 one_good : (e : Option (ℕ × ℕ)) (r : Option (List (ℕ × ℕ))) (g rs : List (ℕ × ℕ)) → ((qs : List (ℕ × ℕ)) → r ≡ Some qs → g ≡ qs) → (e >>= λ x. r >>= λ xs. Some (x ∷ xs)) ≡ Some rs → with_range e g ≡ rs
 one_good None r g rs k h = cc
@@ -27,7 +24,7 @@ unfolding ranges_in
 listed_good inner = elim (is_nil (strip inner)) as (λ b. is_some (cond b (Some []) (ranges (stripped_by 44 inner))) ≡ true → cond b (Some []) (ranges (stripped_by 44 inner)) ≡ Some (cond b [] (good_ranges (stripped_by 44 inner)))) [ true ↦ λ h. refl | false ↦ λ h. let x = some_is (ranges (stripped_by 44 inner)) h in x.1 ∙ ap Some (sym (all_good (stripped_by 44 inner) x.0 x.1)) ]
 
 pub listed_bad : (inner : List ℕ) → is_some (register_list inner) ≡ false → register_list inner ≡ None
-listed_bad inner h = none_is (register_list inner) h
+listed_bad inner h = none_of (register_list inner) h
 
 pub some_left : (p : List ℕ) (ps : List (List ℕ)) (r : ℕ × ℕ) → Some r ≡ ends (stripped_by 45 p) → is_some (ranges (p ∷ ps)) ≡ is_some (ranges ps)
 unfolding ranges
@@ -63,7 +60,7 @@ pub quoted_good : (t : List ℕ) → is_some (text_of false t) ≡ true → text
 quoted_good t h = let x = some_is (text_of false t) h in x.1 ∙ ap Some (sym (said false t x.0 x.1))
 
 pub quoted_bad : (t : List ℕ) → is_some (text_of false t) ≡ false → text_of false t ≡ None
-quoted_bad t h = none_is (text_of false t) h
+quoted_bad t h = none_of (text_of false t) h
 
 with_some : (c : ℕ) (o : Option (List ℕ)) → is_some (with_byte c o) ≡ is_some o
 with_some c None = refl

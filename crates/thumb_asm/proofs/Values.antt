@@ -1,5 +1,6 @@
 -- The bytes of values.
 use Rattle.std.proofs.Common.{◌≡◌, ℕ, suc, zero, ◌+◌, ◌*◌, ◌/◌, ◌%◌, List, [], ◌∷◌, ◌++◌, length, refl, ap, ◌∙◌, sym, arith, add-one, append_assoc, length-append, Bool, true, false, ◌||◌, nat_eq, Option, Some, None, Result, Ok, Err, OnOk, ℤ, pos, negsuc}
+use Rattle.std.proofs.lemmas.Bool.{or_parts}
 use Rattle.std.specs.List.{list_any, repeat}
 use Rattle.std.proofs.lemmas.List.{append-nil}
 use Rattle.thumb_asm.specs.declared.Stop.{Stop}
@@ -18,13 +19,9 @@ number_length : (k : ℕ) (z : ℤ) → length (number_bytes k z) ≡ k
 number_length k (pos n) = low_length k n
 number_length k (negsuc n) = low_length k _
 
-known_length : (k : ℕ) (o : Option ℤ) → is_unknown o ≡ false → length (value_bytes k o) ≡ k
+pub known_length : (k : ℕ) (o : Option ℤ) → is_unknown o ≡ false → length (value_bytes k o) ≡ k
 known_length k None h = cc
 known_length k (Some z) h = number_length k z
-
-or_false : (b c : Bool) → (b || c) ≡ false → (b ≡ false) × (c ≡ false)
-or_false true c h = cc
-or_false false c h = (refl, h)
 
 times_suc : (k n : ℕ) → k + k * n ≡ k * suc n
 times_suc k n = grind arith
@@ -33,7 +30,7 @@ pub data_length : (env : Env) (k : ℕ) (es : List (List ℕ)) → list_any (λ 
 unfolding data_bytes
 data_length env k [] h = omega arith
 data_length env k (e ∷ es) h =
-    let both = or_false (is_unknown (value env e)) (list_any (λ e. is_unknown (value env e)) es) h in
+    let both = or_parts (is_unknown (value env e)) (list_any (λ e. is_unknown (value env e)) es) h in
     length-append (value_bytes k (value env e)) (data_bytes env k es)
     ∙ ap (λ n. n + length (data_bytes env k es)) (known_length k (value env e) both.0)
     ∙ ap (λ n. k + n) (data_length env k es both.1)
@@ -102,7 +99,7 @@ pub push_last : (env : Env) (k : ℕ) (left : List (List ℕ)) (old out : List �
 push_last env k left old out h i = sym (append-nil out) ∙ ap (λ t. out ++ t) (sym (data_none env k)) ∙ ap (λ t. out ++ data_bytes env k t) (sym h) ∙ i
 
 pub any_tail : (p : List ℕ → Bool) (e : List ℕ) (es left : List (List ℕ)) → left ≡ e ∷ es → list_any p left ≡ false → list_any p es ≡ false
-any_tail p e es left h k = (or_false (p e) (list_any p es) (ap (list_any p) (sym h) ∙ k)).1
+any_tail p e es left h k = (or_parts (p e) (list_any p es) (ap (list_any p) (sym h) ∙ k)).1
 
 pub any_head : (p : List ℕ → Bool) (e : List ℕ) (es left : List (List ℕ)) → left ≡ e ∷ es → list_any p left ≡ false → p e ≡ false
-any_head p e es left h k = (or_false (p e) (list_any p es) (ap (list_any p) (sym h) ∙ k)).0
+any_head p e es left h k = (or_parts (p e) (list_any p es) (ap (list_any p) (sym h) ∙ k)).0

@@ -1,6 +1,6 @@
 //! Conditional branch, and supervisor call (the manual's A5.2.6); unconditional branch.
 
-ghost use Rattle.std.specs.Prelude.{◌≡◌, ◌⊎◌, ◌<◌, ◌/◌, ◌%◌};
+ghost use Rattle.std.specs.Prelude.{◌≡◌, ◌⊎◌, ◌/◌};
 ghost use Rattle.thumb_insn.specs.Fields.{field, signed_field, double};
 ghost use Rattle.thumb_insn.specs.Table.{narrow_of, narrow_result};
 ghost use Rattle.thumb_insn.specs.declared.Decoded.TheVariants as results;
@@ -28,57 +28,61 @@ fn jump_target(h: u16) -> i32
     2 * i32::from(h ^ 0xE000 ^ 0x400) - 0x800
 }
 
-/// The condition of a branch.
+/// B with a condition.
+#[inline(always)]
+fn conditional_branch<T: Taker>(h: u16, cond: Cond, to: &mut T) -> bool
+    requires { narrow_result (narrow_of h) ≡ results.Narrow (insns.BranchIf cond (double (signed_field 8 (field h 0 8)))) }
+    ensures { T.did to.old (narrow_result (narrow_of h)) result to.new }
+{
+    to.take(
+        h,
+        Insn::BranchIf {
+            cond,
+            offset: target(h, 8),
+        },
+    )
+}
+
+/// B with a condition of one flag.
 #[tactic(auto, using(thumb_insn::proofs::Rows::branch_rows))]
 #[inline(always)]
-fn condition(h: u16) -> Cond
-    requires branch { h / 4096 ≡ 13 }
-    requires low { h / 256 % 16 < 14 }
-    ensures { narrow_result (narrow_of h) ≡ results.Narrow (insns.BranchIf result (double (signed_field 8 (field h 0 8)))) }
+pub(crate) fn branch_on_one_flag<T: Taker>(h: u16, to: &mut T) -> bool
+    requires { h / 2048 ≡ 26 }
+    ensures { T.did to.old (narrow_result (narrow_of h)) result to.new }
 {
-    match (h >> 8) % 16 {
-        0 => Cond::Eq,
-        1 => Cond::Ne,
-        2 => Cond::Cs,
-        3 => Cond::Cc,
-        4 => Cond::Mi,
-        5 => Cond::Pl,
-        6 => Cond::Vs,
-        7 => Cond::Vc,
-        8 => Cond::Hi,
-        9 => Cond::Ls,
-        10 => Cond::Ge,
-        11 => Cond::Lt,
-        12 => Cond::Gt,
-        _ => Cond::Le,
+    match (h >> 8) % 8 {
+        0 => conditional_branch(h, Cond::Eq, to),
+        1 => conditional_branch(h, Cond::Ne, to),
+        2 => conditional_branch(h, Cond::Cs, to),
+        3 => conditional_branch(h, Cond::Cc, to),
+        4 => conditional_branch(h, Cond::Mi, to),
+        5 => conditional_branch(h, Cond::Pl, to),
+        6 => conditional_branch(h, Cond::Vs, to),
+        _ => conditional_branch(h, Cond::Vc, to),
     }
 }
 
-/// B with a condition, and SVC.
+/// B with a condition of several flags, and SVC.
 #[tactic(auto, using(thumb_insn::proofs::Rows::branch_rows))]
 #[inline(always)]
-pub(crate) fn conditional_branch_or_svc<T: Taker>(h: u16, to: &mut T) -> bool
-    requires { h / 4096 ≡ 13 }
+pub(crate) fn branch_on_flags_or_svc<T: Taker>(h: u16, to: &mut T) -> bool
+    requires { h / 2048 ≡ 27 }
     ensures { T.did to.old (narrow_result (narrow_of h)) result to.new }
 {
-    let top = (h >> 8) % 16;
-    if top < 14 {
-        to.take(
-            h,
-            Insn::BranchIf {
-                cond: condition(h),
-                offset: target(h, 8),
-            },
-        )
-    } else if top == 14 {
-        to.illegal()
-    } else {
-        to.take(
+    match (h >> 8) % 8 {
+        0 => conditional_branch(h, Cond::Hi, to),
+        1 => conditional_branch(h, Cond::Ls, to),
+        2 => conditional_branch(h, Cond::Ge, to),
+        3 => conditional_branch(h, Cond::Lt, to),
+        4 => conditional_branch(h, Cond::Gt, to),
+        5 => conditional_branch(h, Cond::Le, to),
+        6 => to.illegal(),
+        _ => to.take(
             h,
             Insn::Svc {
                 value: value(h, 0, 8),
             },
-        )
+        ),
     }
 }
 

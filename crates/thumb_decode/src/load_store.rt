@@ -23,15 +23,15 @@ pub(crate) fn ldr_literal<T: Taker>(h: u16, to: &mut T) -> bool
     )
 }
 
-/// STR, STRH, STRB, LDRSB, LDR, LDRH, LDRB and LDRSH (register).
+/// STR, STRH, STRB and LDRSB (register).
 #[tactic(auto, using(thumb_insn::proofs::Rows::moved_rows))]
 #[inline(always)]
-pub(crate) fn load_store_register<T: Taker>(h: u16, to: &mut T) -> bool
-    requires { h / 4096 ≡ 5 }
+pub(crate) fn store_or_ldrsb_register<T: Taker>(h: u16, to: &mut T) -> bool
+    requires { h / 2048 ≡ 10 }
     ensures { T.did to.old (narrow_result (narrow_of h)) result to.new }
 {
     let (t, n, m) = (low_reg(h, 0), low_reg(h, 3), low_reg(h, 6));
-    match (h >> 9) % 8 {
+    match (h >> 9) % 4 {
         0 => to.take(
             h,
             Insn::StoreReg {
@@ -59,7 +59,7 @@ pub(crate) fn load_store_register<T: Taker>(h: u16, to: &mut T) -> bool
                 m,
             },
         ),
-        3 => to.take(
+        _ => to.take(
             h,
             Insn::LoadReg {
                 load: Load::SignedByte,
@@ -68,7 +68,19 @@ pub(crate) fn load_store_register<T: Taker>(h: u16, to: &mut T) -> bool
                 m,
             },
         ),
-        4 => to.take(
+    }
+}
+
+/// LDR, LDRH, LDRB and LDRSH (register).
+#[tactic(auto, using(thumb_insn::proofs::Rows::moved_rows))]
+#[inline(always)]
+pub(crate) fn load_register<T: Taker>(h: u16, to: &mut T) -> bool
+    requires { h / 2048 ≡ 11 }
+    ensures { T.did to.old (narrow_result (narrow_of h)) result to.new }
+{
+    let (t, n, m) = (low_reg(h, 0), low_reg(h, 3), low_reg(h, 6));
+    match (h >> 9) % 4 {
+        0 => to.take(
             h,
             Insn::LoadReg {
                 load: Load::Whole(Size::Word),
@@ -77,7 +89,7 @@ pub(crate) fn load_store_register<T: Taker>(h: u16, to: &mut T) -> bool
                 m,
             },
         ),
-        5 => to.take(
+        1 => to.take(
             h,
             Insn::LoadReg {
                 load: Load::Whole(Size::Half),
@@ -86,7 +98,7 @@ pub(crate) fn load_store_register<T: Taker>(h: u16, to: &mut T) -> bool
                 m,
             },
         ),
-        6 => to.take(
+        2 => to.take(
             h,
             Insn::LoadReg {
                 load: Load::Whole(Size::Byte),

@@ -1,5 +1,6 @@
 -- What the decoder says of a code, and that an instruction has one code.
 use Rattle.std.proofs.Common.{◌≡◌, ◌≢◌, ℕ, ◌+◌, ◌*◌, ◌/◌, ◌^◌, ◌<◌, ◌≤◌, Bool, true, false, nat_eq, Option, Some, None, arith, refl, if◌then◌else◌}
+use Rattle.std.proofs.lemmas.Bool.{eqb-true}
 use Rattle.std.proofs.lemmas.Bool.Decides.{nat_tests}
 use Rattle.std.proofs.lemmas.Nat.Bits.{and_high}
 use Rattle.thumb_insn.specs.Table.{rows, wide_of, narrow_of, is_wide, decoded_of, with_second, narrow_result, wide_result}
@@ -9,13 +10,10 @@ use Rattle.thumb_insn.specs.declared.Insn.{Insn}
 use Rattle.thumb_insn.specs.declared.Insn.TheVariants.{Bl, Fence, Mrs, Msr}
 use Rattle.thumb_insn.specs.declared.Code.{Code}
 use Rattle.thumb_insn.specs.declared.Code.TheVariants.{One, Two}
-use Rattle.thumb_insn.proofs.Apart.{by_gap, eq_of}
+use Rattle.thumb_insn.proofs.Apart.{by_gap, not_eq}
 use Rattle.thumb_encode.specs.Codes.{fit_of, code_of, DecodesTo, code_size, insn_size}
 use Rattle.thumb_encode.proofs.Again.{code_again}
 use Rattle.thumb_encode.proofs.Wide.{two_again}
-
-not_eq : (a b : ℕ) → nat_eq a b ≡ false → a ≢ b
-not_eq a b e = grind (arith, nat_tests)
 
 -- no halfword with the prefix of two is an instruction of its own
 prefix_none : (h : ℕ) → h < 65536 → is_wide h ≡ true → narrow_of h ≡ None
@@ -24,9 +22,9 @@ prefix_none h f w =
     let n : 29 ≤ h / 2048 = grind (arith, nat_tests) in
     let m = and_high h 5 11 in
     elim (nat_eq (h / 2048) 29) as (λ b. nat_eq (h / 2048) 29 ≡ b → narrow_of h ≡ None) [
-      | true ↦ λ e. let e = eq_of _ _ e in by_gap 63488 59392 h refl (omega arith)
+      | true ↦ λ e. let e = eqb-true _ _ e in by_gap 63488 59392 h refl (omega arith)
       | false ↦ λ e. let p = not_eq _ _ e in elim (nat_eq (h / 2048) 30) as (λ b. nat_eq (h / 2048) 30 ≡ b → narrow_of h ≡ None) [
-        | true ↦ λ g. let g = eq_of _ _ g in by_gap 63488 61440 h refl (omega arith)
+        | true ↦ λ g. let g = eqb-true _ _ g in by_gap 63488 61440 h refl (omega arith)
         | false ↦ λ g. let q = not_eq _ _ g in by_gap 63488 63488 h refl (omega arith)
       ] refl
     ] refl

@@ -1,5 +1,6 @@
 -- Codes of two halfwords, both ways.
 use Rattle.std.proofs.Common.{bit_and, ◌≡◌, ℕ, suc, ◌+◌, ◌-◌, ◌*◌, ◌/◌, ◌%◌, ◌<◌, true, false, not, ◌||◌, nat_eq, Some, None, ℤ, pos, negsuc, arith, refl, ap, ◌∙◌, sym, subst}
+use Rattle.std.proofs.lemmas.Bool.{eq-eqb}
 use Rattle.std.proofs.lemmas.Bool.Decides.{nat_tests}
 use Rattle.std.proofs.lemmas.Nat.{and_block, and_mask, shr_split}
 use Rattle.std.proofs.lemmas.Nat.Bits.{and_high, and_pow}
@@ -11,7 +12,7 @@ use Rattle.thumb_insn.specs.declared.Barrier.TheVariants as barrier
 use Rattle.thumb_insn.specs.declared.Insn.{Insn}
 use Rattle.thumb_insn.specs.declared.Insn.TheVariants.{Bl, Fence, Mrs, Msr}
 use Rattle.thumb_insn.specs.declared.Code.TheVariants.{Two}
-use Rattle.thumb_insn.proofs.Apart.{nth, found, of_eq}
+use Rattle.thumb_insn.proofs.Apart.{nth, found}
 use Rattle.thumb_insn.proofs.InRange.{AllWide, any_wide, inner, only}
 use Rattle.thumb_encode.specs.Codes.{fit_of, code_of, half_offset, outside, is_odd, long_first, long_second}
 use Rattle.thumb_encode.proofs.Back.{same_reg, same, legal_if}
@@ -23,7 +24,7 @@ wide_apart = refl
 -- the row at k is the row of each code that has its pattern
 by_wide : (k : ℕ) (r : Row) (c : ℕ) → nth wide_rows k ≡ Some r → bit_and c r.mask ≡ r.value → wide_of c ≡ r.fields c
 unfolding wide_of
-by_wide k r c e m = found wide_rows k r c wide_apart e (of_eq _ _ m)
+by_wide k r c e m = found wide_rows k r c wide_apart e (eq-eqb _ _ m)
 
 -- What the masks keep.
 

@@ -298,9 +298,6 @@ not_bit mask addr r w clear here = λ e. clear (rw e (words_bit mask 0 16 addr w
 clear_low : (mask : ℕ) → mask < 256 → (mask / 2 ^ 13 % 2 ≡ 1 → ⊥) × (mask / 2 ^ 15 % 2 ≡ 1 → ⊥)
 clear_low mask lt = (λ e. absurd (omega arith), λ e. absurd (omega arith))
 
-clear_pc : (mask : ℕ) → mask < 256 → (mask + 2 ^ 15) / 2 ^ 13 % 2 ≡ 1 → ⊥
-clear_pc mask lt = λ e. absurd (omega arith)
-
 -- the processor once words are loaded, none to SP or PC
 loaded_whole : (holds : Contents) (c : Cpu) (mask addr : ℕ) → (mask / 2 ^ 13 % 2 ≡ 1 → ⊥) → (mask / 2 ^ 15 % 2 ≡ 1 → ⊥) → IsWholeCpu c → IsWholeCpu (with_regs c (loaded_all holds c.regs (transfers mask addr)))
 loaded_whole holds c mask addr sp pc' h = record {

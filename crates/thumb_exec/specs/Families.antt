@@ -1,7 +1,4 @@
 -- The families of instructions, each of which one function executes.
-use Rattle.std.specs.Prelude.{Bool, true, false}
-use Rattle.thumb_insn.specs.declared.Op.{Op}
-use Rattle.thumb_insn.specs.declared.Op.TheVariants as op
 use Rattle.thumb_insn.specs.declared.Insn.{Insn}
 use Rattle.thumb_insn.specs.declared.Insn.TheVariants.{AddsReg, SubsReg, AddsImm3, SubsImm3, AddsImm8, SubsImm8, CmpImm, CmpHigh, ShiftImm, MovsImm, Data, Change, Mrs, AddHigh, MovHigh, Adr, AddSp, RaiseSp, LowerSp, LdrLiteral, LoadReg, LoadImm, LoadSp, StoreReg, StoreImm, StoreSp, Push, Stm, Bx, Blx, BranchIf, Branch, Bl, Cpsie, Cpsid, Hint, Fence, Msr}
 
@@ -111,10 +108,3 @@ IsRest (BranchIf cond offset) = ⊥
 IsRest (Branch offset) = ⊥
 IsRest (Bl offset) = ⊥
 IsRest i = Unit {0}
-
--- of two low registers, flags alone
-abbrev pub is_test : Op → Bool
-is_test op.Tst = true
-is_test op.Cmp = true
-is_test op.Cmn = true
-is_test o = false

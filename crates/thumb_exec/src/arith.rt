@@ -1,12 +1,11 @@
 //! Instructions that reach no memory.
-ghost use Rattle.std.specs.Prelude.{◌≡◌, ◌<◌, ℕ, Bool, [], true, false, if◌then◌else◌};
+ghost use Rattle.std.specs.Prelude.{◌≡◌, ◌<◌, ℕ, Bool, [], true, false};
 ghost use Rattle.thumb_exec.specs.Effect.{Next, go_past, put, get, with_flags, nz, nzc, data_effect, sum_to, tested};
-ghost use Rattle.thumb_exec.specs.Families.{is_test};
 ghost use Rattle.words_core.specs.Words.{awc, complement};
 
 use crate::cpu::{Cpu, Outcome};
 use thumb_insn::{Op, Reg};
-use words_core::{Flags, PROGRAM_COUNTER, add_with_carry, asr, lsl, lsr, ror};
+use words_core::{Flags, PROGRAM_COUNTER, add_with_carry, asr, lsl, lsr, ror, subtract};
 
 /// A register.
 pub fn get(cpu: &Cpu, r: Reg) -> u32
@@ -57,33 +56,42 @@ pub fn finish(cpu: &mut Cpu, d: Reg, value: u32, flags: Flags)
     go_past(cpu, 2);
 }
 
-/// N and Z follow the result.
-fn nz(flags: Flags, value: u32) -> Flags
-    ensures { result ≡ nz flags value }
+/// N and Z follow the result. C and V stay: for speed they are neither read nor written.
+#[inline(always)]
+fn set_nz(cpu: &mut Cpu, value: u32)
+    ensures { cpu.new ≡ with_flags cpu.old (nz cpu.old.flags value) }
 {
-    Flags {
-        n: value >= 0x8000_0000,
-        z: value == 0,
-        ..flags
-    }
+    cpu.flags.n = value >= 0x8000_0000;
+    cpu.flags.z = value == 0;
 }
 
-/// A result with N and Z.
-pub fn with_nz(flags: Flags, value: u32) -> (u32, Flags)
-    ensures { result ≡ (value, nz flags value) }
+/// Writes a result with N and Z, and goes on.
+#[inline(always)]
+pub fn finish_nz(cpu: &mut Cpu, d: Reg, value: u32)
+    requires { d.number < 16 }
+    ensures { sum_to cpu.old d (value, nz cpu.old.flags value) ≡ Next cpu.new [] }
 {
-    (value, nz(flags, value))
+    set_nz(cpu, value);
+    set(cpu, d, value, 2);
 }
 
-/// A shifted word with N, Z and C.
-pub fn with_nzc(flags: Flags, shifted: (u32, bool)) -> (u32, Flags)
-    ensures { result ≡ (shifted.0, nzc flags shifted.0 shifted.1) }
+/// Writes a shifted word with N, Z and C, and goes on.
+#[inline(always)]
+pub fn finish_nzc(cpu: &mut Cpu, d: Reg, shifted: (u32, bool))
+    requires { d.number < 16 }
+    ensures { sum_to cpu.old d (shifted.0, nzc cpu.old.flags shifted.0 shifted.1) ≡ Next cpu.new [] }
 {
-    let flags = Flags {
-        c: shifted.1,
-        ..nz(flags, shifted.0)
-    };
-    (shifted.0, flags)
+    cpu.flags.c = shifted.1;
+    finish_nz(cpu, d, shifted.0);
+}
+
+/// Sets N and Z alone, and goes on.
+#[inline(always)]
+fn test_nz(cpu: &mut Cpu, value: u32)
+    ensures { tested cpu.old (nz cpu.old.flags value) ≡ Next cpu.new [] }
+{
+    set_nz(cpu, value);
+    go_past(cpu, 2);
 }
 
 /// Writes a result with its flags, and goes on.
@@ -107,37 +115,8 @@ pub fn compare(cpu: &mut Cpu, n: Reg, y: u32)
     requires { n.number < 16 }
     ensures { tested cpu.old (awc (get cpu.old n) (complement y) true).1 ≡ Next cpu.new [] }
 {
-    let flags = add_with_carry(get(cpu, n), !y, true).1;
+    let flags = subtract(get(cpu, n), y).1;
     finish_test(cpu, flags);
-}
-
-/// What is computed of two low registers, with its flags.
-#[inline(always)]
-fn computed(cpu: &Cpu, op: Op, d: Reg, m: Reg) -> (u32, Flags)
-    requires first { d.number < 8 }
-    requires second { m.number < 8 }
-    ensures { data_effect op cpu.now d m ≡ (if is_test op then tested cpu.now result.1 else sum_to cpu.now d result) }
-{
-    let (x, y) = (get(cpu, d), get(cpu, m));
-    let flags = cpu.flags;
-    let by = (y % 256) as u8;
-    match op {
-        Op::Ands | Op::Tst => with_nz(flags, x & y),
-        Op::Eors => with_nz(flags, x ^ y),
-        Op::Lsls => with_nzc(flags, lsl(x, by, flags.c)),
-        Op::Lsrs => with_nzc(flags, lsr(x, by, flags.c)),
-        Op::Asrs => with_nzc(flags, asr(x, by, flags.c)),
-        Op::Adcs => add_with_carry(x, y, flags.c),
-        Op::Sbcs => add_with_carry(x, !y, flags.c),
-        Op::Rors => with_nzc(flags, ror(x, by, flags.c)),
-        Op::Rsbs => add_with_carry(!y, 0, true),
-        Op::Cmp => add_with_carry(x, !y, true),
-        Op::Cmn => add_with_carry(x, y, false),
-        Op::Orrs => with_nz(flags, x | y),
-        Op::Muls => with_nz(flags, x.wrapping_mul(y)),
-        Op::Bics => with_nz(flags, x & !y),
-        Op::Mvns => with_nz(flags, !y),
-    }
 }
 
 /// Computes of two low registers, and goes on.
@@ -147,9 +126,24 @@ pub fn data(cpu: &mut Cpu, op: Op, d: Reg, m: Reg)
     requires second { m.number < 8 }
     ensures { data_effect op cpu.old d m ≡ Next cpu.new [] }
 {
-    let done = computed(cpu, op, d, m);
+    let (x, y) = (get(cpu, d), get(cpu, m));
+    let by = (y % 256) as u8;
     match op {
-        Op::Tst | Op::Cmp | Op::Cmn => finish_test(cpu, done.1),
-        _ => finish_sum(cpu, d, done),
+        Op::Ands => finish_nz(cpu, d, x & y),
+        Op::Tst => test_nz(cpu, x & y),
+        Op::Eors => finish_nz(cpu, d, x ^ y),
+        Op::Lsls => finish_nzc(cpu, d, lsl(x, by, cpu.flags.c)),
+        Op::Lsrs => finish_nzc(cpu, d, lsr(x, by, cpu.flags.c)),
+        Op::Asrs => finish_nzc(cpu, d, asr(x, by, cpu.flags.c)),
+        Op::Adcs => finish_sum(cpu, d, add_with_carry(x, y, cpu.flags.c)),
+        Op::Sbcs => finish_sum(cpu, d, add_with_carry(x, !y, cpu.flags.c)),
+        Op::Rors => finish_nzc(cpu, d, ror(x, by, cpu.flags.c)),
+        Op::Rsbs => finish_sum(cpu, d, add_with_carry(!y, 0, true)),
+        Op::Cmp => finish_test(cpu, subtract(x, y).1),
+        Op::Cmn => finish_test(cpu, add_with_carry(x, y, false).1),
+        Op::Orrs => finish_nz(cpu, d, x | y),
+        Op::Muls => finish_nz(cpu, d, x.wrapping_mul(y)),
+        Op::Bics => finish_nz(cpu, d, x & !y),
+        Op::Mvns => finish_nz(cpu, d, !y),
     }
 }

@@ -2,11 +2,10 @@
 ghost use Rattle.std.specs.Prelude.{◌≡◌, ◌<◌, ℕ, Bool, [], true, false};
 ghost use Rattle.thumb_exec.specs.Effect.{Acts, Effects, Halts, Next, Refusals, Contents, effect, load_effect, store_effect, store_all, sum_to, put, go_past, shifted, sum, get};
 ghost use Rattle.thumb_exec.specs.declared.cpu.Outcome.TheVariants as outcome;
-ghost use Rattle.words_core.specs.Words.{awc};
 ghost use Rattle.thumb_exec.specs.Families.{IsSum, IsData, IsAddress, IsBranch, IsJump, IsSystem, IsLoad, IsStore, IsStoreAll, IsRest};
 ghost use Rattle.thumb_insn.specs.Range.{InRange, IsCoded};
 
-use crate::arith::{compare, data, finish_sum, get, go_past, set, with_nz, with_nzc};
+use crate::arith::{compare, data, finish_nz, finish_nzc, finish_sum, get, go_past, set};
 use crate::bus::Bus;
 use crate::control::{
     base, branch_to, change, flags_of, flags_word, holds, link, link_to, operand, put_any, target,
@@ -16,7 +15,7 @@ use crate::memory::{load, store};
 use crate::several::{count_of, ldm, mask_of, pop, store_all};
 use kernel_abi::Fault;
 use thumb_insn::{Insn, Load, Reg, Shift, Size};
-use words_core::{PROGRAM_COUNTER, STACK_POINTER, add_with_carry, asr, lsl, lsr};
+use words_core::{Flags, PROGRAM_COUNTER, STACK_POINTER, add_with_carry, asr, lsl, lsr, subtract};
 
 /// SP as a register that an instruction names.
 const SP: Reg = Reg {
@@ -35,22 +34,22 @@ fn shift(by: Shift, x: u32, n: u8, c: bool) -> (u32, bool)
     }
 }
 
-/// What a sum adds, with a carry, and where it goes; a difference is a sum with the complement.
+/// A sum or a difference with its flags, and where it goes.
 #[tactic(auto, unfolding(crate::specs::Effect::effect))]
 #[inline(always)]
-fn adding(cpu: &Cpu, insn: Insn) -> (Reg, u32, u32, bool)
+fn adding(cpu: &Cpu, insn: Insn) -> (Reg, (u32, Flags))
     requires family { IsSum insn }
     requires range { InRange insn }
-    ensures effect { (refuses : Refusals) (holds : Contents) → effect refuses holds cpu.now insn ≡ sum_to cpu.now result.0 (awc result.1 result.2 result.3) }
+    ensures effect { (refuses : Refusals) (holds : Contents) → effect refuses holds cpu.now insn ≡ sum_to cpu.now result.0 result.1 }
     ensures register { result.0.number < 16 }
 {
     match insn {
-        Insn::AddsReg { d, n, m } => (d, get(cpu, n), get(cpu, m), false),
-        Insn::SubsReg { d, n, m } => (d, get(cpu, n), !get(cpu, m), true),
-        Insn::AddsImm3 { d, n, value } => (d, get(cpu, n), value, false),
-        Insn::SubsImm3 { d, n, value } => (d, get(cpu, n), !value, true),
-        Insn::AddsImm8 { d, value } => (d, get(cpu, d), value, false),
-        Insn::SubsImm8 { d, value } => (d, get(cpu, d), !value, true),
+        Insn::AddsReg { d, n, m } => (d, add_with_carry(get(cpu, n), get(cpu, m), false)),
+        Insn::SubsReg { d, n, m } => (d, subtract(get(cpu, n), get(cpu, m))),
+        Insn::AddsImm3 { d, n, value } => (d, add_with_carry(get(cpu, n), value, false)),
+        Insn::SubsImm3 { d, n, value } => (d, subtract(get(cpu, n), value)),
+        Insn::AddsImm8 { d, value } => (d, add_with_carry(get(cpu, d), value, false)),
+        Insn::SubsImm8 { d, value } => (d, subtract(get(cpu, d), value)),
         _ => unreachable!(),
     }
 }
@@ -62,8 +61,7 @@ fn sum(cpu: &mut Cpu, insn: Insn)
     requires range { InRange insn }
     ensures { (refuses : Refusals) (holds : Contents) → effect refuses holds cpu.old insn ≡ Next cpu.new [] }
 {
-    let (d, x, y, carry) = adding(cpu, insn);
-    let sum = add_with_carry(x, y, carry);
+    let (d, sum) = adding(cpu, insn);
     finish_sum(cpu, d, sum);
 }
 
@@ -83,12 +81,10 @@ fn compute(cpu: &mut Cpu, insn: Insn)
             by,
         } => {
             let shifted = shift(kind, get(cpu, m), by as u8, cpu.flags.c);
-            let done = with_nzc(cpu.flags, shifted);
-            finish_sum(cpu, d, done);
+            finish_nzc(cpu, d, shifted);
         }
         Insn::MovsImm { d, value } => {
-            let done = with_nz(cpu.flags, value);
-            finish_sum(cpu, d, done);
+            finish_nz(cpu, d, value);
         }
         Insn::CmpImm { n, value } => compare(cpu, n, value),
         Insn::CmpHigh { n, m } => {
@@ -155,7 +151,7 @@ fn branch(cpu: &mut Cpu, insn: Insn)
 {
     match insn {
         Insn::BranchIf { cond, offset } => {
-            if holds(cond, cpu.flags) {
+            if holds(cond, &cpu.flags) {
                 let to = target(cpu, offset);
                 cpu.regs.set(PROGRAM_COUNTER, to);
             } else {

@@ -49,10 +49,10 @@ pub none_more : (list k : ℕ) → is_listed list k ≡ false → registers_belo
 unfolding registers_below
 none_more list k e = rw add-one (ap (λ (b : Bool). registers_below list k ++ (if b then k ∷ [] else [])) e ∙ append-nil (registers_below list k))
 
-tested : (n : ℕ) → n ≡ 1 → nat_eq n 1 ≡ true
+pub tested : (n : ℕ) → n ≡ 1 → nat_eq n 1 ≡ true
 tested n e = grind (arith, nat_tests)
 
-refused : (n : ℕ) → n ≢ 1 → nat_eq n 1 ≡ false
+pub refused : (n : ℕ) → n ≢ 1 → nat_eq n 1 ≡ false
 refused n e = grind (arith, nat_tests)
 
 -- the text of the registers below k, and of k where it is listed

@@ -1,7 +1,7 @@
 -- An instruction of the flash, and what comes of it.
-use Rattle.std.proofs.Common.{◌≡◌, ◌≤◌, ◌<◌, ◌+◌, ◌*◌, ◌/◌, ◌^◌, ℕ, zero, suc, Bool, true, false, ◌&&◌, List, [], ◌∷◌, length, Some, None, Result, Ok, Err, fold, refl, sym, ◌∙◌, ap, arith}
+use Rattle.std.proofs.Common.{◌≡◌, ◌≤◌, ◌<◌, ◌+◌, ◌*◌, ◌/◌, ◌^◌, ℕ, zero, suc, Bool, true, false, List, [], ◌∷◌, length, Some, None, Result, Ok, Err, fold, refl, sym, ◌∙◌, ap, arith, inl, inr, ◌⊎◌}
 use Rattle.std.specs.Prelude.{nat_le}
-use Rattle.std.proofs.lemmas.Bool.{leb-true, lt-leb, false≢true}
+use Rattle.std.proofs.lemmas.Bool.{cases_lt, leb-true, lt-leb, and_parts, false_from_ne_true}
 use Rattle.kernel_abi.specs.declared.Fault.{Fault}
 use Rattle.region_check.specs.declared.Right.TheVariants.{Execute}
 use Rattle.thumb_insn.specs.declared.Decoded.{Decoded}
@@ -11,7 +11,7 @@ use Rattle.thumb_insn.proofs.Rows.{row_df00}
 use Rattle.thumb_insn.specs.Table.{narrow_of, narrow_result, decoded_of, is_wide}
 use Rattle.thumb_exec.specs.declared.cpu.Cpu.{Cpu}
 use Rattle.thumb_exec.specs.declared.cpu.Outcome.TheVariants as outcome
-use Rattle.thumb_exec.specs.Effect.{Effect, Next, Syscall, Trap, Move, Puts, Takes, Moves, Acts, Halts, Refusals, Contents}
+use Rattle.thumb_exec.specs.Effect.{Effect, Next, Syscall, Trap, Move, Puts, Takes, Moves, Acts, Refusals, Contents}
 use Rattle.thumb_exec.specs.declared.fetch.Fetched.{Fetched}
 use Rattle.thumb_exec.specs.Fetch.{instruction, after, unless_barred, fetched_by, fetched, executed, step_effect}
 use Rattle.words_core.specs.Regs.{reg_at}
@@ -83,28 +83,20 @@ keeps_by c c' w w' e false goes stays = kept (view_of w) (view_of w') (ap view_o
 
 -- ## The flash
 
-both : (a b : Bool) → (a && b) ≡ true → (a ≡ true) × (b ≡ true)
-both true b h = (refl, h)
-both false b h = absurd (false≢true h)
-
 pub within : (base : ℕ) (xs : List ℕ) (a n : ℕ) → has base xs a n ≡ true → (base ≤ a) × (a + n ≤ base + length xs)
-within base xs a n h = let two = both (nat_le base a) (nat_le (a + n) (base + length xs)) h in (leb-true base a two.0, leb-true (a + n) (base + length xs) two.1)
-
-outside : (b : Bool) → (b ≡ true → ⊥) → b ≡ false
-outside true h = absurd (h refl)
-outside false h = refl
+within base xs a n h = let two = and_parts (nat_le base a) (nat_le (a + n) (base + length xs)) h in (leb-true base a two.0, leb-true (a + n) (base + length xs) two.1)
 
 pub has_not : (base : ℕ) (xs : List ℕ) (a n : ℕ) → (base ≤ a → a + n ≤ base + length xs → ⊥) → has base xs a n ≡ false
-has_not base xs a n h = outside (has base xs a n) (λ k. let two = within base xs a n k in h two.0 two.1)
+has_not base xs a n h = false_from_ne_true (has base xs a n) (λ k. let two = within base xs a n k in h two.0 two.1)
 
 -- what the stretch has, the flash has
 pub in_flash : (v : View) (a n : ℕ) → has_code v a n ≡ true → has v.flash_base v.flash a n ≡ true
-in_flash v a n h = (both (has v.flash_base v.flash a n) _ h).0
+in_flash v a n h = (and_parts (has v.flash_base v.flash a n) _ h).0
 
 pub in_stretch : (v : View) (a n : ℕ) → has_code v a n ≡ true → (v.code_base ≤ a) × (a + n ≤ v.code_base + v.code_size)
 in_stretch v a n h =
-    let range = (both (has v.flash_base v.flash a n) _ h).1 in
-    let two = both (nat_le v.code_base a) (nat_le (a + n) (v.code_base + v.code_size)) range in
+    let range = (and_parts (has v.flash_base v.flash a n) _ h).1 in
+    let two = and_parts (nat_le v.code_base a) (nat_le (a + n) (v.code_base + v.code_size)) range in
     (leb-true v.code_base a two.0, leb-true (a + n) (v.code_base + v.code_size) two.1)
 
 -- the flash is no part of the RAM
@@ -169,19 +161,20 @@ module _ (a b : Runner) (at code : ℕ) where
   did_goes Illegal e h = absurd h
   did_goes NeedsSecond e h = absurd h
 
-  pub did_halts : (d : Decoded) → step_effect (refused_by (view_of a.window)) (held_by (view_of a.window)) a.processor ≡ executed (refused_by (view_of a.window)) (held_by (view_of a.window)) a.processor (instruction at code d) → Did a d false b →
-      Halts (step_effect (refused_by (view_of a.window)) (held_by (view_of a.window)) a.processor)
-  did_halts (Narrow i) e h = rw e h.0
-  did_halts (Wide i) e h = absurd h
-  did_halts Illegal e h = rw e tt
-  did_halts NeedsSecond e h = absurd h
+-- only a narrow instruction went on
+pub went_narrow : (a b : Runner) (first : ℕ) → (29 ≤ first / 2048 → Did a NeedsSecond true b) → first / 2048 < 29
+went_narrow a b first second = by (cases_lt (first / 2048) 29)
+  where
+    by : (first / 2048 < 29) ⊎ (29 ≤ first / 2048) → first / 2048 < 29
+    by (inl narrow) = narrow
+    by (inr wide) = absurd (second wide)
 
 pub did_keeps : (a b : Runner) (d : Decoded) (r : Bool) → Did a d r b → Keeps (view_of a.window) (view_of b.window)
 did_keeps a b (Narrow i) true h = (went_on a.processor b.processor a.window b.window _ h).keeps
 did_keeps a b (Narrow i) false h = kept _ _ (ap (λ (x : Runner). view_of x.window) h.1)
 did_keeps a b Illegal false h = kept _ _ (ap (λ (x : Runner). view_of x.window) h)
+did_keeps a b NeedsSecond false h = kept _ _ (ap (λ (x : Runner). view_of x.window) h)
 did_keeps a b (Wide i) true h = absurd h
 did_keeps a b (Wide i) false h = absurd h
 did_keeps a b Illegal true h = absurd h
 did_keeps a b NeedsSecond true h = absurd h
-did_keeps a b NeedsSecond false h = absurd h

@@ -1,7 +1,7 @@
 -- What a runner does with what was decoded.
 use Rattle.std.specs.Prelude.{◌≡◌, ℕ, Bool, true, false}
 use Rattle.thumb_insn.specs.declared.Decoded.{Decoded}
-use Rattle.thumb_insn.specs.declared.Decoded.TheVariants.{Narrow, Illegal}
+use Rattle.thumb_insn.specs.declared.Decoded.TheVariants.{Narrow, NeedsSecond, Illegal}
 use Rattle.thumb_insn.specs.declared.Insn.{Insn}
 use Rattle.thumb_exec.specs.Effect.{Effect, Acts, Halts, effect}
 use Rattle.thumb_exec.specs.declared.cpu.Outcome.TheVariants as outcome
@@ -25,10 +25,12 @@ IsTaken w a w' = w' ≡ w
 abbrev pub effect_on : Runner → Insn → Effect
 effect_on r i = effect (refused_by (view_of r.window)) (held_by (view_of r.window)) r.processor i
 
--- by the answer: it went on, or it is a system call, faults or is illegal, and nothing changed
+-- by the answer: it went on, or it is a system call, faults, is illegal or is the first halfword of two, and nothing changed
 abbrev pub Did : Runner → Decoded → Bool → Runner → Type 0
 Did a (Narrow i) true b = Acts IsStored IsTaken a.processor b.processor a.window b.window outcome.Next (effect_on a i)
 Did a (Narrow i) false b = Halts (effect_on a i) × (b ≡ a)
 Did a Illegal true b = ⊥
 Did a Illegal false b = b ≡ a
+Did a NeedsSecond true b = ⊥
+Did a NeedsSecond false b = b ≡ a
 Did a d r b = ⊥

@@ -298,6 +298,11 @@ impl Taker for Runner {
     fn illegal(&mut self) -> bool {
         false
     }
+
+    #[inline(always)]
+    fn needs_second(&mut self) -> bool {
+        false
+    }
 }
 
 impl Runner {
@@ -316,10 +321,14 @@ impl Runner {
         let Some(first) = self.window.code_half(at, places) else {
             return false;
         };
+        if narrow_to(first, self) {
+            return true;
+        }
+        // Wide ones are rare, and are looked for here for speed: others need no test of it.
         if first / 2048 >= 29 {
             return self.step_wide(at, first, places);
         }
-        narrow_to(first, self)
+        false
     }
 
     /// The same where this first halfword begins a wide instruction.

@@ -1,19 +1,12 @@
 -- Lists of lines, and folds over them.
 use Rattle.std.proofs.Common.{◌≡◌, ◌+◌, ◌<◌, ◌≤◌, ◌⊎◌, inl, inr, ℕ, zero, suc, Bool, true, false, cond, List, [], ◌∷◌, length, map, take, Some, None, refl, sym, ◌∙◌, ap, arith, get_or}
+use Rattle.std.proofs.lemmas.Option.{get_or_from_slice_get}
+use Rattle.std.proofs.lemmas.Bool.{cases_Bool}
 use Rattle.std.specs.Prelude.{filter, find, fold, slice_get}
 use Rattle.std.specs.List.{range_with_len, list_any}
 use Rattle.std.specs.Option.{option_map}
 use Rattle.timer_irq.specs.Midway.{with_next}
-
-bool_cases : (b : Bool) → (b ≡ true) ⊎ (b ≡ false)
-bool_cases true = inl refl
-bool_cases false = inr refl
-
-no_some : {A P : Type 0} {a : A} → None ≡ Some a → P
-no_some e = cc
-
-same_some : {A : Type 0} {a b : A} → Some a ≡ Some b → a ≡ b
-same_some e = cc
+use Rattle.task_table.proofs.Clients.{no_some, same_some}
 
 -- one more place at the end of a range
 fold_range_suc : {B : Type 0} (f : B → ℕ → B) (b : B) (a n : ℕ) → fold f b (range_with_len a (suc n)) ≡ f (fold f b (range_with_len a n)) (a + n)
@@ -22,12 +15,6 @@ fold_range_suc f b a (suc n) = let e : a + 1 + n ≡ a + suc n = omega arith in 
 
 pub fold_range_more : {B : Type 0} (f : B → ℕ → B) (b : B) (n : ℕ) → fold f b (range_with_len 0 (n + 1)) ≡ f (fold f b (range_with_len 0 n)) n
 fold_range_more f b n = let e : n + 1 ≡ suc n = omega arith in let z : 0 + n ≡ n = omega arith in rw e (fold_range_suc f b 0 n ∙ ap (f (fold f b (range_with_len 0 n))) z)
-
--- what stands at a place, or else
-pub get_some : {A : Type 0} (xs : List A) (i : ℕ) (x d : A) → slice_get xs i ≡ Some x → get_or xs i d ≡ x
-get_some [] i x d h = no_some h
-get_some (y ∷ ys) zero x d h = same_some h
-get_some (y ∷ ys) (suc i) x d h = get_some ys i x d h
 
 pub get_none : {A : Type 0} (xs : List A) (i : ℕ) (d : A) → slice_get xs i ≡ None → get_or xs i d ≡ d
 get_none [] i d h = refl
@@ -76,7 +63,7 @@ get_mapped f (y ∷ ys) (suc i) = get_mapped f ys i
 pub find_at : {A : Type 0} (p : A → Bool) (xs : List A) (i : ℕ) (d : A) → i < length xs → find p (take i xs) ≡ None → p (get_or xs i d) ≡ true → find p xs ≡ Some (get_or xs i d)
 find_at p [] i d below none here = absurd (omega arith)
 find_at p (x ∷ xs) zero d below none here = rw here refl
-find_at p (x ∷ xs) (suc i) d below none here = elim (bool_cases (p x)) [
+find_at p (x ∷ xs) (suc i) d below none here = elim (cases_Bool (p x)) [
   | inl e ↦ no_some (sym (rw e at none))
   | inr e ↦ rw e (find_at p xs i d (omega arith) (rw e at none) here)
 ]
@@ -93,7 +80,7 @@ find_whole p xs i h none = ap (find p) (sym (take_whole xs i h)) ∙ none
 more_found : {A : Type 0} (p : A → Bool) (xs : List A) (i : ℕ) (d : A) → find p (take i xs) ≡ None → p (get_or xs i d) ≡ false → find p (take (suc i) xs) ≡ None
 more_found p [] i d none here = refl
 more_found p (x ∷ xs) zero d none here = rw here refl
-more_found p (x ∷ xs) (suc i) d none here = elim (bool_cases (p x)) [
+more_found p (x ∷ xs) (suc i) d none here = elim (cases_Bool (p x)) [
   | inl e ↦ no_some (sym (rw e at none))
   | inr e ↦ rw e (more_found p xs i d (rw e at none) here)
 ]

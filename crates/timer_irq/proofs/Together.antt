@@ -45,10 +45,6 @@ any_suc {A} p q (x ∷ xs) (suc i) d below = go (q x) (any_suc p q xs i d (omega
 any_more : {A : Type 0} (p q : A → Bool) (xs : List A) (i : ℕ) (d : A) → i < length xs → (list_any p (filter q (take i xs)) || cond (q (get_or xs i d)) (p (get_or xs i d)) false) ≡ list_any p (filter q (take (i + 1) xs))
 any_more p q xs i d below = let e : i + 1 ≡ suc i = omega arith in rw e (any_suc p q xs i d below)
 
--- one line more, where it passes
-passing : State → (LineSetup → Bool) → LineSetup → Line
-passing s q o = cond (q o) (line_at s o.line) no_line
-
 part_of : (f : Line → Bool) → f no_line ≡ false → (s : State) (q : LineSetup → Bool) (o : LineSetup) → f (cond (q o) (line_at s o.line) no_line) ≡ cond (q o) (f (line_at s o.line)) false
 part_of f none s q o = go (q o)
   where

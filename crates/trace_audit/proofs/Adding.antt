@@ -1,6 +1,6 @@
 -- One more line in a book.
 use Rattle.std.proofs.Common.{◌≡◌, ℕ, ◌<◌, ◌≤◌, inl, inr, Bool, true, false, eqb, not, ◌&&◌, ◌||◌, List, [], ◌∷◌, ◌++◌, length, map, Option, Some, None, refl, sym, subst, ap, ◌∙◌, arith}
-use Rattle.std.proofs.lemmas.Bool.{false≢true}
+use Rattle.std.proofs.lemmas.Bool.{false≢true, and_parts, and_from, not-true, eqb-true, eq-eqb}
 use Rattle.std.proofs.lemmas.Bool.Decides.{eqb_tells}
 use Rattle.std.proofs.lemmas.List.Folds.{list_any-append}
 use Rattle.trace_audit.specs.declared.book.Book.{Book}
@@ -112,23 +112,6 @@ offered_same k j e = cc
 taken_same : (k j : ℕ) → wait.Taken k ≡ wait.Taken j → k ≡ j
 taken_same k j e = cc
 
-both_true : (a b : Bool) → (a && b) ≡ true → (a ≡ true) × (b ≡ true)
-both_true true b h = (refl, h)
-both_true false b h = true_false (sym h)
-
-and_true : (a b : Bool) → a ≡ true → b ≡ true → (a && b) ≡ true
-and_true a b p q = rw (p, q) refl
-
-not_true : (b : Bool) → not b ≡ true → b ≡ false
-not_true true h = true_false (sym h)
-not_true false h = refl
-
-eqb_same : (a b : ℕ) → eqb a b ≡ true → a ≡ b
-eqb_same a b h = elim (eqb_tells a b) [ inl e ↦ e.1 | inr e ↦ true_false (sym h ∙ e.0) ]
-
-same_eqb : (a b : ℕ) → a ≡ b → eqb a b ≡ true
-same_eqb a b h = elim (eqb_tells a b) [ inl e ↦ e.0 | inr e ↦ absurd (e.1 h) ]
-
 module _ (before : List Saying) (x : Calls) (h : IsTold before x) (i : ℕ) where
   -- whether the task waits as it should
   abbrev Judges : Wait → Bool → Type 0
@@ -168,10 +151,10 @@ module _ (before : List Saying) (x : Calls) (h : IsTold before x) (i : ℕ) wher
 
   not_offered_so : (z : Open) → x.held i ≡ Some z → (k : ℕ) → (b : Bool) → z.taken ≡ b → (eqb z.call k && not z.taken) ≡ false → ¬ IsGoodWait before i (wait.Offered k)
   not_offered_so z e k true t is = λ g. let p = (g.offered k).0 refl in let n = only before x h k i z e p.0 p.1 in p.2 (subst (λ m. IsTaken before m) n ((h.kept i z e).yes t))
-  not_offered_so z e k false t is = λ g. let p = (g.offered k).0 refl in let n = only before x h k i z e p.0 p.1 in true_false (sym (and_true _ _ (same_eqb z.call k n) (ap not t)) ∙ is)
+  not_offered_so z e k false t is = λ g. let p = (g.offered k).0 refl in let n = only before x h k i z e p.0 p.1 in true_false (sym (and_from _ _ (eq-eqb z.call k n) (ap not t)) ∙ is)
 
   not_taken_so : (z : Open) → x.held i ≡ Some z → (k : ℕ) → (b : Bool) → z.taken ≡ b → (eqb z.call k && z.taken) ≡ false → ¬ IsGoodWait before i (wait.Taken k)
-  not_taken_so z e k true t is = λ g. let p = (g.taken k).0 refl in let n = only before x h k i z e p.0 p.1 in true_false (sym (and_true _ _ (same_eqb z.call k n) t) ∙ is)
+  not_taken_so z e k true t is = λ g. let p = (g.taken k).0 refl in let n = only before x h k i z e p.0 p.1 in true_false (sym (and_from _ _ (eq-eqb z.call k n) t) ∙ is)
   not_taken_so z e k false t is = λ g. let p = (g.taken k).0 refl in let n = only before x h k i z e p.0 p.1 in (h.kept i z e).no t (subst (λ m. IsTaken before m) (sym n) p.2)
 
   pub judged : (o : Option Open) → x.held i ≡ o → (w : Wait) (good : Bool) → waits_as o w ≡ good → Judges w good
@@ -186,9 +169,9 @@ module _ (before : List Saying) (x : Calls) (h : IsTold before x) (i : ℕ) wher
   judged None e (wait.Taken k) false is = λ g. let p = (g.taken k).0 refl in no_call e k p.0 p.1
   judged (Some z) e wait.Other true is = true_false (sym is)
   judged (Some z) e wait.Other false is = other_with z e z.taken refl
-  judged (Some z) e (wait.Offered k) true is = let p = both_true _ _ is in as_offered z e k (eqb_same z.call k p.0) (not_true z.taken p.1)
+  judged (Some z) e (wait.Offered k) true is = let p = and_parts _ _ is in as_offered z e k (eqb-true z.call k p.0) (not-true z.taken p.1)
   judged (Some z) e (wait.Offered k) false is = not_offered_so z e k z.taken refl is
-  judged (Some z) e (wait.Taken k) true is = let p = both_true _ _ is in as_taken z e k (eqb_same z.call k p.0) p.1
+  judged (Some z) e (wait.Taken k) true is = let p = and_parts _ _ is in as_taken z e k (eqb-true z.call k p.0) p.1
   judged (Some z) e (wait.Taken k) false is = not_taken_so z e k z.taken refl is
 
 -- the line of a task

@@ -1,24 +1,20 @@
 -- Where lines and words end.
 use Rattle.std.proofs.Common.{◌≡◌, ℕ, suc, zero, ◌+◌, ◌-◌, ◌<◌, ◌≤◌, List, [], ◌∷◌, length, get_or, take, drop, refl, ap, ◌∙◌, sym, arith, Bool, true, false, eqb, cond}
+use Rattle.std.proofs.lemmas.Bool.{ne_eqb, eq-eqb}
 use Rattle.std.proofs.Common.{add-one}
 use Rattle.std.proofs.lemmas.List.{length-drop}
 use Rattle.std.proofs.Math.Seq.{take-length}
 use Rattle.text_lines.specs.Text.{with_first}
 use Rattle.trace_audit.specs.Texts.{lines_of, pieces_of}
-
-eq_false : (c d : ℕ) → (c ≡ d → ⊥) → eqb c d ≡ false
-eq_false c d h = grind arith
-
-eq_true : (c d : ℕ) → c ≡ d → eqb c d ≡ true
-eq_true c d h = grind arith
+use Rattle.text_lines.proofs.Ends.{take_rest, drop_over}
 
 piece_end : (end : ℕ) (c : ℕ) (cs : List ℕ) → c ≡ end → pieces_of end (c ∷ cs) ≡ [] ∷ pieces_of end cs
 unfolding pieces_of
-piece_end end c cs e = rw (eq_true c end e) refl
+piece_end end c cs e = rw (eq-eqb c end e) refl
 
 piece_more : (end : ℕ) (c : ℕ) (cs : List ℕ) → (c ≡ end → ⊥) → pieces_of end (c ∷ cs) ≡ with_first c (pieces_of end cs)
 unfolding pieces_of
-piece_more end c cs h = rw (eq_false c end h) refl
+piece_more end c cs h = rw (ne_eqb c end h) refl
 
 piece_none : (end : ℕ) → pieces_of end [] ≡ [] ∷ []
 unfolding pieces_of
@@ -37,11 +33,11 @@ pieces_whole end (c ∷ cs) h = piece_more end c cs (h 0 (omega arith)) ∙ ap (
 
 line_end : (c : ℕ) (cs : List ℕ) → c ≡ 10 → lines_of (c ∷ cs) ≡ [] ∷ lines_of cs
 unfolding lines_of
-line_end c cs e = rw (eq_true c 10 e) refl
+line_end c cs e = rw (eq-eqb c 10 e) refl
 
 line_more : (c : ℕ) (cs : List ℕ) → (c ≡ 10 → ⊥) → lines_of (c ∷ cs) ≡ with_first c (lines_of cs)
 unfolding lines_of
-line_more c cs h = rw (eq_false c 10 h) refl
+line_more c cs h = rw (ne_eqb c 10 h) refl
 
 pub line_none : lines_of [] ≡ []
 unfolding lines_of
@@ -64,17 +60,8 @@ lines_empty (c ∷ cs) h = absurd (omega arith)
 
 -- ## as slices are cut
 
-pub take_rest : (s : List ℕ) (k : ℕ) → take (length s - k) (drop k s) ≡ drop k s
-take_rest s k = ap (λ n. take n (drop k s)) (sym (length-drop k s)) ∙ take-length (drop k s)
-
 pub cut_line : (s : List ℕ) (k : ℕ) → k < length s → ((j : ℕ) → j < k → get_or s j 0 ≡ 10 → ⊥) → get_or s k 0 ≡ 10 → lines_of s ≡ take k s ∷ lines_of (take (length s - (k + 1)) (drop (k + 1) s))
 cut_line s k lt h e = lines_at s k lt h e ∙ ap (λ n. take k s ∷ lines_of (drop n s)) (sym (add-one k)) ∙ ap (λ r. take k s ∷ lines_of r) (sym (take_rest s (k + 1)))
-
-drop_over : (s : List ℕ) (k : ℕ) → length s ≤ k → drop k s ≡ []
-drop_over [] zero h = refl
-drop_over [] (suc k) h = refl
-drop_over (c ∷ cs) zero h = absurd (omega arith)
-drop_over (c ∷ cs) (suc k) h = drop_over cs k (omega arith)
 
 take_over : (s : List ℕ) (k : ℕ) → length s ≤ k → take k s ≡ s
 take_over [] zero h = refl

@@ -96,9 +96,6 @@ module _ (before : List Saying) (x : Calls) (h : IsTold before x) where
     free = λ j offered still. let l = h.left j i offered still in none_some (sym free ∙ l.1);
   }
 
-  pub wrong_number : (k i : ℕ) → k ≢ length x.clients + 1 → ¬ MayOffer before k i
-  wrong_number k i ne may = ne (may.number ∙ ap (λ n. n + 1) (sym h.number))
-
   pub not_free : (k i : ℕ) (o : Open) → x.held i ≡ Some o → ¬ MayOffer before k i
   not_free k i o e may = let a = h.kept i o e in may.free o.call a.offered a.still
 
@@ -118,9 +115,6 @@ module _ (before : List Saying) (x : Calls) (h : IsTold before x) where
 
   pub may_close : (k i : ℕ) (taken answer : Bool) → IsOpenAs before k i taken → (answer ≡ true → taken ≡ true) → MayClose before k answer
   may_close k i taken answer a was = record { offered = (i, a.offered); first = a.still; answered = λ e. a.yes (was e) }
-
-  pub not_answered : (k i : ℕ) → IsOpenAs before k i false → ¬ MayClose before k true
-  not_answered k i a may = a.no refl (may.answered refl)
 
   pub not_close : (k : ℕ) (answer : Bool) → ((i : ℕ) → IsOffered before k i → ¬ IsClosed before k → ⊥) → ¬ MayClose before k answer
   not_close k answer never may = never may.offered.0 may.offered.1 may.first

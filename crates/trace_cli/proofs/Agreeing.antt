@@ -1,11 +1,11 @@
 -- Contents that are seen, and contents that may be: how far files are accepted with both.
 use Rattle.std.proofs.Common.{◌≡◌, ℕ, ◌<◌, ◌≤◌, List, [], ◌∷◌, length, Option, Some, None, refl, sym, ap, subst, ◌∙◌, arith}
 use Rattle.std.specs.Prelude.{slice_get}
-use Rattle.std.proofs.lemmas.Option.{same_Some}
+use Rattle.std.proofs.lemmas.Option.{same_Some, slice_get_within}
 use Rattle.kernel_abi.specs.Devices.{DeviceData}
-use Rattle.command_line.specs.CommandLine.{Asked, build, run, go, list, sample, migrate, audit, save, resume, debug}
+use Rattle.command_line.specs.CommandLine.{Asked, build, run, go, list, sample, migrate, audit, save, resume, debug, help}
 use Rattle.trace_cli.specs.Sources.{File, files_of, files_by, first_of, MayBe, Are, Takes}
-use Rattle.trace_cli.proofs.Lists.{get_below, is_below, same_lists}
+use Rattle.trace_cli.proofs.Lists.{get_below, same_lists}
 
 -- the first file of a job does not depend on contents
 first_file : (devices : List DeviceData) (job : Asked) (a b : List ℕ) → slice_get (files_of devices job a) 0 ≡ slice_get (files_of devices job b) 0
@@ -19,6 +19,7 @@ first_file devices (audit trace) a b = refl
 first_file devices (save image script out steps) a b = refl
 first_file devices (resume image script state steps detail) a b = refl
 first_file devices (debug image script commands) a b = refl
+first_file devices (help about) a b = refl
 
 pub same_held : (seen : List ℕ → Option (List ℕ)) (name c d : List ℕ) → seen name ≡ Some c → MayBe seen name d → d ≡ c
 same_held seen name c d is may = may c is
@@ -61,6 +62,6 @@ may_further seen devices job cs ds are may lt =
 pub same_contents : (seen : List ℕ → Option (List ℕ)) (devices : List DeviceData) (job : Asked) (cs ds : List (List ℕ)) → Takes (Are seen) (files_by devices job cs) cs → Takes (MayBe seen) (files_by devices job ds) ds
     → length cs ≡ length ds → cs ≡ ds
 same_contents seen devices job cs ds are may e = same_lists cs ds e (λ k c d i j.
-    let at = is_below cs k c i in
-    let too = is_below ds k d j in
+    let at = slice_get_within cs k c i in
+    let too = slice_get_within ds k d j in
     same_entry seen (files_by devices job cs) (files_by devices job ds) cs ds are may k (same_files seen devices job cs ds are may k (omega arith) (omega arith)) c d i j)

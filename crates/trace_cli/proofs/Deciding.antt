@@ -1,12 +1,12 @@
 -- Where the contents are seen: a reason gives the one verdict, but that a file cannot be read.
 use Rattle.std.proofs.Common.{◌≡◌, ℕ, zero, suc, ◌<◌, ◌⊎◌, Bool, false, List, length, Option, Some, None, [], refl, sym, ap, subst, ◌∙◌, inl, inr, arith, cond}
 use Rattle.std.specs.Prelude.{slice_get, slice_index_or, Result, Ok}
-use Rattle.std.proofs.lemmas.Option.{same_Some}
+use Rattle.std.proofs.lemmas.Option.{same_Some, slice_get_within}
 use Rattle.kernel_abi.specs.Devices.{DeviceData}
 use Rattle.outside_io.specs.Outside.{WhereSeen}
 use Rattle.image_format.specs.Picture.{Picture}
 use Rattle.sample_gen.specs.Sample.{sample_app, sample_sources}
-use Rattle.command_line.specs.CommandLine.{Asked, build, run, go, list, sample, migrate, audit, save, resume, debug, is_accepted, job_of}
+use Rattle.command_line.specs.CommandLine.{Asked, build, run, go, list, sample, migrate, audit, save, resume, debug, help, is_accepted, job_of}
 use Rattle.debug_core.specs.declared.command.Command.{Command}
 use Rattle.debug_core.specs.Reading.{commands_or_fault}
 use Rattle.build_laws.proofs.OnePicture.{one_picture}
@@ -18,7 +18,6 @@ use Rattle.trace_cli.specs.Sources.{File, files_by, MayBe, Are, Reaches, TakesAl
 use Rattle.trace_cli.specs.Verdict as verdict
 use Rattle.trace_cli.specs.Verdict.{Verdict, IsVerdict, Does, usage, refused, unread, ran, built, sampled, debugged, audited}
 use Rattle.trace_cli.specs.Answer.{JobReason, cannot_read, refuses, does, IsUnread, IsRefused, Reason, no_job, of_job}
-use Rattle.trace_cli.proofs.Lists.{is_below}
 use Rattle.trace_cli.proofs.Faulting.{where_seen}
 use Rattle.trace_cli.proofs.Agreeing.{same_files, seen_further, may_further, same_contents}
 
@@ -44,6 +43,7 @@ same_done devices (save image script out steps) cs u v p q = p ∙ sym q
 same_done devices (resume image script state steps detail) cs u v p q = p ∙ sym q
 same_done devices (debug image script name) cs u v p q =
     p.2 ∙ ap (debugged (scenario_in devices cs)) (same_commands (commands_or_fault (slice_index_or cs 2 [])) p.0 q.0 p.1 q.1) ∙ sym q.2
+same_done devices (help about) cs u v p q = p ∙ sym q
 
 -- ## three ways in which lengths meet
 
@@ -83,7 +83,7 @@ not_refused seen f g why c d alike is refusal may none =
 
 -- at the end there is no file
 no_file : (files : List File) (k : ℕ) (f : File) → length files ≡ k → slice_get files k ≡ Some f → ⊥
-no_file files k f e at = let below = is_below files k f at in absurd (omega arith)
+no_file files k f e at = let below = slice_get_within files k f at in absurd (omega arith)
 
 -- two refusals are one
 same_refusal : {devices : List DeviceData} (seen : List ℕ → Option (List ℕ)) (job : Asked) (f g : File) (why why' : Why) (cs : List (List ℕ)) (c : List ℕ) → IsRefused devices job seen f why

@@ -15,3 +15,4 @@ pub mod Faulting
 pub mod Taking
 pub mod Handed
 pub mod GoingOn
+pub mod OnlyReading

@@ -9,11 +9,6 @@ get_below [] k lt = absurd (omega arith)
 get_below (x ∷ xs) zero lt = (x, refl)
 get_below (x ∷ xs) (suc k) lt = get_below xs k (omega arith)
 
-pub is_below : {A : Type 0} (xs : List A) (k : ℕ) (x : A) → slice_get xs k ≡ Some x → k < length xs
-is_below [] k x e = absurd (cc)
-is_below (y ∷ ys) zero x e = omega arith
-is_below (y ∷ ys) (suc k) x e = let below = is_below ys k x e in omega arith
-
 pub get_more : {A : Type 0} (xs ys : List A) (k : ℕ) (x : A) → slice_get xs k ≡ Some x → slice_get (xs ++ ys) k ≡ Some x
 get_more [] ys k x e = absurd (cc)
 get_more (z ∷ zs) ys zero x e = e

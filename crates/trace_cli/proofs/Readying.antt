@@ -15,7 +15,7 @@ use Rattle.outside_io.specs.Outside.{Rose}
 use Rattle.audit_runs.specs.Last.{IsGoodText}
 use Rattle.trace_audit.specs.declared.verdict.Verdict as trace
 use Rattle.trace_audit.specs.declared.verdict.Verdict.TheVariants.{Yes, No}
-use Rattle.command_line.specs.CommandLine.{Asked, build, run, go, list, sample, migrate, audit, save, resume, debug}
+use Rattle.command_line.specs.CommandLine.{Asked, build, run, go, list, sample, migrate, audit, save, resume, debug, help}
 use Rattle.command_line.specs.declared.job.Detail.{Detail}
 use Rattle.debug_core.specs.declared.command.Command.{Command}
 use Rattle.trace_cli.specs.declared.file_faults.NamedFault.{NamedFault}
@@ -25,7 +25,7 @@ use Rattle.outside_io.specs.Seen.{FilesSeen, SinkSeen}
 use Rattle.trace_cli.specs.Sources.{File, image_file, script_file, state_file, trace_file, commands_file, files_of, files_by, files_to_build, first_of, MayBe, Takes, IsBuilt, script_in, scenario_in, state_by}
 use Rattle.trace_cli.specs.FileFaults.{IsNamedFaultOf}
 use Rattle.trace_cli.specs.Building.{IsImage, IsNamedFaultInApp}
-use Rattle.trace_cli.specs.Ready.{IsImageFile, IsScriptFile, IsSet, IsReady, IsSaveReady, IsLoaded, IsStateSet, IsResumable, IsCommandsFile, IsDebugReady, IsAuditOf, IsNamedFaultIn}
+use Rattle.trace_cli.specs.Ready.{StartsWell, StartsSeen, IsImageFile, IsScriptFile, IsSet, IsReady, IsSaveReady, IsLoaded, IsStateSet, IsResumable, IsCommandsFile, IsDebugReady, IsAuditOf, IsNamedFaultIn}
 use Rattle.trace_cli.specs.Pushed.{Pushed, whole, cut, Says, pushed, silent, IsSilent, SaysNamedFault}
 use Rattle.trace_cli.specs.Verdict.{Verdict, refused, unread, ran, listed, built, saved, resumed, debugged, audited}
 use Rattle.trace_cli.specs.Answer as answer
@@ -151,6 +151,13 @@ resume_ready {X} {H} {shown} {devices} seen image script state m detail picture 
       each = loaded.each;
       turns = t.turns;
     }
+
+-- the run of an image and a script that were read starts well: so does that of what is seen of them
+pub starts_seen : {devices : List DeviceData} (seen : List ℕ → Option (List ℕ)) (image script : List ℕ) (picture : Picture) (events : ScriptData) → IsImageFile seen image picture → IsScriptFile seen script events → StartsWell (opened.scenario_of picture events devices) → StartsSeen devices seen image script
+starts_seen {devices} seen image script picture events i s well = λ ib sb has_image has_script.
+    let of_picture : picture ≡ picture_of ib = i.is ∙ ap picture_of (i.held ib has_image) in
+    let of_events : events ≡ script_of sb = s.is ∙ ap script_of (s.held sb has_script) in
+    subst (λ (d : ScriptData). StartsWell (opened.scenario_of (picture_of ib) d devices)) of_events (subst (λ (p : Picture). StartsWell (opened.scenario_of p events devices)) of_picture well)
 
 pub resume_image_faults : {devices : List DeviceData} (a c : FilesSeen) (image script state : List ℕ) (m : ℕ) (detail : Detail) (h : NamedFault) → IsNamedFaultOf a c (image_file image) h → IsNamedFaultIn devices (resume image script state m detail) a c h
 resume_image_faults a c image script state m detail h fault = faults_first (resume image script state m detail) (image_file image) a c h refl fault
@@ -334,6 +341,7 @@ tells_good (audit trace) v r h = tt
 tells_good (save image script out steps) v r h = tt
 tells_good (resume image script state steps detail) v r h = tt
 tells_good (debug image script commands) v r h = tt
+tells_good (help about) v r h = tt
 
 no_run : (r : ℕ) → 1 ≤ r → r ≤ 5 → IsOfRun r → ⊥
 no_run r low high (inl z) = omega arith

@@ -1,9 +1,7 @@
 -- Why an application or a source is refused, by what its builder says.
-use Rattle.std.proofs.Common.{◌≡◌, ℕ, ◌<◌, ◌≤◌, ◌↔◌, ◌++◌, Bool, true, false, List, length, Option, Some, None, refl, sym, ap, ◌∙◌, arith, ltb, cond, nat_lt, codes}
+use Rattle.std.proofs.Common.{◌≡◌, ℕ, ◌<◌, ◌≤◌, ◌↔◌, ◌++◌, true, false, List, length, Option, Some, None, refl, sym, ap, ◌∙◌, arith, ltb, cond, nat_lt, codes}
 use Rattle.std.specs.Prelude.{decimal, option_map, Ok, Err}
-use Rattle.std.proofs.lemmas.Bool.{ltb-false}
 use Rattle.std.proofs.lemmas.Bool.Decides.{nat_tests}
-use Rattle.std.proofs.lemmas.Option.{none-some}
 use Rattle.app_toml.specs.Apps.{AppData}
 use Rattle.app_toml.specs.Reading.{read_app}
 use Rattle.text_lines.specs.Text.{lines_of}
@@ -85,23 +83,6 @@ pub state_late : (devices : List DeviceData) (image : Picture) (bound turn : ℕ
     → turn ≡ (header_at bytes).turn → bound < turn → state_refusal devices image bound bytes ≡ Some (at_number (8, 4))
 state_late devices image bound turn bytes le is at more =
     by_state_fault devices image bound bytes None le is ∙ ap (λ (t : ℕ). cond (nat_lt bound t) (Some (at_number (8, 4))) None) (sym at) ∙ behind bound turn more
-
-not_chosen : (b : Bool) (why : Why) (o : Option Why) → cond b (Some why) o ≡ None → (b ≡ false) × (o ≡ None)
-not_chosen true why o e = absurd (none-some why (sym e))
-not_chosen false why o e = (refl, e)
-
-no_cause : (o : Option (ℕ × ℕ)) (later : Option Why) → or_later (option_map at_number o) later ≡ None → (o ≡ None) × (later ≡ None)
-no_cause None later e = (refl, e)
-no_cause (Some p) later e = absurd (none-some (at_number p) (sym e))
-
--- what an accepted state is known by
-pub state_accepted : (devices : List DeviceData) (image : Picture) (bound : ℕ) (bytes : List ℕ) → state_refusal devices image bound bytes ≡ None
-    → (state_fault (expected_of (setup_of_image image) devices) bytes ≡ None) × ((header_at bytes).turn ≤ bound)
-unfolding state_refusal
-state_accepted devices image bound bytes e =
-    let within_limit = not_chosen (nat_lt file_limit (length bytes)) _ _ e in
-    let causes = no_cause (state_fault (expected_of (setup_of_image image) devices) bytes) (turn_refusal bound bytes) within_limit.1 in
-    (causes.0, ltb-false bound (header_at bytes).turn (not_chosen (nat_lt bound (header_at bytes).turn) _ None causes.1).0)
 
 -- ## a trace
 

@@ -1,18 +1,18 @@
 -- `build` and then `run` write what `go` writes.
 use Rattle.std.proofs.Common.{◌≡◌, ◌≢◌, ℕ, suc, List, [], ◌∷◌, ◌++◌, length, Option, Some, None, refl, sym, ap, subst, ◌∙◌, arith}
 use Rattle.std.specs.Prelude.{slice_get}
-use Rattle.std.proofs.lemmas.Option.{same_Some}
+use Rattle.std.proofs.lemmas.Option.{same_Some, slice_get_within}
 use Rattle.kernel_abi.specs.Devices.{DeviceData}
 use Rattle.outside_io.specs.Outside.{WhereSeen}
 use Rattle.image_format.specs.Picture.{Picture, spelling}
-use Rattle.command_line.specs.CommandLine.{Asked, build, run, go, sample}
+use Rattle.command_line.specs.CommandLine.{Asked, build, run, go}
 use Rattle.command_line.specs.declared.job.Detail.{Detail}
 use Rattle.trace_cli.specs.Contents.{Why, image_refusal, script_refusal, picture_of, application_of, scenario_of}
 use Rattle.trace_cli.specs.Words.{job_in}
 use Rattle.trace_cli.specs.Sources.{File, image_file, script_file, files_to_build, Are, Takes, Reaches, TakesAll, IsBuilt, script_in}
 use Rattle.trace_cli.specs.Verdict.{Verdict, IsVerdict, no_job, refuses, does, Does, refused, ran}
 use Rattle.trace_cli.specs.Answer.{HasPut}
-use Rattle.trace_cli.proofs.Lists.{longer, is_below, takes_wider, takes_last}
+use Rattle.trace_cli.proofs.Lists.{longer, takes_wider, takes_last}
 use Rattle.trace_cli.proofs.Taking.{as_many_sources}
 use Rattle.trace_cli.proofs.Readying.{files_then, go_image, go_script}
 use Rattle.trace_cli.proofs.Deciding.{no_job_of, no_refusal}
@@ -110,7 +110,7 @@ after_refusal words seen seen' app out script n detail (d ∷ []) f c why w at r
     let mine : script_refusal c ≡ Some why = subst (λ (g : File). g.refusal c ≡ Some why) file refusal in
     go_refuses words seen app script n detail r.image c why w at r.has (sym r.script_stays ∙ there) mine (e ∙ ap (λ (g : File). refused g.name why) file)
 after_refusal words seen seen' app out script n detail (d ∷ d' ∷ ds) f c why w at r next held refusal e =
-    let below = is_below (image_file out ∷ script_file script ∷ []) (length (d ∷ d' ∷ ds)) f next in absurd (omega arith)
+    let below = slice_get_within (image_file out ∷ script_file script ∷ []) (length (d ∷ d' ∷ ds)) f next in absurd (omega arith)
 
 -- the contents of a file that is known
 held_of : (seen : List ℕ → Option (List ℕ)) (f g : File) (c : List ℕ) → Some f ≡ Some g → seen g.name ≡ Some c → seen f.name ≡ Some c

@@ -9,7 +9,7 @@ use Rattle.image_build.specs.Building.{Refuses}
 use Rattle.image_build.specs.declared.fault.BuildFault.{BuildFault}
 use Rattle.image_build.specs.declared.fault.BuildFault.TheVariants as fault
 use Rattle.run_script.specs.Scripts.{ScriptData}
-use Rattle.sample_gen.specs.Sample.{app_by, task_by, source_of, client_priority, sample_app, sample_sources, sample_script}
+use Rattle.sample_gen.specs.Sample.{source_of, client_priority, sample_app, sample_sources, sample_script}
 use Rattle.board_core.specs.Data.{Shows}
 use Rattle.board_core.specs.declared.board.Board.{Board}
 use Rattle.board_core.specs.Opened as opened
@@ -25,11 +25,9 @@ use Rattle.trace_cli.specs.Verdict.{sampled}
 use Rattle.trace_cli.specs.Answer.{JobReason, does, AnswersJob}
 use Rattle.trace_cli.proofs.Lists.{takes_none}
 use Rattle.trace_cli.proofs.Readying.{answers_pushed}
+use Rattle.build_laws.proofs.Build.{count}
 
 -- ## what is made of a seed
-
-task_count : (p : ℕ → ℕ) → length (app_by p).tasks ≡ 32
-task_count p = length-map-range_with_len (task_by p) 0 32
 
 source_count : (seed : ℕ) → length (sample_sources seed) ≡ 32
 source_count seed = length-map-range_with_len (source_of seed) 0 32
@@ -37,7 +35,7 @@ source_count seed = length-map-range_with_len (source_of seed) 0 32
 -- a source for each task
 pub a_source_each : (seed : ℕ) (app : AppData) (sources : List (List ℕ)) → app ≡ sample_app seed → sources ≡ sample_sources seed → length sources ≡ length app.tasks
 a_source_each seed app sources is are =
-    ap (λ (ss : List (List ℕ)). length ss) are ∙ source_count seed ∙ sym (task_count (client_priority seed)) ∙ sym (ap (λ (a : AppData). length a.tasks) is)
+    ap (λ (ss : List (List ℕ)). length ss) are ∙ source_count seed ∙ sym (count (client_priority seed)) ∙ sym (ap (λ (a : AppData). length a.tasks) is)
 
 pub refused_as_sample : (seed : ℕ) (app : AppData) (sources : List (List ℕ)) (f : BuildFault) → app ≡ sample_app seed → sources ≡ sample_sources seed
     → ((s : ℕ) (g : BuildFault) → Refuses (sample_app s) (sample_sources s) g → g ≡ fault.Memory) → Refuses app sources f → f ≡ fault.Memory

@@ -5,7 +5,7 @@ use Rattle.kernel_abi.specs.Devices.{DeviceData}
 use Rattle.outside_io.specs.Outside.{Rose}
 use Rattle.board_model.specs.declared.outcomes.End.{End}
 use Rattle.board_model.specs.declared.outcomes.End.TheVariants.{Bound, Still, Supervisor}
-use Rattle.command_line.specs.CommandLine.{Asked, build, run, go, list, sample, migrate, audit, save, resume, debug, is_accepted, job_of}
+use Rattle.command_line.specs.CommandLine.{Asked, build, run, go, list, sample, migrate, audit, save, resume, debug, help, is_accepted, job_of}
 use Rattle.trace_audit.specs.declared.verdict.Verdict as trace
 use Rattle.trace_audit.specs.declared.verdict.Verdict.TheVariants.{Yes, No}
 use Rattle.outside_io.specs.Seen.{FilesSeen, SinkSeen}
@@ -95,6 +95,7 @@ done_status devices (audit name) cs v p = of_audit v.status (audited p.0).status
 done_status devices (save image script out steps) cs v p = inl (status_as v _ p)
 done_status devices (resume image script state steps detail) cs v p = ran_as v _ _ p
 done_status devices (debug image script name) cs v p = inl (status_as v _ p.2)
+done_status devices (help about) cs v p = inl (status_as v _ p)
 
 not_done : (v : Verdict) (n : ℕ) → IsDone v.status → v.status ≡ n → (n ≡ 0 → ⊥) → (6 ≤ n → ⊥) → ⊥
 not_done v n (inl z) e not0 not6 = not0 (sym e ∙ z)
@@ -280,6 +281,7 @@ done_puts devices words (audit name) cs v at p = alone words v (audited p.0) p.2
 done_puts devices words (save image script out steps) cs v at p = under words v out _ _ p (ap out_of at)
 done_puts devices words (resume image script state steps detail) cs v at p = alone words v _ p refl
 done_puts devices words (debug image script name) cs v at p = alone words v _ p.2 refl
+done_puts devices words (help about) cs v at p = alone words v _ p refl
 
 reason_puts : {devices : List DeviceData} (words : List (List ℕ)) (a b : FilesSeen) (v : Verdict) → Reason devices words a b v → Puts words v
 reason_puts words a b v (no_job none is) = alone words v usage is refl

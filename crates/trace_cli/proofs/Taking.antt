@@ -66,9 +66,6 @@ pub record HasFirst (seen : List ℕ → Option (List ℕ)) (app : AppData) (bui
   pub takes : Takes (MayBe seen) (source_files app) sources
   pub accepted_sources : HasAccepted sources builder
 
-pub none_yet : (seen : List ℕ → Option (List ℕ)) (app : AppData) (builder : Builder) → HasAccepted [] builder → HasFirst seen app builder 0
-none_yet seen app builder h = record { sources = []; count = refl; takes = takes_none (MayBe seen) (source_files app); accepted_sources = h }
-
 pub one_more : (seen : List ℕ → Option (List ℕ)) (app : AppData) (old new : Builder) (k : ℕ) (t : TaskData) (h : HasFirst seen app old k) → described old ≡ app
     → slice_get app.tasks k ≡ Some t → HasNext seen t.source h.sources old new → HasFirst seen app new (k + 1)
 one_more seen app old new k t h same at next =

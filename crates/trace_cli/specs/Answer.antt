@@ -1,5 +1,5 @@
 -- What an answer of the program says of the words, of the files and of the sink.
-use Rattle.std.specs.Prelude.{◌≡◌, ◌≢◌, ◌⊎◌, ℕ, false, List, [], slice_index_or, Option, Some, None}
+use Rattle.std.specs.Prelude.{◌≡◌, ◌≢◌, ◌≤◌, ◌⊎◌, ℕ, false, List, [], slice_index_or, Option, Some, None}
 use Rattle.std.specs.Io.KnownBytes.{Appends}
 use Rattle.kernel_abi.specs.Devices.{DeviceData}
 use Rattle.outside_io.specs.Outside.{WhereSeen, Rose, AppendsFront, IsFront, short_name}
@@ -8,14 +8,14 @@ use Rattle.board_model.specs.Script.{Scenario, start_of}
 use Rattle.task_table.specs.State.{State}
 use Rattle.task_table.specs.Sane.{Sane}
 use Rattle.audit_runs.specs.Last.{IsGoodText}
-use Rattle.command_line.specs.CommandLine.{Asked, build, run, go, list, sample, migrate, audit, save, resume, debug, is_accepted}
+use Rattle.command_line.specs.CommandLine.{Asked, build, run, go, list, sample, migrate, audit, save, resume, debug, help, is_accepted}
 use Rattle.command_line.specs.declared.job.Detail.{Detail}
-use Rattle.trace_cli.specs.Contents.{Why, image_refusal, script_refusal, state_refusal, picture_of, scenario_of}
+use Rattle.trace_cli.specs.Contents.{Why, image_refusal, script_refusal, picture_of, scenario_of}
 use Rattle.outside_io.specs.Seen.{FilesSeen, SinkSeen}
 use Rattle.trace_cli.specs.Words.{job_in}
 use Rattle.trace_cli.specs.Sources.{File, MayBe, Are, MayBeRefused, Reaches, TakesAll, scenario_in}
 use Rattle.trace_cli.specs.Verdict.{Verdict, usage, refused, refused_line, unread, unread_line, resumed, saved_bytes, run_of, rest_of_run, Does}
-use Rattle.trace_cli.specs.Ready.{IsSpelled}
+use Rattle.trace_cli.specs.Ready.{StartsWell, IsSpelled}
 
 -- ## why a verdict was given on a job (the files: before and after the call; the devices: those of a run)
 
@@ -96,6 +96,7 @@ TellsGood (audit trace) v r = Unit {0}
 TellsGood (save image script out steps) v r = Unit {0}
 TellsGood (resume image script state steps detail) v r = Unit {0}
 TellsGood (debug image script commands) v r = Unit {0}
+TellsGood (help about) v r = Unit {0}
 
 -- where the words ask for a job
 abbrev pub TellsGoodIn : Option Asked → Verdict → ℕ → Type 0
@@ -190,18 +191,25 @@ pub record IsFromSpelled (m : ℕ) (detail : Detail) (x : Scenario) (bytes : Lis
   pub spelled : IsSpelled x bytes state
   pub is : v ≡ resumed m detail x state
 
--- Where the files of `resume` are seen and accepted: what is told is the run from each state that the last of them spells. That a
--- state is spelled there may rest on the start of the run, which is sane. Of another job nothing is said.
+-- What is told where `resume` is asked for with files of these names. Where its image and its script are seen and accepted, their run
+-- starts well and no more turns are asked for than a run may have; or that a file cannot be read was told, or memory is short. Where
+-- all its files are, what is told is the run from each state that the last of them spells. That a state is spelled there may rest on
+-- the start of the run, which is sane.
+pub record TellsResumed (devices : List DeviceData) (image_name script_name state_name : List ℕ) (m : ℕ) (detail : Detail) (before after : FilesSeen) (w w' : SinkSeen) (r : ℕ) : Type 0 where
+  pub starts : (image script : List ℕ) → before.contents image_name ≡ Some image → before.contents script_name ≡ Some script → image_refusal image ≡ None → script_refusal script ≡ None
+      → (StartsWell (scenario_of (picture_of image) script devices) × (m ≤ 1000000000)) ⊎ (TellsUnread devices (resume image_name script_name state_name m detail) before after w w' r ⊎ IsShort before after w w' r)
+  pub each : (contents : List (List ℕ)) (v : Verdict) → TakesAll (Are before.contents) devices (resume image_name script_name state_name m detail) contents
+      → let x = scenario_in devices contents in
+      (Sane x.setup (start_of x) → IsFromSpelled m detail x (slice_index_or contents 2 []) v) → Tells before after w w' v r ⊎ TellsUnread devices (resume image_name script_name state_name m detail) before after w w' r
+
+-- of another job nothing is said
 abbrev pub TellsEach : List DeviceData → Asked → FilesSeen → FilesSeen → SinkSeen → SinkSeen → ℕ → Type 0
-TellsEach devices (resume image script state m detail) before after w w' r =
-    (contents : List (List ℕ)) (v : Verdict) → TakesAll (Are before.contents) devices (resume image script state m detail) contents
-    → let x = scenario_in devices contents in
-    (Sane x.setup (start_of x) → IsFromSpelled m detail x (slice_index_or contents 2 []) v) → Tells before after w w' v r ⊎ TellsUnread devices (resume image script state m detail) before after w w' r
+TellsEach devices (resume image script state m detail) before after w w' r = TellsResumed devices image script state m detail before after w w' r
 TellsEach devices job before after w w' r = Unit {0}
 
 -- Where `resume` is asked for with the image and the script of a run, up to turn m, from the state that `save` puts of that run
--- up to turn n, and that state is accepted: what is told is the text of `run` up to turn m without the lines of turns before the
--- saved one.
+-- up to turn n, which is of no turn behind m: what is told is the text of `run` up to turn m without the lines of turns before
+-- the saved one.
 abbrev pub GoesOn : List DeviceData → List (List ℕ) → FilesSeen → FilesSeen → SinkSeen → SinkSeen → ℕ → Type 0
 GoesOn devices words before after w w' r =
     (image_name script_name state_name image script : List ℕ) (m n : ℕ) (detail : Detail)
@@ -209,5 +217,5 @@ GoesOn devices words before after w w' r =
     let last = (run_of Calls n x).last in
     job_in words ≡ Some (resume image_name script_name state_name m detail)
     → before.contents image_name ≡ Some image → before.contents script_name ≡ Some script → before.contents state_name ≡ Some (saved_bytes n x)
-    → image_refusal image ≡ None → script_refusal script ≡ None → state_refusal devices (picture_of image) m (saved_bytes n x) ≡ None
+    → image_refusal image ≡ None → script_refusal script ≡ None → last.turn ≤ m
     → Answered devices words before after w w' (rest_of_run last.turn m detail x) r

@@ -1,5 +1,5 @@
 -- A board at the start of a job's run, or the file that is not accepted.
-use Rattle.std.specs.Prelude.{◌≡◌, ◌≤◌, ℕ, List, [], Option, None, Ok, slice_index_or}
+use Rattle.std.specs.Prelude.{◌≡◌, ◌⊎◌, ◌≤◌, ℕ, List, [], Option, Some, None, Ok, length, slice_index_or}
 use Rattle.kernel_abi.specs.Devices.{DeviceData}
 use Rattle.image_format.specs.Picture.{Picture}
 use Rattle.image_build.specs.Built.{Built}
@@ -9,7 +9,7 @@ use Rattle.board_core.specs.declared.board.Board.{Board}
 use Rattle.board_model.specs.Script.{Scenario, start_of}
 use Rattle.board_core.specs.Stands.{Stands, turns_of}
 use Rattle.board_core.specs.Opened as opened
-use Rattle.run_script.specs.Scripts.{ScriptData}
+use Rattle.run_script.specs.Scripts.{ScriptData, events_of}
 use Rattle.task_table.specs.State.{State}
 use Rattle.task_table.specs.Sane.{Sane, IsCounted}
 use Rattle.snapshot.specs.Saved.{SpellsState}
@@ -24,8 +24,9 @@ use Rattle.debug_core.specs.Reading.{commands_or_fault}
 use Rattle.trace_cli.specs.declared.file_faults.NamedFault.{NamedFault}
 use Rattle.trace_cli.specs.Contents.{image_refusal, script_refusal, state_refusal, commands_refusal, trace_refusal, picture_of, script_of, scenario_of, sample_scenario}
 use Rattle.outside_io.specs.Seen.{FilesSeen}
-use Rattle.trace_cli.specs.Sources.{MayBe, TakesAll, files_by, scenario_in, state_by}
+use Rattle.trace_cli.specs.Sources.{MayBe, TakesAll, files_by, image_file, script_file, scenario_in, state_by}
 use Rattle.trace_cli.specs.Verdict.{Does, ran, saved, resumed, debugged}
+use Rattle.trace_cli.specs.FileFaults.{IsNamedFaultOf}
 use Rattle.trace_cli.specs.Building.{IsNamedFaultAfter}
 
 -- an image is that which the file of this name spells
@@ -67,6 +68,23 @@ pub record IsSaveReady {X : Type 0} {H : X → Type 0} (shown : Shows X H) (devi
   pub done : Does devices job contents (saved name n scenario)
   pub stands : Stands shown scenario b (start_of scenario)
   pub turns : turns_of b ≡ 0
+
+-- the run of a scenario starts sane, its image and its script are no larger than any that is read
+pub record StartsWell (x : Scenario) : Type 0 where
+  pub sane : Sane x.setup (start_of x)
+  pub tasks : length x.setup.tasks ≤ 512
+  pub ram : x.setup.ram ≤ 262144
+  pub events : (turn : ℕ) → length (events_of x.script turn) ≤ 9
+
+-- so does that of the image and the script which are seen under these names
+abbrev pub StartsSeen : List DeviceData → (List ℕ → Option (List ℕ)) → List ℕ → List ℕ → Type 0
+StartsSeen devices seen image_name script_name =
+    (image script : List ℕ) → seen image_name ≡ Some image → seen script_name ≡ Some script → StartsWell (scenario_of (picture_of image) script devices)
+
+-- the file that is not accepted is this image or this script; or their run starts well
+abbrev pub StartsUnless : List DeviceData → FilesSeen → FilesSeen → List ℕ → List ℕ → NamedFault → Type 0
+StartsUnless devices before after image script named_fault =
+    IsNamedFaultOf before after (image_file image) named_fault ⊎ (IsNamedFaultOf before after (script_file script) named_fault ⊎ StartsSeen devices before.contents image script)
 
 -- a sane state of a run of this scenario that these bytes spell
 pub record IsSpelled (x : Scenario) (bytes : List ℕ) (s : State) : Type 0 where

@@ -1,14 +1,15 @@
 -- The files of a job, in the order in which they are accepted.
-use Rattle.std.specs.Prelude.{◌≡◌, ℕ, ◌+◌, List, [], ◌∷◌, ◌++◌, length, drop, take, slice_get, slice_index_or, Option, Some, None}
+use Rattle.std.specs.Prelude.{◌≡◌, ◌≤◌, ℕ, ◌+◌, List, [], ◌∷◌, ◌++◌, length, drop, take, slice_get, slice_index_or, Option, Some, None}
 use Rattle.kernel_abi.specs.Devices.{DeviceData}
 use Rattle.outside_io.specs.Outside.{WhereSeen}
+use Rattle.outside_io.specs.Seen.{FilesSeen}
 use Rattle.app_toml.specs.Apps.{AppData, TaskData}
 use Rattle.image_format.specs.Picture.{Picture, Sound}
 use Rattle.image_build.specs.Built.{Built}
 use Rattle.board_model.specs.Script.{Scenario}
 use Rattle.task_table.specs.State.{State}
 use Rattle.snapshot.specs.Restored.{state_in}
-use Rattle.command_line.specs.CommandLine.{Asked, build, run, go, list, sample, migrate, audit, save, resume, debug}
+use Rattle.command_line.specs.CommandLine.{Asked, build, run, go, list, sample, migrate, audit, save, resume, debug, help}
 use Rattle.trace_cli.specs.Contents.{Why, file_limit, trace_limit, image_refusal, script_refusal, app_refusal, source_refusal, trace_refusal, state_refusal, commands_refusal, picture_of, application_of, scenario_of}
 
 -- a file, the most bytes that it may have, and why contents of it are refused
@@ -54,7 +55,7 @@ files_to_build app first = app_file app ∷ source_files (application_of first)
 
 -- The files of a job of which the first file holds these bytes: `build` takes those of its application, `go` too and then
 -- its script; `run` and `save` take their image and then their script, `resume` too and then its state, `debug` too and then its
--- commands, `list` and `migrate` their image, `sample` none, `audit` its trace. The devices are those of a run.
+-- commands, `list` and `migrate` their image, `audit` its trace, `sample` and `help` none. The devices are those of a run.
 abbrev pub files_of : List DeviceData → Asked → List ℕ → List File
 files_of devices (build app out) first = files_to_build app first
 files_of devices (run image script steps detail) first = image_file image ∷ script_file script ∷ []
@@ -66,6 +67,7 @@ files_of devices (audit trace) first = trace_file trace ∷ []
 files_of devices (save image script out steps) first = image_file image ∷ script_file script ∷ []
 files_of devices (resume image script state steps detail) first = image_file image ∷ script_file script ∷ state_file devices (picture_of first) steps state ∷ []
 files_of devices (debug image script commands) first = image_file image ∷ script_file script ∷ commands_file commands ∷ []
+files_of devices (help about) first = []
 
 abbrev pub first_of : List (List ℕ) → List ℕ
 first_of contents = slice_index_or contents 0 []
@@ -83,6 +85,12 @@ MayBe seen name bytes = WhereSeen (seen name) (λ all. bytes ≡ all)
 -- they are seen to be the contents under the name
 abbrev pub Are : (List ℕ → Option (List ℕ)) → List ℕ → List ℕ → Type 0
 Are seen name bytes = seen name ≡ Some bytes
+
+-- files are only read: the count of failed reads may rise, their contents and the count of failed puts stay
+pub record OnlyReads (before after : FilesSeen) : Type 0 where
+  pub later : before.read_faults ≤ after.read_faults
+  pub contents : after.contents ≡ before.contents
+  pub puts : after.put_faults ≡ before.put_faults
 
 -- there are contents that may be the file's, and they are refused so
 pub record MayBeRefused (seen : List ℕ → Option (List ℕ)) (f : File) (why : Why) : Type 0 where

@@ -25,8 +25,10 @@ use Rattle.debug_core.specs.Reading.{commands_or_fault}
 use Rattle.trace_audit.specs.declared.verdict.Verdict as trace
 use Rattle.trace_audit.specs.declared.verdict.Verdict.TheVariants.{Yes, No}
 use Rattle.trace_audit.specs.Verdicts as trace_audit
-use Rattle.command_line.specs.CommandLine.{Asked, build, run, go, list, sample, migrate, audit, save, resume, debug, is_accepted}
+use Rattle.command_line.specs.CommandLine.{Asked, build, run, go, list, sample, migrate, audit, save, resume, debug, help, is_accepted}
+use Rattle.command_line.specs.declared.job.CommandName.{CommandName}
 use Rattle.command_line.specs.declared.job.Detail.{Detail}
+use Rattle.help_text.specs.Help.{help_text}
 use Rattle.trace_cli.specs.Contents.{Why, picture_of, scenario_of, sample_scenario}
 use Rattle.trace_cli.specs.Words.{job_in}
 use Rattle.trace_cli.specs.Sources.{File, Are, Reaches, TakesAll, IsBuilt, first_of, script_in, scenario_in, state_by}
@@ -42,7 +44,7 @@ abbrev pub line_alone : ℕ → List ℕ → Verdict
 line_alone status line = record { status = status; text = line; put = None }
 
 abbrev pub usage_line : List ℕ
-usage_line = codes "usage: hubris build, run, go, list, sample, migrate, audit, save, resume or debug\n"
+usage_line = codes "usage: hubris build, run, go, list, sample, migrate, audit, save, resume, debug or help\n"
 
 -- `refused <name> <cause> <place>`
 unfoldable pub refused_front : List ℕ → ℕ → List ℕ
@@ -156,6 +158,10 @@ audited (No line) = line_alone 7 (no_line line)
 abbrev pub debugged : Scenario → List Command → Verdict
 debugged x commands = line_alone 0 (answers_text x commands)
 
+-- what the commands are, or what one of them takes and answers
+abbrev pub helped : Option CommandName → Verdict
+helped about = line_alone 0 (help_text about)
+
 -- ## what comes of accepted files with these contents, where a run has these devices: each command by its line
 
 abbrev pub Does : List DeviceData → Asked → List (List ℕ) → Verdict → Type 0
@@ -170,6 +176,7 @@ Does devices (save image script out steps) contents v = v ≡ saved out steps (s
 Does devices (resume image script state steps detail) contents v = v ≡ resumed steps detail (scenario_in devices contents) (state_by devices contents)
 Does devices (debug image script name) contents v =
     (commands : List Command) × (commands_or_fault (slice_index_or contents 2 []) ≡ Ok commands) × (v ≡ debugged (scenario_in devices contents) commands)
+Does devices (help about) contents v = v ≡ helped about
 
 -- ## the verdict on words and contents, where they are seen as far as they count and a run has these devices
 

@@ -1,16 +1,19 @@
 //! The audit of a trace: from its file to what is told of it.
-ghost use Rattle.std.specs.Prelude.{◌≡◌, ◌≤◌, length, None, IfOk, IfErr, string_bytes};
+ghost use Rattle.std.specs.Prelude.{◌≡◌, ◌≤◌, List, length, None, IfOk, IfErr, string_bytes};
+ghost use Rattle.kernel_abi.specs.Devices.{DeviceData};
+ghost use Rattle.command_line.specs.CommandLine.{audit as audit_job};
 ghost use Rattle.trace_audit.specs.Verdicts.{IsVerdict};
 ghost use Rattle.trace_cli.specs.Contents.{trace_limit, trace_refusal};
-ghost use Rattle.trace_cli.specs.Sources.{trace_file};
+ghost use Rattle.trace_cli.specs.Sources.{trace_file, OnlyReads};
 ghost use Rattle.trace_cli.specs.FileFaults.{IsFaultFor, IsNamedFaultOf};
 ghost use Rattle.trace_cli.specs.Ready.{IsAuditOf};
 ghost use Rattle.trace_cli.specs.Pushed.{Says};
 ghost use Rattle.trace_cli.specs.Verdict.{audited, yes_line, no_line};
+ghost use Rattle.trace_cli.specs.Answer.{AnswersJob};
 
 use crate::file_faults::{FileFault, NamedFault, fault_named, refused_at_number};
 use crate::sources::read_contents;
-use crate::telling::tell;
+use crate::telling::{tell, tell_named_fault};
 use outside_io::{Files, Sink};
 use std::alloc::{AllocError, Global};
 use trace_audit::{AuditFault, Verdict, audit};
@@ -32,17 +35,11 @@ fn audit_in(alloc: Global, bytes: &[u8]) -> Result<Verdict, FileFault>
     }
 }
 
-/// The verdict on the trace under a name.
-pub fn audit_under<F: Files>(
-    alloc: Global,
-    files: &mut F,
-    name: &str,
-) -> Result<Verdict, NamedFault>
+// The verdict on the trace under a name.
+fn audit_under<F: Files>(alloc: Global, files: &mut F, name: &str) -> Result<Verdict, NamedFault>
     ensures audit { IfOk result (IsAuditOf (F.seen files.old).contents name.now) }
     ensures named_fault { IfErr result (IsNamedFaultOf (F.seen files.old) (F.seen files.new) (trace_file name.now)) }
-    ensures later { (F.seen files.old).read_faults ≤ (F.seen files.new).read_faults }
-    ensures contents { (F.seen files.new).contents ≡ (F.seen files.old).contents }
-    ensures puts { (F.seen files.new).put_faults ≡ (F.seen files.old).put_faults }
+    ensures only_reads { OnlyReads (F.seen files.old) (F.seen files.new) }
 {
     let bytes = match read_contents(alloc, files, name, TRACE_LIMIT) {
         Ok(bytes) => bytes,
@@ -90,12 +87,23 @@ fn tell_no<S: Sink>(alloc: Global, line: u64, out: &mut S) -> u8
     }
 }
 
-/// What an audit found.
-pub fn tell_audit<S: Sink>(alloc: Global, verdict: Verdict, out: &mut S) -> u8
+// What an audit found.
+fn tell_audit<S: Sink>(alloc: Global, verdict: Verdict, out: &mut S) -> u8
     ensures { Says (S.seen out.old) (S.seen out.new) (audited verdict) result }
 {
     match verdict {
         Verdict::Yes { calls, left } => tell_yes(alloc, calls, left, out),
         Verdict::No { line } => tell_no(alloc, line, out),
+    }
+}
+
+/// `audit TRACE`.
+pub fn audit_file<F: Files, S: Sink>(alloc: Global, trace: &str, files: &mut F, out: &mut S) -> u8
+    ensures answer { (devices : List DeviceData) → AnswersJob devices (audit_job trace.now) (F.seen files.old) (F.seen files.new) (S.seen out.old) (S.seen out.new) result }
+    ensures only_reads { OnlyReads (F.seen files.old) (F.seen files.new) }
+{
+    match audit_under(alloc, files, trace) {
+        Ok(verdict) => tell_audit(alloc, verdict, out),
+        Err(named_fault) => tell_named_fault(alloc, &named_fault, out),
     }
 }

@@ -1,19 +1,24 @@
-//! From the files of an application to its image.
+//! From the files of an application to its image, which is put under a name or run.
 ghost use Rattle.std.specs.Prelude.{◌≡◌, ◌≤◌, ◌<◌, ◌⊎◌, ◌++◌, ◌∷◌, [], ℕ, List, length, None, Some, IfOk, OnOk, IfErr, string_bytes};
+ghost use Rattle.kernel_abi.specs.Devices.{DeviceData};
 ghost use Rattle.app_toml.specs.Held.{app_of};
+ghost use Rattle.command_line.specs.CommandLine.{build as build_job};
 ghost use Rattle.image_format.specs.Images.{picture};
 ghost use Rattle.image_build.specs.Accepted.{HasAccepted, described, next_task};
 ghost use Rattle.trace_cli.specs.Contents.{file_limit, room_refusal, source_refusal};
-ghost use Rattle.trace_cli.specs.Sources.{MayBe};
+ghost use Rattle.trace_cli.specs.Sources.{MayBe, OnlyReads};
 ghost use Rattle.trace_cli.specs.FileFaults.{IsFaultFor, IsNamedFaultOf};
 ghost use Rattle.trace_cli.specs.Building.{HasNext, HasAll, IsImageOf, IsImage, IsNamedFaultInApp, IsNamedFaultInSources};
+ghost use Rattle.trace_cli.specs.Verdict.{built};
+ghost use Rattle.trace_cli.specs.Answer.{Tells, AnswersJob};
 
 use crate::file_faults::{FileFault, NamedFault, fault_by_plan, fault_by_source, fault_named};
 use crate::sources::{FILE_LIMIT, app_in, read_contents};
+use crate::telling::{line_of_built, tell, tell_named_fault};
 use app_toml::App;
 use image_build::Builder;
 use image_format::Image;
-use outside_io::Files;
+use outside_io::{Files, Sink};
 use std::alloc::Global;
 
 // A builder of the application, if the board has room for it.
@@ -55,9 +60,7 @@ fn take_source<F: Files>(
     ensures described { described builder.new ≡ described builder.old }
     ensures accepted_sources { (sources : List (List ℕ)) → HasAccepted sources builder.old → OnOk result (HasNext (F.seen files.old).contents name.now sources builder.old builder.new) }
     ensures named_fault { IfErr result (IsNamedFaultOf (F.seen files.old) (F.seen files.new) record { name = name.now; limit = file_limit; refusal = source_refusal (described builder.old) (next_task builder.old) }) }
-    ensures later { (F.seen files.old).read_faults ≤ (F.seen files.new).read_faults }
-    ensures contents { (F.seen files.new).contents ≡ (F.seen files.old).contents }
-    ensures puts { (F.seen files.new).put_faults ≡ (F.seen files.old).put_faults }
+    ensures only_reads { OnlyReads (F.seen files.old) (F.seen files.new) }
 {
     let bytes = match read_contents(alloc, files, name, FILE_LIMIT) {
         Ok(bytes) => bytes,
@@ -81,9 +84,7 @@ fn take_sources<F: Files>(
     ensures described { described builder.new ≡ described builder.old }
     ensures accepted_sources { OnOk result (HasAll (F.seen files.old).contents (app_of app.now) builder.new) }
     ensures named_fault { IfErr result (IsNamedFaultInSources (F.seen files.old) (F.seen files.new) (app_of app.now)) }
-    ensures later { (F.seen files.old).read_faults ≤ (F.seen files.new).read_faults }
-    ensures contents { (F.seen files.new).contents ≡ (F.seen files.old).contents }
-    ensures puts { (F.seen files.new).put_faults ≡ (F.seen files.old).put_faults }
+    ensures only_reads { OnlyReads (F.seen files.old) (F.seen files.new) }
 {
     for task in app.tasks() {
         match take_source(alloc, files, &task.source, builder) {
@@ -105,9 +106,7 @@ fn image_of<F: Files>(
     requires none { HasAccepted [] builder }
     ensures image { IfOk result (λ i. IsImageOf (F.seen files.old).contents (app_of app.now) (picture i)) }
     ensures named_fault { IfErr result (λ h. (h ≡ NamedFault.Memory) ⊎ IsNamedFaultInSources (F.seen files.old) (F.seen files.new) (app_of app.now) h) }
-    ensures later { (F.seen files.old).read_faults ≤ (F.seen files.new).read_faults }
-    ensures contents { (F.seen files.new).contents ≡ (F.seen files.old).contents }
-    ensures puts { (F.seen files.new).put_faults ≡ (F.seen files.old).put_faults }
+    ensures only_reads { OnlyReads (F.seen files.old) (F.seen files.new) }
 {
     let mut builder = builder;
     match take_sources(alloc, files, app, &mut builder) {
@@ -124,9 +123,7 @@ fn image_of<F: Files>(
 pub fn built_image<F: Files>(alloc: Global, files: &mut F, name: &str) -> Result<Image, NamedFault>
     ensures image { IfOk result (λ i. IsImage (F.seen files.old).contents name.now (picture i)) }
     ensures named_fault { IfErr result (IsNamedFaultInApp (F.seen files.old) (F.seen files.new) name.now) }
-    ensures later { (F.seen files.old).read_faults ≤ (F.seen files.new).read_faults }
-    ensures contents { (F.seen files.new).contents ≡ (F.seen files.old).contents }
-    ensures puts { (F.seen files.new).put_faults ≡ (F.seen files.old).put_faults }
+    ensures only_reads { OnlyReads (F.seen files.old) (F.seen files.new) }
 {
     let bytes = match read_contents(alloc, files, name, FILE_LIMIT) {
         Ok(bytes) => bytes,
@@ -139,5 +136,49 @@ pub fn built_image<F: Files>(alloc: Global, files: &mut F, name: &str) -> Result
     match opened(alloc, &app) {
         Ok(builder) => image_of(alloc, files, &app, builder),
         Err(file_fault) => Err(fault_named(alloc, name, file_fault)),
+    }
+}
+
+/// Puts an image under a name, and says so.
+pub fn put_image<F: Files, S: Sink>(
+    alloc: Global,
+    image: &Image,
+    name: &str,
+    files: &mut F,
+    out: &mut S,
+) -> u8
+    ensures tells { Tells (F.seen files.old) (F.seen files.new) (S.seen out.old) (S.seen out.new) (built name.now (picture image.now)) result }
+    ensures reads { (F.seen files.new).read_faults ≡ (F.seen files.old).read_faults }
+    ensures puts { (F.seen files.old).put_faults ≤ (F.seen files.new).put_faults }
+{
+    let bytes = match image.write() {
+        Ok(bytes) => bytes,
+        Err(_) => return 5,
+    };
+    let line = match line_of_built(alloc, bytes.len()) {
+        Ok(line) => line,
+        Err(_) => return 5,
+    };
+    match files.put(name, &bytes) {
+        Ok(()) => tell(line.as_bytes(), 0, out),
+        Err(_) => 4,
+    }
+}
+
+/// `build APP OUT`.
+pub fn build_file<F: Files, S: Sink>(
+    alloc: Global,
+    app: &str,
+    name: &str,
+    files: &mut F,
+    out: &mut S,
+) -> u8
+    ensures answer { (devices : List DeviceData) → AnswersJob devices (build_job app.now name.now) (F.seen files.old) (F.seen files.new) (S.seen out.old) (S.seen out.new) result }
+    ensures later { (F.seen files.old).read_faults ≤ (F.seen files.new).read_faults }
+    ensures puts { (F.seen files.old).put_faults ≤ (F.seen files.new).put_faults }
+{
+    match built_image(alloc, files, app) {
+        Ok(image) => put_image(alloc, &image, name, files, out),
+        Err(named_fault) => tell_named_fault(alloc, &named_fault, out),
     }
 }

@@ -8,7 +8,7 @@ ghost use Rattle.debug_core.specs.Listed.{listed};
 ghost use Rattle.debug_core.specs.Reading.{commands_or_fault};
 ghost use Rattle.command_line.specs.CommandLine.{debug as debug_job};
 ghost use Rattle.trace_cli.specs.Contents.{file_limit, commands_refusal};
-ghost use Rattle.trace_cli.specs.Sources.{commands_file};
+ghost use Rattle.trace_cli.specs.Sources.{commands_file, OnlyReads};
 ghost use Rattle.trace_cli.specs.FileFaults.{IsFaultFor, IsNamedFaultOf};
 ghost use Rattle.trace_cli.specs.Ready.{IsCommandsFile, IsDebugReady, IsNamedFaultIn};
 ghost use Rattle.trace_cli.specs.Pushed.{Says};
@@ -45,9 +45,7 @@ fn commands_in(alloc: Global, bytes: &[u8]) -> Result<Commands, FileFault>
 fn read_commands<F: Files>(alloc: Global, files: &mut F, name: &str) -> Result<Commands, NamedFault>
     ensures commands { IfOk result (λ c. IsCommandsFile (F.seen files.old).contents name.now (listed c)) }
     ensures named_fault { IfErr result (IsNamedFaultOf (F.seen files.old) (F.seen files.new) (commands_file name.now)) }
-    ensures later { (F.seen files.old).read_faults ≤ (F.seen files.new).read_faults }
-    ensures contents { (F.seen files.new).contents ≡ (F.seen files.old).contents }
-    ensures puts { (F.seen files.new).put_faults ≡ (F.seen files.old).put_faults }
+    ensures only_reads { OnlyReads (F.seen files.old) (F.seen files.new) }
 {
     let bytes = match read_contents(alloc, files, name, FILE_LIMIT) {
         Ok(bytes) => bytes,
@@ -71,9 +69,7 @@ fn prepare_debug<F: Files>(
     requires fresh { AreFresh (map shown devices.items) }
     ensures ready { IfOk result (λ p. IsDebugReady shown (map shown devices.items) (debug_job image.now script.now commands.now) (F.seen files.old).contents (listed p.1) p.0) }
     ensures named_fault { IfErr result (IsNamedFaultIn (map shown devices.items) (debug_job image.now script.now commands.now) (F.seen files.old) (F.seen files.new)) }
-    ensures later { (F.seen files.old).read_faults ≤ (F.seen files.new).read_faults }
-    ensures contents { (F.seen files.new).contents ≡ (F.seen files.old).contents }
-    ensures puts { (F.seen files.new).put_faults ≡ (F.seen files.old).put_faults }
+    ensures only_reads { OnlyReads (F.seen files.old) (F.seen files.new) }
 {
     let picture = match read_image(alloc, files, image) {
         Ok(picture) => picture,
@@ -120,9 +116,7 @@ pub fn debug_files<F: Files, S: Sink>(
 ) -> u8
     requires fresh { AreFresh (map shown devices.items) }
     ensures answer { AnswersJob (map shown devices.items) (debug_job image.now script.now commands.now) (F.seen files.old) (F.seen files.new) (S.seen out.old) (S.seen out.new) result }
-    ensures later { (F.seen files.old).read_faults ≤ (F.seen files.new).read_faults }
-    ensures contents { (F.seen files.new).contents ≡ (F.seen files.old).contents }
-    ensures puts { (F.seen files.new).put_faults ≡ (F.seen files.old).put_faults }
+    ensures only_reads { OnlyReads (F.seen files.old) (F.seen files.new) }
 {
     match prepare_debug(alloc, files, image, script, commands, devices) {
         Ok((board, commands)) => carry_out(alloc, board, &commands, out),

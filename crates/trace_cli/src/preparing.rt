@@ -5,7 +5,7 @@ ghost use Rattle.image_format.specs.Images.{picture};
 ghost use Rattle.run_script.specs.Events.{script_data};
 ghost use Rattle.command_line.specs.CommandLine.{run as run_job, go as go_job, save as save_job};
 ghost use Rattle.command_line.specs.declared.job.Detail.{Detail};
-ghost use Rattle.trace_cli.specs.Sources.{image_file, script_file};
+ghost use Rattle.trace_cli.specs.Sources.{image_file, script_file, OnlyReads};
 ghost use Rattle.trace_cli.specs.FileFaults.{IsNamedFaultOf};
 ghost use Rattle.trace_cli.specs.Ready.{IsImageFile, IsScriptFile, IsSet, IsReady, IsSaveReady, IsNamedFaultIn};
 
@@ -23,9 +23,7 @@ use std::alloc::Global;
 pub fn read_image<F: Files>(alloc: Global, files: &mut F, name: &str) -> Result<Image, NamedFault>
     ensures image { IfOk result (λ i. IsImageFile (F.seen files.old).contents name.now (picture i)) }
     ensures named_fault { IfErr result (IsNamedFaultOf (F.seen files.old) (F.seen files.new) (image_file name.now)) }
-    ensures later { (F.seen files.old).read_faults ≤ (F.seen files.new).read_faults }
-    ensures contents { (F.seen files.new).contents ≡ (F.seen files.old).contents }
-    ensures puts { (F.seen files.new).put_faults ≡ (F.seen files.old).put_faults }
+    ensures only_reads { OnlyReads (F.seen files.old) (F.seen files.new) }
 {
     let bytes = match read_contents(alloc, files, name, FILE_LIMIT) {
         Ok(bytes) => bytes,
@@ -41,9 +39,7 @@ pub fn read_image<F: Files>(alloc: Global, files: &mut F, name: &str) -> Result<
 pub fn read_script<F: Files>(alloc: Global, files: &mut F, name: &str) -> Result<Script, NamedFault>
     ensures script { IfOk result (λ s. IsScriptFile (F.seen files.old).contents name.now (script_data s)) }
     ensures named_fault { IfErr result (IsNamedFaultOf (F.seen files.old) (F.seen files.new) (script_file name.now)) }
-    ensures later { (F.seen files.old).read_faults ≤ (F.seen files.new).read_faults }
-    ensures contents { (F.seen files.new).contents ≡ (F.seen files.old).contents }
-    ensures puts { (F.seen files.new).put_faults ≡ (F.seen files.old).put_faults }
+    ensures only_reads { OnlyReads (F.seen files.old) (F.seen files.new) }
 {
     let bytes = match read_contents(alloc, files, name, FILE_LIMIT) {
         Ok(bytes) => bytes,
@@ -66,9 +62,7 @@ fn set_up<F: Files>(
     requires fresh { AreFresh (map shown devices.items) }
     ensures set { IfOk result (IsSet shown (map shown devices.items) (F.seen files.old).contents (picture image.now) script.now) }
     ensures named_fault { IfErr result (IsNamedFaultOf (F.seen files.old) (F.seen files.new) (script_file script.now)) }
-    ensures later { (F.seen files.old).read_faults ≤ (F.seen files.new).read_faults }
-    ensures contents { (F.seen files.new).contents ≡ (F.seen files.old).contents }
-    ensures puts { (F.seen files.new).put_faults ≡ (F.seen files.old).put_faults }
+    ensures only_reads { OnlyReads (F.seen files.old) (F.seen files.new) }
 {
     let script = match read_script(alloc, files, script) {
         Ok(script) => script,
@@ -94,9 +88,7 @@ pub fn prepare_run<F: Files>(
     ensures named_fault { (n : ℕ) (detail : Detail) → IfErr result (IsNamedFaultIn (map shown devices.items) (run_job image.now script.now n detail) (F.seen files.old) (F.seen files.new)) }
     ensures ready_to_save { (out : List ℕ) (n : ℕ) → IfOk result (IsSaveReady shown (map shown devices.items) (save_job image.now script.now out n) (F.seen files.old).contents out n) }
     ensures save_fault { (out : List ℕ) (n : ℕ) → IfErr result (IsNamedFaultIn (map shown devices.items) (save_job image.now script.now out n) (F.seen files.old) (F.seen files.new)) }
-    ensures later { (F.seen files.old).read_faults ≤ (F.seen files.new).read_faults }
-    ensures contents { (F.seen files.new).contents ≡ (F.seen files.old).contents }
-    ensures puts { (F.seen files.new).put_faults ≡ (F.seen files.old).put_faults }
+    ensures only_reads { OnlyReads (F.seen files.old) (F.seen files.new) }
 {
     match read_image(alloc, files, image) {
         Ok(picture) => set_up(alloc, files, &picture, script, devices),
@@ -115,9 +107,7 @@ pub fn prepare_go<F: Files>(
     requires fresh { AreFresh (map shown devices.items) }
     ensures ready { (n : ℕ) (detail : Detail) → IfOk result (IsReady shown (map shown devices.items) (go_job app.now script.now n detail) (F.seen files.old).contents n detail) }
     ensures named_fault { (n : ℕ) (detail : Detail) → IfErr result (IsNamedFaultIn (map shown devices.items) (go_job app.now script.now n detail) (F.seen files.old) (F.seen files.new)) }
-    ensures later { (F.seen files.old).read_faults ≤ (F.seen files.new).read_faults }
-    ensures contents { (F.seen files.new).contents ≡ (F.seen files.old).contents }
-    ensures puts { (F.seen files.new).put_faults ≡ (F.seen files.old).put_faults }
+    ensures only_reads { OnlyReads (F.seen files.old) (F.seen files.new) }
 {
     match built_image(alloc, files, app) {
         Ok(picture) => set_up(alloc, files, &picture, script, devices),

@@ -1,190 +1,30 @@
 //! The top call.
-ghost use Rattle.std.specs.Prelude.{◌≡◌, ◌≢◌, ◌≤◌, ◌⊎◌, ℕ, List, [], map, Option, Some, None, false, IfOk, IfErr};
+ghost use Rattle.std.specs.Prelude.{◌≡◌, ◌≢◌, ◌≤◌, ◌⊎◌, ℕ, List, [], map, Option, Some, None, false};
 ghost use Rattle.std.specs.Io.KnownBytes.{Appends};
 ghost use Rattle.outside_io.specs.Outside.{Rose};
 ghost use Rattle.kernel_abi.specs.Devices.{DeviceData, AreFresh};
-ghost use Rattle.image_format.specs.Images.{picture};
-ghost use Rattle.board_core.specs.Data.{boxed};
-ghost use Rattle.board_core.specs.Stands.{Stood, turns_of};
-ghost use Rattle.command_line.specs.CommandLine.{Asked, is_accepted, build as build_job, run as run_job, go as go_job, list as list_job, migrate as migrate_job, audit as audit_job};
-ghost use Rattle.outside_io.specs.Seen.{FilesSeen};
+ghost use Rattle.command_line.specs.CommandLine.{Asked, is_accepted};
 ghost use Rattle.trace_cli.specs.Words.{texts_of, job_in, out_of};
-ghost use Rattle.trace_cli.specs.Verdict.{Verdict, IsVerdict, usage_line, built};
-ghost use Rattle.trace_cli.specs.Ready.{IsReady, IsNamedFaultIn};
-ghost use Rattle.trace_cli.specs.Answer.{Tells, AnswersJob, Answers, Answered, IsComplete, TellsEach, GoesOn, IsDone, HasDone, HasRefused, HasUnread, HasFront};
+ghost use Rattle.trace_cli.specs.Verdict.{Verdict, IsVerdict, usage_line};
+ghost use Rattle.trace_cli.specs.Answer.{Answers, Answered, IsComplete, TellsEach, GoesOn, IsDone, HasDone, HasRefused, HasUnread, HasFront};
 
-use crate::auditing::{audit_under, tell_audit};
-use crate::building::built_image;
+use crate::auditing::audit_file;
+use crate::building::build_file;
 use crate::debugging::debug_files;
-use crate::file_faults::NamedFault;
-use crate::preparing::{prepare_go, prepare_run, read_image};
+use crate::helping::help;
+use crate::listing::list_file;
+use crate::migrating::migrate_file;
 use crate::resuming::resume_files;
-use crate::running::tell_run;
+use crate::running::{go_files, run_files};
 use crate::sampling::run_sample;
 use crate::saving::save_file;
-use crate::telling::{line_of_built, tell, tell_listing, tell_named_fault, tell_usage};
-use board_core::Board;
-use command_line::{Detail, Job, Refusal, read_words};
+use crate::telling::tell_usage;
+use command_line::{Job, Refusal, read_words};
 use devices::Device;
-use image_format::Image;
 use outside_io::{Files, Sink};
 use std::alloc::Global;
 
-// The run of the board that a job came to, or why there is none.
-fn play<S: Sink>(
-    alloc: Global,
-    prepared: Result<Board, NamedFault>,
-    steps: u32,
-    detail: Detail,
-    out: &mut S,
-) -> u8
-    requires few { steps ≤ 1000000000 }
-    requires ready { IfOk prepared (λ b. Stood (boxed shown) b × (turns_of b ≡ 0)) }
-    ensures { (devices : List DeviceData) (job : Asked) (before after : FilesSeen) → after.contents ≡ before.contents
-        → IfOk prepared (IsReady (boxed shown) devices job before.contents steps detail) → IfErr prepared (IsNamedFaultIn devices job before after)
-        → AnswersJob devices job before after (S.seen out.old) (S.seen out.new) result }
-{
-    match prepared {
-        Ok(board) => {
-            let mut board = board;
-            tell_run(&mut board, steps, detail, out)
-        }
-        Err(named_fault) => tell_named_fault(alloc, &named_fault, out),
-    }
-}
-
-// `run IMAGE SCRIPT --steps N [--all] [--mem]`.
-fn run_files<F: Files, S: Sink>(
-    alloc: Global,
-    image: &str,
-    script: &str,
-    steps: u32,
-    detail: Detail,
-    files: &mut F,
-    out: &mut S,
-    devices: Vec<Box<dyn Device>>,
-) -> u8
-    requires fresh { AreFresh (map shown devices.items) }
-    requires few { steps ≤ 1000000000 }
-    ensures answer { AnswersJob (map shown devices.items) (run_job image.now script.now steps detail) (F.seen files.old) (F.seen files.new) (S.seen out.old) (S.seen out.new) result }
-    ensures later { (F.seen files.old).read_faults ≤ (F.seen files.new).read_faults }
-    ensures contents { (F.seen files.new).contents ≡ (F.seen files.old).contents }
-    ensures puts { (F.seen files.new).put_faults ≡ (F.seen files.old).put_faults }
-{
-    let prepared = prepare_run(alloc, files, image, script, devices);
-    play(alloc, prepared, steps, detail, out)
-}
-
-// `go APP SCRIPT --steps N [--all] [--mem]`.
-fn go_files<F: Files, S: Sink>(
-    alloc: Global,
-    app: &str,
-    script: &str,
-    steps: u32,
-    detail: Detail,
-    files: &mut F,
-    out: &mut S,
-    devices: Vec<Box<dyn Device>>,
-) -> u8
-    requires fresh { AreFresh (map shown devices.items) }
-    requires few { steps ≤ 1000000000 }
-    ensures answer { AnswersJob (map shown devices.items) (go_job app.now script.now steps detail) (F.seen files.old) (F.seen files.new) (S.seen out.old) (S.seen out.new) result }
-    ensures later { (F.seen files.old).read_faults ≤ (F.seen files.new).read_faults }
-    ensures contents { (F.seen files.new).contents ≡ (F.seen files.old).contents }
-    ensures puts { (F.seen files.new).put_faults ≡ (F.seen files.old).put_faults }
-{
-    let prepared = prepare_go(alloc, files, app, script, devices);
-    play(alloc, prepared, steps, detail, out)
-}
-
-// `list IMAGE`.
-fn list_file<F: Files, S: Sink>(alloc: Global, image: &str, files: &mut F, out: &mut S) -> u8
-    ensures answer { (devices : List DeviceData) → AnswersJob devices (list_job image.now) (F.seen files.old) (F.seen files.new) (S.seen out.old) (S.seen out.new) result }
-    ensures later { (F.seen files.old).read_faults ≤ (F.seen files.new).read_faults }
-    ensures contents { (F.seen files.new).contents ≡ (F.seen files.old).contents }
-    ensures puts { (F.seen files.new).put_faults ≡ (F.seen files.old).put_faults }
-{
-    match read_image(alloc, files, image) {
-        Ok(picture) => tell_listing(alloc, &picture, out),
-        Err(named_fault) => tell_named_fault(alloc, &named_fault, out),
-    }
-}
-
-// Puts an image under a name, and says so.
-fn put_image<F: Files, S: Sink>(
-    alloc: Global,
-    image: &Image,
-    name: &str,
-    files: &mut F,
-    out: &mut S,
-) -> u8
-    ensures tells { Tells (F.seen files.old) (F.seen files.new) (S.seen out.old) (S.seen out.new) (built name.now (picture image.now)) result }
-    ensures reads { (F.seen files.new).read_faults ≡ (F.seen files.old).read_faults }
-    ensures puts { (F.seen files.old).put_faults ≤ (F.seen files.new).put_faults }
-{
-    let bytes = match image.write() {
-        Ok(bytes) => bytes,
-        Err(_) => return 5,
-    };
-    let line = match line_of_built(alloc, bytes.len()) {
-        Ok(line) => line,
-        Err(_) => return 5,
-    };
-    match files.put(name, &bytes) {
-        Ok(()) => tell(line.as_bytes(), 0, out),
-        Err(_) => 4,
-    }
-}
-
-// `build APP OUT`.
-fn build_file<F: Files, S: Sink>(
-    alloc: Global,
-    app: &str,
-    name: &str,
-    files: &mut F,
-    out: &mut S,
-) -> u8
-    ensures answer { (devices : List DeviceData) → AnswersJob devices (build_job app.now name.now) (F.seen files.old) (F.seen files.new) (S.seen out.old) (S.seen out.new) result }
-    ensures later { (F.seen files.old).read_faults ≤ (F.seen files.new).read_faults }
-    ensures puts { (F.seen files.old).put_faults ≤ (F.seen files.new).put_faults }
-{
-    match built_image(alloc, files, app) {
-        Ok(image) => put_image(alloc, &image, name, files, out),
-        Err(named_fault) => tell_named_fault(alloc, &named_fault, out),
-    }
-}
-
-// `migrate IMAGE OUT`.
-fn migrate_file<F: Files, S: Sink>(
-    alloc: Global,
-    image: &str,
-    name: &str,
-    files: &mut F,
-    out: &mut S,
-) -> u8
-    ensures answer { (devices : List DeviceData) → AnswersJob devices (migrate_job image.now name.now) (F.seen files.old) (F.seen files.new) (S.seen out.old) (S.seen out.new) result }
-    ensures later { (F.seen files.old).read_faults ≤ (F.seen files.new).read_faults }
-    ensures puts { (F.seen files.old).put_faults ≤ (F.seen files.new).put_faults }
-{
-    match read_image(alloc, files, image) {
-        Ok(picture) => put_image(alloc, &picture, name, files, out),
-        Err(named_fault) => tell_named_fault(alloc, &named_fault, out),
-    }
-}
-
-// `audit TRACE`.
-fn audit_file<F: Files, S: Sink>(alloc: Global, trace: &str, files: &mut F, out: &mut S) -> u8
-    ensures answer { (devices : List DeviceData) → AnswersJob devices (audit_job trace.now) (F.seen files.old) (F.seen files.new) (S.seen out.old) (S.seen out.new) result }
-    ensures later { (F.seen files.old).read_faults ≤ (F.seen files.new).read_faults }
-    ensures contents { (F.seen files.new).contents ≡ (F.seen files.old).contents }
-    ensures puts { (F.seen files.new).put_faults ≡ (F.seen files.old).put_faults }
-{
-    match audit_under(alloc, files, trace) {
-        Ok(verdict) => tell_audit(alloc, verdict, out),
-        Err(named_fault) => tell_named_fault(alloc, &named_fault, out),
-    }
-}
-
+// Each command by its job.
 fn answer<F: Files, S: Sink>(
     alloc: Global,
     words: &[String],
@@ -247,6 +87,7 @@ fn answer<F: Files, S: Sink>(
                 commands,
             },
         ) => debug_files(alloc, image, script, commands, files, out, devices),
+        Ok(Job::Help { about }) => help(about, out),
         Err(Refusal::NotAccepted) => tell_usage(out),
         Err(Refusal::Memory) => 5,
     }
@@ -262,7 +103,8 @@ fn answer<F: Files, S: Sink>(
 ///   or the last state of the run (docs/FORMATS.md, Saved state) is under OUT, and its line was written; or the sample was run, and its
 ///   end and the numbers of its notes were written; or the trace holds together (docs/FORMATS.md, Audit), and `yes <calls> <left>`
 ///   was written: so many calls were offered in it, and so many of them no line closes; or the commands were carried out
-///   (docs/FORMATS.md, Commands), and the answer to each was written.
+///   (docs/FORMATS.md, Commands), and the answer to each was written; or what the commands are, or what one of them takes and answers,
+///   was written.
 /// - 1: a file is refused, and `refused <name> <cause> <place>` was written.
 /// - 2: the words are not accepted (docs/FORMATS.md, Command line), and the usage line was written.
 /// - 3: a file cannot be read, and `cannot read <name>` was written.
@@ -282,7 +124,7 @@ pub fn hubris_main_with<F: Files, S: Sink>(
 
     // Where the words and the seen contents give a verdict (of accepted words and files: the trace of
     // their run, the listing, the image that is built or migrated, the state that is saved, the trace from a saved state, the two lines of
-    // a sample, what an audit found, or the answers to commands), its file was put, its whole text was pushed under its status; or the sink's count of faults rose, the status is 4, and a front of the text was
+    // a sample, what an audit found, the answers to commands, or what `help` says), its file was put, its whole text was pushed under its status; or the sink's count of faults rose, the status is 4, and a front of the text was
     // pushed; or the count of failed puts rose, the status is 4, and nothing was pushed; or memory is
     // short, the status is 5, and nothing was pushed or put; or the count of failed reads rose, and the
     // same holds of the line of a file that cannot be read.
@@ -321,7 +163,7 @@ pub fn hubris_main<F: Files, S: Sink>(
 ) -> u8
     // Where the words and the seen contents give a verdict (of accepted words and files: the trace of
     // their run, the listing, the image that is built or migrated, the state that is saved, the trace from a saved state, the two lines of
-    // a sample, what an audit found, or the answers to commands), its file was put, its whole text was pushed under its status; or the sink's count of faults rose, the status is 4, and a front of the text was
+    // a sample, what an audit found, the answers to commands, or what `help` says), its file was put, its whole text was pushed under its status; or the sink's count of faults rose, the status is 4, and a front of the text was
     // pushed; or the count of failed puts rose, the status is 4, and nothing was pushed; or memory is
     // short, the status is 5, and nothing was pushed or put; or the count of failed reads rose, and the
     // same holds of the line of a file that cannot be read.

@@ -1,6 +1,7 @@
 //! A run from a saved state: from its files to what is told of it.
 ghost use Rattle.std.specs.Prelude.{◌≡◌, ◌≤◌, ℕ, List, length, map, None, IfOk, IfErr};
 ghost use Rattle.kernel_abi.specs.Devices.{DeviceData, AreFresh};
+ghost use Rattle.mem_banks.specs.Memory.{AreAllBytes};
 ghost use Rattle.image_format.specs.Picture.{Picture};
 ghost use Rattle.image_format.specs.Images.{picture};
 ghost use Rattle.run_script.specs.Events.{script_data};
@@ -12,9 +13,9 @@ ghost use Rattle.snapshot.specs.Loaded.{IsStateFault};
 ghost use Rattle.command_line.specs.CommandLine.{resume as resume_job};
 ghost use Rattle.command_line.specs.declared.job.Detail.{Detail as Details};
 ghost use Rattle.trace_cli.specs.Contents.{file_limit, setup_of_image, state_refusal};
-ghost use Rattle.trace_cli.specs.Sources.{state_file};
+ghost use Rattle.trace_cli.specs.Sources.{state_file, OnlyReads};
 ghost use Rattle.trace_cli.specs.FileFaults.{IsFaultFor, IsNamedFaultOf};
-ghost use Rattle.trace_cli.specs.Ready.{IsLoaded, IsStateSet, IsResumable, IsNamedFaultIn};
+ghost use Rattle.trace_cli.specs.Ready.{StartsWell, StartsSeen, StartsUnless, IsLoaded, IsStateSet, IsResumable, IsNamedFaultIn};
 ghost use Rattle.trace_cli.specs.Answer.{AnswersJob, TellsEach};
 
 use crate::file_faults::{FileFault, NamedFault, fault_named, refused_at_number};
@@ -40,6 +41,22 @@ fn fault_by_state(alloc: Global, fault: StateFault) -> FileFault
         StateFault::Refused { cause, place } => refused_at_number(alloc, cause, place as u64),
         StateFault::Memory => FileFault::Memory,
     }
+}
+
+// What a slice holds are bytes.
+fn are_bytes(bytes: &[u8])
+    ensures { AreAllBytes bytes.now }
+{
+    let _len = bytes.len();
+}
+
+// The run of an image that was read, with a script that was read and with devices as they are handed in, starts well.
+fn starts_well(image: &Image, script: &Script)
+    ensures { (devices : List DeviceData) → AreFresh devices → StartsWell (scenario_of (picture image.now) (script_data script.now) devices) }
+{
+    image.facts();
+    script.facts();
+    are_bytes(image.flash());
 }
 
 // The board in the state that the bytes spell, which is of no turn behind the bound.
@@ -81,10 +98,10 @@ fn set_state<F: Files>(
     requires fresh { AreFresh (map shown devices.items) }
     ensures set { IfOk result (IsStateSet shown (map shown devices.items) (F.seen files.old).contents (picture image.now) (script_data script.now) state.now bound) }
     ensures named_fault { IfErr result (IsNamedFaultOf (F.seen files.old) (F.seen files.new) (state_file (map shown devices.items) (picture image.now) bound state.now)) }
-    ensures later { (F.seen files.old).read_faults ≤ (F.seen files.new).read_faults }
-    ensures contents { (F.seen files.new).contents ≡ (F.seen files.old).contents }
-    ensures puts { (F.seen files.new).put_faults ≡ (F.seen files.old).put_faults }
+    ensures starts { StartsWell (scenario_of (picture image.now) (script_data script.now) (map shown devices.items)) }
+    ensures only_reads { OnlyReads (F.seen files.old) (F.seen files.new) }
 {
+    starts_well(image, script);
     let bytes = match read_contents(alloc, files, state, FILE_LIMIT) {
         Ok(bytes) => bytes,
         Err(file_fault) => return Err(fault_named(alloc, state, file_fault)),
@@ -108,9 +125,9 @@ fn prepare_resume<F: Files>(
     requires fresh { AreFresh (map shown devices.items) }
     ensures ready { (detail : Details) → IfOk result (IsResumable shown (map shown devices.items) (resume_job image.now script.now state.now bound detail) (F.seen files.old).contents bound detail) }
     ensures named_fault { (detail : Details) → IfErr result (IsNamedFaultIn (map shown devices.items) (resume_job image.now script.now state.now bound detail) (F.seen files.old) (F.seen files.new)) }
-    ensures later { (F.seen files.old).read_faults ≤ (F.seen files.new).read_faults }
-    ensures contents { (F.seen files.new).contents ≡ (F.seen files.old).contents }
-    ensures puts { (F.seen files.new).put_faults ≡ (F.seen files.old).put_faults }
+    ensures starts { IfOk result (λ b. StartsSeen (map shown devices.items) (F.seen files.old).contents image.now script.now) }
+    ensures unless { IfErr result (StartsUnless (map shown devices.items) (F.seen files.old) (F.seen files.new) image.now script.now) }
+    ensures only_reads { OnlyReads (F.seen files.old) (F.seen files.new) }
 {
     let picture = match read_image(alloc, files, image) {
         Ok(picture) => picture,
@@ -139,9 +156,7 @@ pub fn resume_files<F: Files, S: Sink>(
     requires few { steps ≤ 1000000000 }
     ensures answer { AnswersJob (map shown devices.items) (resume_job image.now script.now state.now steps detail) (F.seen files.old) (F.seen files.new) (S.seen out.old) (S.seen out.new) result }
     ensures each { TellsEach (map shown devices.items) (resume_job image.now script.now state.now steps detail) (F.seen files.old) (F.seen files.new) (S.seen out.old) (S.seen out.new) result }
-    ensures later { (F.seen files.old).read_faults ≤ (F.seen files.new).read_faults }
-    ensures contents { (F.seen files.new).contents ≡ (F.seen files.old).contents }
-    ensures puts { (F.seen files.new).put_faults ≡ (F.seen files.old).put_faults }
+    ensures only_reads { OnlyReads (F.seen files.old) (F.seen files.new) }
 {
     match prepare_resume(alloc, files, image, script, state, steps, devices) {
         Ok(board) => {

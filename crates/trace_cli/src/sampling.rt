@@ -19,11 +19,11 @@ use crate::telling::status_by;
 use app_toml::App;
 use board_core::Board;
 use board_run::summarize;
+use build_laws::build_is_not_refused;
 use image_build::{BuildFault, Builder};
 use image_format::Image;
 use outside_io::Sink;
 use sample_gen::sample;
-use sample_laws::build_is_not_refused;
 use std::alloc::Global;
 
 // The image of an application and of the sources of its tasks.

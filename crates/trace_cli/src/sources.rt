@@ -5,7 +5,7 @@ ghost use Rattle.app_toml.specs.Reading.{read_app};
 ghost use Rattle.image_format.specs.Images.{picture};
 ghost use Rattle.run_script.specs.Events.{script_data};
 ghost use Rattle.trace_cli.specs.Contents.{file_limit, image_refusal, picture_of, script_refusal, script_of, app_refusal};
-ghost use Rattle.trace_cli.specs.Sources.{MayBe};
+ghost use Rattle.trace_cli.specs.Sources.{MayBe, OnlyReads};
 ghost use Rattle.trace_cli.specs.FileFaults.{IsFaultFor, CannotTake};
 
 use crate::file_faults::{FileFault, refused_at_number};
@@ -28,9 +28,7 @@ pub fn read_contents<F: Files>(
     ensures held { IfOk result (λ v. MayBe (F.seen files.old).contents name.now v.items) }
     ensures few { IfOk result (λ v. length v.items ≤ limit) }
     ensures file_fault { IfErr result (CannotTake (F.seen files.old) (F.seen files.new) name.now limit) }
-    ensures later { (F.seen files.old).read_faults ≤ (F.seen files.new).read_faults }
-    ensures contents { (F.seen files.new).contents ≡ (F.seen files.old).contents }
-    ensures puts { (F.seen files.new).put_faults ≡ (F.seen files.old).put_faults }
+    ensures only_reads { OnlyReads (F.seen files.old) (F.seen files.new) }
 {
     match read_all(alloc, files, name, limit as usize) {
         Ok(bytes) => Ok(bytes),

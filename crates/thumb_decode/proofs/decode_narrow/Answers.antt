@@ -4,4 +4,4 @@ use Rattle.thumb_decode.proofs.Coded.{narrow_gives_coded}
 use Rattle.thumb_decode.proofs.decode_narrow.Goals as goal
 
 pub returns-clause-coded : goal.returns-clause-coded
-returns-clause-coded c = rw c.narrow_to.ensures (narrow_gives_coded c.args.first (narrow_of c.args.first) refl (omega arith))
+returns-clause-coded c = rw (c.narrow_to.ensures.narrow (omega arith)) (narrow_gives_coded c.args.first (narrow_of c.args.first) refl (omega arith))

@@ -13,7 +13,8 @@ use Rattle.audit_laws.specs.Whole.{AreInOrder, AreRight}
 use Rattle.audit_runs.specs.Spoken.{IsSpoken}
 use Rattle.audit_runs.specs.Last.{IsFitLast, IsShown, IsGoodText}
 use Rattle.audit_runs.proofs.Right.{run_right}
-use Rattle.audit_runs.proofs.Running.{run_spoken, run_in_order, sane_run}
+use Rattle.board_model.proofs.RunKeeps.{sane_run}
+use Rattle.audit_runs.proofs.Running.{run_spoken, run_in_order}
 use Rattle.audit_runs.proofs.Telling.{run_good, run_fine}
 use Rattle.audit_runs.proofs.texts.texts_of_runs_are_good.Goals as goal
 

@@ -1,18 +1,10 @@
 use Rattle.std.proofs.Common.{◌≡◌, ℕ, List, length, subst, Bool, true, false, not, arith, ap, refl, sym, ◌∙◌}
-use Rattle.std.proofs.lemmas.Bool.{false≢true}
+use Rattle.std.proofs.lemmas.Bool.{false≢true, not-true, not-false}
 use Rattle.region_check.specs.declared.Region.{Region}
 use Rattle.image_format.specs.Images.{picture}
 use Rattle.board_core.proofs.Opens.{HaveFirst, none_first, places_step, pushed_more, device_more, places_kept, places_further}
 use Rattle.board_core.proofs.opening.push_places.Goals.{then-not-region+in_ok-push, else-not-region}
 use Rattle.board_core.proofs.opening.push_places.Goals as goal
-
-is_false : (b : Bool) → not b ≡ true → b ≡ false
-is_false true e = absurd (false≢true e)
-is_false false e = refl
-
-is_true : (b : Bool) → not b ≡ false → b ≡ true
-is_true true e = refl
-is_true false e = absurd (false≢true (sym e))
 
 pub loop-k-init : goal.loop-k-init
 loop-k-init c = record { are = c.requires.places; before = c.requires.before; own = c.in_ok-regions.ensures; first = none_first c.in_ok-regions.regions.items c.args.places.now.items }
@@ -27,7 +19,7 @@ loop-k-preserved c =
       | then-not-region+in_ok-push w ↦
           let pushed = ap (λ v. v.items) w.places-is ∙ w.in_ok-push.ensures.items in
           record {
-            are = places_step p c.loop-k.places.items c.if-not-region.places.items c.args.i c.loop-k.k c.in_ok-regions.regions.items region inv.are inv.own (omega (arith, lt)) c.index-region.ensures (is_false region.rights.device w.if-not-region.true) pushed;
+            are = places_step p c.loop-k.places.items c.if-not-region.places.items c.args.i c.loop-k.k c.in_ok-regions.regions.items region inv.are inv.own (omega (arith, lt)) c.index-region.ensures (not-true region.rights.device w.if-not-region.true) pushed;
             before = places_kept p c.args.i c.loop-k.places.items c.if-not-region.places.items _ inv.before pushed;
             own = inv.own;
             first = pushed_more c.in_ok-regions.regions.items c.loop-k.k c.loop-k.places.items c.if-not-region.places.items region inv.first (omega (arith, lt)) c.index-region.ensures pushed;
@@ -36,7 +28,7 @@ loop-k-preserved c =
         are = rw w.places-is inv.are;
         before = rw w.places-is inv.before;
         own = inv.own;
-        first = rw w.places-is (device_more c.in_ok-regions.regions.items c.loop-k.k c.loop-k.places.items region inv.first (omega (arith, lt)) c.index-region.ensures (is_true region.rights.device w.if-not-region.false));
+        first = rw w.places-is (device_more c.in_ok-regions.regions.items c.loop-k.k c.loop-k.places.items region inv.first (omega (arith, lt)) c.index-region.ensures (not-false region.rights.device w.if-not-region.false));
       }
     ]
 

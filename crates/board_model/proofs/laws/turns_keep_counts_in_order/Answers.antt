@@ -1,3 +1,4 @@
+use Rattle.run_script.proofs.Each.{each_turn}
 use Rattle.board_model.proofs.Counts.{turn_more, later-events, counted_turn}
 use Rattle.board_model.proofs.laws.turns_keep_counts_in_order.Goals as goal
 
@@ -9,3 +10,6 @@ returns-clause-now c = λ g events t. (later-events g events t).now
 
 pub returns-clause-counted : goal.returns-clause-counted
 returns-clause-counted c = λ level x s sane few h. counted_turn level x s sane few h
+
+pub returns-clause-of_scripts : goal.returns-clause-of_scripts
+returns-clause-of_scripts c = λ level x s sane facts h. counted_turn level x s sane (each_turn x.script facts s.turn).few h

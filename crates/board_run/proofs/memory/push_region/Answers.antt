@@ -1,6 +1,6 @@
 use Rattle.std.proofs.lemmas.Result.{err_from_is_err_and}
 use Rattle.board_run.specs.MemoryText.{region_text, region_line, rows_text, row_count}
-use Rattle.board_run.proofs.Appending.{pushes_more, front_wider}
+use Rattle.outside_io.proofs.Pushing.{pushes_more, front_wider}
 use Rattle.board_run.proofs.memory.push_region.Goals as goal
 
 pub returns-clause-bytes : goal.returns-clause-bytes

@@ -1,7 +1,8 @@
 use Rattle.std.proofs.Common.{arith}
 use Rattle.std.proofs.lemmas.Result.{err_from_is_err_and}
 use Rattle.board_run.specs.MemoryText.{rows_text, row_at}
-use Rattle.board_run.proofs.Appending.{appends_none, range_pushed, range_fails}
+use Rattle.outside_io.proofs.Pushing.{appends_none}
+use Rattle.board_run.proofs.Appending.{range_pushed, range_fails}
 use Rattle.board_run.proofs.memory.push_rows.Goals as goal
 
 pub loop-k-init : goal.loop-k-init

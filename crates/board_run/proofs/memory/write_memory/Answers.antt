@@ -1,7 +1,8 @@
 use Rattle.std.proofs.Common.{arith, ◌≡◌}
 use Rattle.std.proofs.lemmas.Result.{err_from_is_err_and}
 use Rattle.board_run.specs.MemoryText.{memory_text, places_text, place_text}
-use Rattle.board_run.proofs.Appending.{appends_none, range_pushed, range_fails}
+use Rattle.outside_io.proofs.Pushing.{appends_none}
+use Rattle.board_run.proofs.Appending.{range_pushed, range_fails}
 use Rattle.board_run.proofs.memory.write_memory.Goals as goal
 
 pub loop-k-init : goal.loop-k-init

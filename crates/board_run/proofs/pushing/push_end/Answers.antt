@@ -3,7 +3,7 @@ use Rattle.std.proofs.lemmas.Result.{err_from_is_err_and}
 use Rattle.std.specs.Io.KnownBytes.{Appends}
 use Rattle.outside_io.specs.Outside.{AppendsFront}
 use Rattle.board_run.specs.Text.{end_line, end_text, tasks_text}
-use Rattle.board_run.proofs.Appending.{pushes_more, front_wider}
+use Rattle.outside_io.proofs.Pushing.{pushes_more, front_wider}
 use Rattle.board_run.proofs.Going.{turns_seen}
 use Rattle.board_run.proofs.pushing.push_end.Goals as goal
 

@@ -3,7 +3,8 @@ use Rattle.std.proofs.lemmas.Result.{err_from_is_err_and}
 use Rattle.std.specs.Io.KnownBytes.{Appends}
 use Rattle.board_model.specs.Run.{at_turn}
 use Rattle.board_run.specs.Text.{notes_text}
-use Rattle.board_run.proofs.Appending.{appends_more, part_fails, notes_at, notes_more}
+use Rattle.outside_io.proofs.Pushing.{appends_more, part_fails}
+use Rattle.board_run.proofs.Appending.{notes_at, notes_more}
 use Rattle.trace_text.specs.Fit.{IsFit}
 use Rattle.board_run.proofs.Fitted.{fit_next}
 use Rattle.board_run.proofs.pushing.push_notes.Goals as goal

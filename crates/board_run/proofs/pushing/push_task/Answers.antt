@@ -1,6 +1,6 @@
 use Rattle.std.proofs.lemmas.Result.{err_from_is_err_and}
 use Rattle.board_run.specs.ViewText.{view_text}
-use Rattle.board_run.proofs.Appending.{appends_more, pushes_more, front_wider, front_more}
+use Rattle.outside_io.proofs.Pushing.{appends_more, pushes_more, front_wider, front_more}
 use Rattle.board_run.proofs.pushing.push_task.Goals as goal
 
 pub returns-in_err-push_task_line-clause-bytes : goal.returns-in_err-push_task_line-clause-bytes

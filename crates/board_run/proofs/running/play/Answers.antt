@@ -14,6 +14,8 @@ turns-init g c =
       midway = λ x s st. midway_start shown g.T.Teller.heard c.args.level x _ s _ (c.hears_in_parts.ensures.nothing _) st;
       stood = c.requires.stood;
       turns = omega arith;
+      due = omega arith;
+      later = λ lt. lt;
     }
 
 pub returns-in-Some-clause-told : goal.returns-in-Some-clause-told
@@ -60,7 +62,6 @@ turns-preserved g c =
     let more = c.advance.ensures.more in
     let stood = c.turns.invariant.stood in
     let a = c.advance.ensures.advanced stood.0 stood.1 stood.2 in
-    let hears = rw (c.notes.ensures) at c.in_ok-tell.ensures in
     record {
       midway = λ x s st.
           let h : IsTurned shown c.args.level x n b b' (notes_of b') = record {
@@ -70,13 +71,15 @@ turns-preserved g c =
             turns = omega arith;
             few = c.advance.ensures.noted;
           } in
-          midway_turn shown g.T.Teller.heard c.args.level x c.hears_in_parts.ensures.parts n _ _ _ _ s b b' (notes_of b') h (omega (arith, c.turns-in-turns.ensures)) hears (c.turns.invariant.midway x s st);
+          midway_turn shown g.T.Teller.heard c.args.level x c.hears_in_parts.ensures.parts n _ _ _ _ s b b' (notes_of b') h (omega arith) c.in_ok-due.ensures.told (c.turns.invariant.midway x s st);
       stood = (stood.0, (turn_after c.args.level stood.0 n stood.1).state, a.stands);
-      turns = c.advance.ensures.within;
+      turns = omega (arith, c.advance.ensures.within, c.turns.invariant.due);
+      due = c.in_ok-due.ensures.within;
+      later = c.in_ok-due.ensures.later;
     }
 
-pub returns-in_err-tell-clause-midway : goal.returns-in_err-tell-clause-midway
-returns-in_err-tell-clause-midway g c =
+pub returns-in_err-due-clause-midway : goal.returns-in_err-due-clause-midway
+returns-in_err-due-clause-midway g c =
     let shown = boxed (λ p. (goal.Device-dyn g p).shown p.1) in
     λ x s st.
     let b = c.turns.board in
@@ -92,8 +95,8 @@ returns-in_err-tell-clause-midway g c =
     } in
     turned_board shown g.T.Teller.heard c.args.level x n _ _ s b b' (notes_of b') h (c.turns.invariant.midway x s st)
 
-pub returns-in_err-tell-clause-broken : goal.returns-in_err-tell-clause-broken
-returns-in_err-tell-clause-broken g c =
+pub returns-in_err-due-clause-broken : goal.returns-in_err-due-clause-broken
+returns-in_err-due-clause-broken g c =
     let shown = boxed (λ p. (goal.Device-dyn g p).shown p.1) in
     λ x s st.
     let p = err_from_is_err_and c.from_residual.result c.from_residual.ensures.1 in
@@ -101,7 +104,6 @@ returns-in_err-tell-clause-broken g c =
     let b' = c.advance.new.self in
     let n : ℕ = turns_of b' - turns_of b - 1 in
     let more = c.advance.ensures.more in
-    let breaks = rw (c.notes.ensures) at c.in_err-tell.ensures in
     let h : IsTurned shown c.args.level x n b b' (notes_of b') = record {
       goes = λ t u. c.in-None.ensures.goes refl x t u;
       advanced = λ t u. c.advance.ensures.advanced x t u;
@@ -109,4 +111,4 @@ returns-in_err-tell-clause-broken g c =
       turns = omega arith;
       few = c.advance.ensures.noted;
     } in
-    rw (p.1) (breaks_in_turn c.args.level x shown g.T.Teller.heard g.T.Teller.broke n _ _ _ _ s b b' (notes_of b') h (omega (arith, c.turns-in-turns.ensures)) breaks (c.turns.invariant.midway x s st))
+    rw (p.1) (breaks_in_turn c.args.level x shown g.T.Teller.heard g.T.Teller.broke n _ _ _ _ s b b' (notes_of b') h (omega arith) c.in_err-due.ensures.told (c.turns.invariant.midway x s st))

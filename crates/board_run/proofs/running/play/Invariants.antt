@@ -1,4 +1,4 @@
-use Rattle.std.proofs.Common.{◌-◌, ◌≤◌}
+use Rattle.std.proofs.Common.{◌-◌, ◌<◌, ◌≤◌}
 use Rattle.task_table.specs.State.{State}
 use Rattle.board_model.specs.Script.{Scenario}
 use Rattle.board_core.specs.Data.{boxed}
@@ -13,6 +13,8 @@ invariant-turns g l =
       midway : (x : Scenario) (s : State) → Stands shown x l.fn.board s → Midway shown g.T.Teller.heard l.level x l.fn.teller l.teller s l.board;
       stood : Stood shown l.board;
       turns : turns_of l.board ≤ l.limit;
+      due : l.due ≤ l.limit;
+      later : turns_of l.board < l.limit → turns_of l.board < l.due;
     }
 
 abbrev pub decreases-turns : goal.decreases-turns

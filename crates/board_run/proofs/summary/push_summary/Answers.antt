@@ -5,7 +5,7 @@ use Rattle.outside_io.specs.Outside.{AppendsFront}
 use Rattle.board_run.specs.Counting.{count_at}
 use Rattle.board_run.specs.Counts.{counts_text}
 use Rattle.board_run.specs.Text.{end_line}
-use Rattle.board_run.proofs.Appending.{pushes_more, front_wider}
+use Rattle.outside_io.proofs.Pushing.{pushes_more, front_wider}
 use Rattle.board_run.proofs.Going.{turns_seen}
 use Rattle.board_run.proofs.summary.push_summary.Goals as goal
 

@@ -1,5 +1,5 @@
 use Rattle.std.proofs.lemmas.Result.{err_from_is_err_and}
-use Rattle.board_run.proofs.Appending.{front_wider, pushes_more}
+use Rattle.outside_io.proofs.Pushing.{front_wider, pushes_more}
 use Rattle.debug_core.proofs.text.push_registers.Goals as goal
 
 pub returns-in_err-push_low-clause-bytes : goal.returns-in_err-push_low-clause-bytes

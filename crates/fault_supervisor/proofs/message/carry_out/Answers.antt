@@ -6,7 +6,7 @@ returns-in-Status-clause-holds c = λ g t h.
 
 pub returns-in-Restart-clause-holds : goal.returns-in-Restart-clause-holds
 returns-in-Restart-clause-holds c = λ g t h.
-    rw (c.in-Restart.is, ← c.number-start.ensures.holds g t h.holds) (c.restart_task.ensures.holds g t h)
+    rw (c.in-Restart.is, ← c.number-start.ensures.holds g t h.holds) (c.restart.ensures.stands g t h).holds
 
 pub returns-in-Fault-clause-holds : goal.returns-in-Fault-clause-holds
 returns-in-Fault-clause-holds c = λ g t h. rw c.in-Fault.is (c.inject.ensures.holds g t h.holds)

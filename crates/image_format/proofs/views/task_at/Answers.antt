@@ -1,8 +1,9 @@
 use Rattle.std.proofs.Common.{◌∙◌, ◌<◌, length, arith, ap, sym, ◌==◌}
+use Rattle.std.proofs.lemmas.List.{get_or_default}
 use Rattle.image_format.specs.declared.records.TaskRecord.{TaskRecord}
 use Rattle.image_format.specs.Picture.{TaskPicture}
 use Rattle.image_format.proofs.Chunks.{blank}
-use Rattle.image_format.proofs.Lookups.{any_default, task_looked}
+use Rattle.image_format.proofs.Lookups.{task_looked}
 use Rattle.image_format.proofs.Shape.{tasks_length}
 use Rattle.image_format.proofs.views.task_at.Goals as goal
 
@@ -12,7 +13,7 @@ returns c =
     let regions = c.args.image.now.regions.items in
     let names = c.args.image.now.names.items in
     let lt : c.args.i < length tasks = omega (arith, tasks_length tasks regions names) in
-    let e = c.index.ensures ∙ any_default tasks c.args.i c.index.result.now blank lt in
+    let e = c.index.ensures ∙ get_or_default tasks c.args.i c.index.result.now blank lt in
     let t = sym (task_looked tasks regions names c.args.i lt) in
     record {
       priority = ap (λ (r : TaskRecord). r.priority) e ∙ ap (λ (p : TaskPicture). p.priority) t;

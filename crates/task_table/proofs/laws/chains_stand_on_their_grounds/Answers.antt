@@ -6,6 +6,9 @@ use Rattle.task_table.proofs.laws.chains_stand_on_their_grounds.Goals as goal
 pub returns-clause-grounded : goal.returns-clause-grounded
 returns-clause-grounded c = λ g s c u v placed x f. (chain_honest g s c placed u v x f).grounded
 
+pub returns-clause-granted : goal.returns-clause-granted
+returns-clause-granted c = λ g s c u v placed x f. (chain_honest g s c placed u v x f).granted
+
 pub returns-clause-alive : goal.returns-clause-alive
 returns-clause-alive c = λ g s c u v placed x f. honest_alive g s c v (chain_honest g s c placed u v x f)
 

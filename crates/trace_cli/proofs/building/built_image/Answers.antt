@@ -9,6 +9,7 @@ use Rattle.trace_cli.specs.Building.{IsImageOf}
 use Rattle.trace_cli.proofs.Refusals.{app_by_room}
 use Rattle.trace_cli.proofs.Faulting.{cannot_take, refused_in, long_app}
 use Rattle.trace_cli.proofs.Taking.{image_of_files, faults_at_app, faults_later}
+use Rattle.trace_cli.proofs.OnlyReading.{reads_more}
 use Rattle.trace_cli.proofs.building.built_image.Goals as goal
 
 pub returns-in-Err-clause-named_fault : goal.returns-in-Err-clause-named_fault
@@ -46,7 +47,7 @@ returns-in-Ok-opened-clause-image g c =
     let app = app_of c.in-Ok-app_in.app in
     let seen = (g.F.Files.seen c.args.files.now).contents in
     IfOk-weaker c.image_of.result _ _ (λ i h. image_of_files seen c.args.name.now c.deref.result.now app (picture i) few c.in-Ok-app_in.ensures.app c.in-Ok-opened.ensures.room held
-    (subst (λ t. IsImageOf t app (picture i)) c.in-Ok.ensures.contents h)) c.image_of.ensures.image
+    (subst (λ t. IsImageOf t app (picture i)) c.in-Ok.ensures.only_reads.contents h)) c.image_of.ensures.image
 
 pub returns-in-Ok-opened-clause-named_fault : goal.returns-in-Ok-opened-clause-named_fault
 returns-in-Ok-opened-clause-named_fault g c =
@@ -57,4 +58,7 @@ returns-in-Ok-opened-clause-named_fault g c =
     let few = subst (λ (x : List ℕ). length x ≤ file_limit) (sym c.deref.ensures.value) c.in-Ok.ensures.few in
     let app = app_of c.in-Ok-app_in.app in
     IfErr-weaker c.image_of.result _ _ (λ h is. faults_later a b e c.args.name.now c.deref.result.now app h few c.in-Ok-app_in.ensures.app c.in-Ok-opened.ensures.room held
-    c.in-Ok.ensures.contents c.in-Ok.ensures.later is) c.image_of.ensures.named_fault
+    c.in-Ok.ensures.only_reads.contents c.in-Ok.ensures.only_reads.later is) c.image_of.ensures.named_fault
+
+pub returns-in-Ok-opened-clause-only_reads : goal.returns-in-Ok-opened-clause-only_reads
+returns-in-Ok-opened-clause-only_reads g c = reads_more c.in-Ok.ensures.only_reads c.image_of.ensures.only_reads

@@ -1,7 +1,8 @@
-use Rattle.std.proofs.Common.{◌≡◌, ◌≤◌, map}
+use Rattle.std.proofs.Common.{◌≡◌, map}
 use Rattle.app_toml.specs.Held.{app_of}
 use Rattle.app_toml.specs.Sites.{task_of}
 use Rattle.image_build.specs.Accepted.{described}
+use Rattle.trace_cli.specs.Sources.{OnlyReads}
 use Rattle.trace_cli.proofs.Taking.{HasFirst}
 use Rattle.trace_cli.proofs.building.take_sources.Given as goal
 
@@ -10,7 +11,5 @@ invariant-loop-task g l = record {
   described : described l.builder ≡ app_of l.app;
   items : map task_of l.task-items ≡ (app_of l.app).tasks;
   first : HasFirst (g.F.Files.seen l.fn.files).contents (app_of l.app) l.builder l.task-index;
-  contents : (g.F.Files.seen l.files).contents ≡ (g.F.Files.seen l.fn.files).contents;
-  later : (g.F.Files.seen l.fn.files).read_faults ≤ (g.F.Files.seen l.files).read_faults;
-  puts : (g.F.Files.seen l.files).put_faults ≡ (g.F.Files.seen l.fn.files).put_faults;
+  reads : OnlyReads (g.F.Files.seen l.fn.files) (g.F.Files.seen l.files);
 }

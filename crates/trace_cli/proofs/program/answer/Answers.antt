@@ -65,6 +65,16 @@ returns-in-Ok-Debug-clause-each g c =
     let job = rw c.in-Ok-Debug.field-0-is at c.in-Ok-Debug.ensures.job in
     each_of_words _ (texts_of c.args.words.now) _ _ _ _ _ _ c.in-Ok-Debug.ensures.accepted job tt
 
+pub returns-in-Ok-Help-clause-answer : goal.returns-in-Ok-Help-clause-answer
+returns-in-Ok-Help-clause-answer g c =
+    let job = rw c.in-Ok-Help.field-0-is at c.in-Ok-Help.ensures.job in
+    by_job _ _ _ _ _ _ _ c.in-Ok-Help.ensures.accepted job (c.help.ensures _ _ _ refl)
+
+pub returns-in-Ok-Help-clause-each : goal.returns-in-Ok-Help-clause-each
+returns-in-Ok-Help-clause-each g c =
+    let job = rw c.in-Ok-Help.field-0-is at c.in-Ok-Help.ensures.job in
+    each_of_words _ (texts_of c.args.words.now) _ _ _ _ _ _ c.in-Ok-Help.ensures.accepted job tt
+
 pub returns-in-Ok-Build-clause-each : goal.returns-in-Ok-Build-clause-each
 returns-in-Ok-Build-clause-each g c =
     let job = rw c.in-Ok-Build.field-0-is at c.in-Ok-Build.ensures.job in

@@ -18,3 +18,9 @@ returns-clause-named_fault g c =
     let held = subst (λ (x : List ℕ). MayBe (g.F.Files.seen c.args.files.now).contents c.args.state.now x) (sym c.deref.ensures.value) c.in-Ok.ensures.held in
     c.fault_named-in-Err-board_in.ensures a b (state_file _ (picture c.args.image.now) c.args.bound c.args.state.now) refl
     (refused_in a b (state_file _ (picture c.args.image.now) c.args.bound c.args.state.now) c.deref.result.now c.in-Err-board_in.file_fault held c.in-Err-board_in.ensures.file_fault)
+
+pub returns-in-Err-clause-starts : goal.returns-in-Err-clause-starts
+returns-in-Err-clause-starts g c = c.starts_well.ensures _ c.requires.fresh
+
+pub returns-clause-starts : goal.returns-clause-starts
+returns-clause-starts g c = c.starts_well.ensures _ c.requires.fresh

@@ -11,7 +11,7 @@ use Rattle.board_core.specs.Stands.{Stands}
 use Rattle.board_run.specs.Text.{trace_text}
 use Rattle.board_run.specs.MemoryText.{memory_text}
 use Rattle.audit_runs.specs.Last.{IsGoodText}
-use Rattle.board_run.proofs.Appending.{appends_more, front_more, front_wider}
+use Rattle.outside_io.proofs.Pushing.{appends_more, front_more, front_wider}
 use Rattle.trace_cli.specs.Verdict.{memory_if, run_from, level_of}
 use Rattle.trace_cli.proofs.Ending.{last_fits}
 use Rattle.trace_cli.proofs.running.push_run.Goals as goal

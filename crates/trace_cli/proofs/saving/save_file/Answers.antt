@@ -14,7 +14,7 @@ returns-in-Ok-clause-answer g c =
     let e = g.F.Files.seen c.save_board.new.files in
     let w = g.S.Sink.seen c.args.out.now in
     let w' = g.S.Sink.seen c.save_board.new.out in
-    answers_saved c.args.image.now c.args.script.now c.args.name.now a b e w w' c.args.steps c.in-Ok.board c.save_board.result c.in-Ok.ensures.contents c.in-Ok.ensures.puts
+    answers_saved c.args.image.now c.args.script.now c.args.name.now a b e w w' c.args.steps c.in-Ok.board c.save_board.result c.in-Ok.ensures.only_reads.contents c.in-Ok.ensures.only_reads.puts
     (c.in-Ok.ensures.ready_to_save c.args.name.now c.args.steps) c.save_board.ensures.tells
 
 pub returns-in-Err-clause-answer : goal.returns-in-Err-clause-answer
@@ -23,4 +23,4 @@ returns-in-Err-clause-answer g c =
     let b = g.F.Files.seen c.prepare_run.new.files in
     let w = g.S.Sink.seen c.args.out.now in
     let w' = g.S.Sink.seen c.tell_named_fault.new.out in
-    answers_named_fault (save c.args.image.now c.args.script.now c.args.name.now c.args.steps) a b w w' c.in-Err.named_fault c.tell_named_fault.result c.in-Err.ensures.contents (c.in-Err.ensures.save_fault c.args.name.now c.args.steps) c.tell_named_fault.ensures
+    answers_named_fault (save c.args.image.now c.args.script.now c.args.name.now c.args.steps) a b w w' c.in-Err.named_fault c.tell_named_fault.result c.in-Err.ensures.only_reads.contents (c.in-Err.ensures.save_fault c.args.name.now c.args.steps) c.tell_named_fault.ensures

@@ -8,6 +8,12 @@ use Rattle.board_model.specs.Turn.{turn, turned, turned_of, after_events}
 use Rattle.board_core.proofs.Turning.{rested, rested_as, next_of, noted_in, as_chosen, stands_after, turn_notes, choice_kept, few_events}
 use Rattle.board_model.proofs.TurnChains.{sane-after_events}
 use Rattle.board_model.proofs.Counts.{counted_turn, turn_more, later-after_events}
+use Rattle.board_model.proofs.Lifetimes.{grounded-turn}
+use Rattle.board_model.proofs.SameReads.{same_turn}
+use Rattle.board_model.proofs.FaultTurns.{changes_nothing_else}
+use Rattle.board_model.proofs.DeadTurns.{dead_turn}
+use Rattle.board_model.proofs.LonerFrame.{alone-turn, bytes-turn}
+use Rattle.board_model.proofs.LonerOwnTurns.{own_turns}
 use Rattle.board_core.proofs.board.Board.turn_at.Goals as goal
 
 pub turn-turned-requires-clause-next : goal.turn-turned-requires-clause-next
@@ -85,3 +91,21 @@ returns-clause-due boxes c = λ not_due. c.renew.ensures.due ∙ c.begin.ensures
 
 pub returns-clause-kept : goal.returns-clause-kept
 returns-clause-kept boxes c = λ not_due none. c.renew.ensures.kept none ∙ c.begin.ensures.kept not_due
+
+pub returns-clause-grounds : goal.returns-clause-grounds
+returns-clause-grounds boxes c = λ x s st. grounded-turn c.args.level x s st.sane
+
+pub returns-clause-reads : goal.returns-clause-reads
+returns-clause-reads boxes c = λ x s st m agrees. same_turn c.args.level x s m st.sane agrees
+
+pub returns-clause-faults : goal.returns-clause-faults
+returns-clause-faults boxes c = λ x s st i h. changes_nothing_else c.args.level x s i st.sane h
+
+pub returns-clause-dead_ids : goal.returns-clause-dead_ids
+returns-clause-dead_ids boxes c = λ x s st. dead_turn c.args.level x s st.sane
+
+pub returns-clause-loners : goal.returns-clause-loners
+returns-clause-loners boxes c = λ x s st i idle other. (alone-turn s i c.args.level x st.sane idle other, λ loner a own. bytes-turn s i c.args.level x st.sane idle other loner a own)
+
+pub returns-clause-alone : goal.returns-clause-alone
+returns-clause-alone boxes c = λ x s st level y u i j sane alike own own_too itself. (own_turns c.args.level level x y i j s u alike st.sane sane own own_too itself).0

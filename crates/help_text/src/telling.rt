@@ -1,0 +1,74 @@
+//! Which parts are said of what.
+ghost use Rattle.std.specs.Prelude.{◌≡◌, map};
+ghost use Rattle.outside_io.specs.Outside.{HasCause, Pushes};
+ghost use Rattle.help_text.specs.Help.{help_text, parts_of, parts_on};
+
+use crate::texts::{
+    APPLICATION_CAUSES, AUDIT, BUILD, COMMANDS, COMMANDS_CAUSES, DEBUG, GO, HELP, IMAGE_CAUSES,
+    LIMITS, LIST, MIGRATE, RESUME, RUN, SAMPLE, SAVE, SCRIPT_CAUSES, SOURCE_CAUSES, STATE_CAUSES,
+    STATUSES, TRACE_CAUSES,
+};
+use command_line::CommandName;
+use outside_io::{Failed, Sink, push_lines};
+
+/// What is said of a command: its words and files, the limits, the statuses, and the causes of its files.
+fn parts_on(command: CommandName) -> &'static [&'static [&'static str]]
+    ensures { map (λ part. map (λ line. line.now) part.now) result.now ≡ parts_on command }
+{
+    match command {
+        CommandName::Build => &[BUILD, LIMITS, STATUSES, APPLICATION_CAUSES, SOURCE_CAUSES],
+        CommandName::Run => &[RUN, LIMITS, STATUSES, IMAGE_CAUSES, SCRIPT_CAUSES],
+        CommandName::Go => &[
+            GO,
+            LIMITS,
+            STATUSES,
+            APPLICATION_CAUSES,
+            SOURCE_CAUSES,
+            SCRIPT_CAUSES,
+        ],
+        CommandName::List => &[LIST, LIMITS, STATUSES, IMAGE_CAUSES],
+        CommandName::Sample => &[SAMPLE, LIMITS, STATUSES],
+        CommandName::Migrate => &[MIGRATE, LIMITS, STATUSES, IMAGE_CAUSES],
+        CommandName::Audit => &[AUDIT, LIMITS, STATUSES, TRACE_CAUSES],
+        CommandName::Save => &[SAVE, LIMITS, STATUSES, IMAGE_CAUSES, SCRIPT_CAUSES],
+        CommandName::Resume => &[
+            RESUME,
+            LIMITS,
+            STATUSES,
+            IMAGE_CAUSES,
+            SCRIPT_CAUSES,
+            STATE_CAUSES,
+        ],
+        CommandName::Debug => &[
+            DEBUG,
+            LIMITS,
+            STATUSES,
+            IMAGE_CAUSES,
+            SCRIPT_CAUSES,
+            COMMANDS_CAUSES,
+        ],
+        CommandName::Help => &[HELP, STATUSES],
+    }
+}
+
+/// What is said of the program, or of a command.
+fn parts(about: Option<CommandName>) -> &'static [&'static [&'static str]]
+    ensures { map (λ part. map (λ line. line.now) part.now) result.now ≡ parts_of about }
+{
+    match about {
+        None => &[COMMANDS],
+        Some(command) => parts_on(command),
+    }
+}
+
+/// Pushes what `help` says, a line and a push each (docs/FORMATS.md, Command line). After a failing push nothing more is
+/// pushed.
+pub fn push_help<S: Sink>(about: Option<CommandName>, out: &mut S) -> Result<(), Failed>
+    ensures bytes { Pushes (S.seen out.old).written (S.seen out.new).written (help_text about) result }
+    ensures cause { HasCause (S.seen out.old).faults (S.seen out.new).faults result }
+{
+    for part in parts(about) {
+        push_lines(part, out)?;
+    }
+    Ok(())
+}

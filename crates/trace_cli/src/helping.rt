@@ -1,0 +1,29 @@
+//! What the commands are, and what one of them takes and answers.
+ghost use Rattle.std.specs.Prelude.{◌≡◌, List};
+ghost use Rattle.kernel_abi.specs.Devices.{DeviceData};
+ghost use Rattle.outside_io.specs.Seen.{FilesSeen};
+ghost use Rattle.command_line.specs.CommandLine.{help as help_job};
+ghost use Rattle.trace_cli.specs.Answer.{AnswersJob};
+ghost use Rattle.trace_cli.specs.Pushed.{Pushed};
+ghost use Rattle.trace_cli.specs.Verdict.{helped};
+
+use command_line::CommandName;
+use help_text::push_help;
+use outside_io::Sink;
+
+fn tell_help<S: Sink>(about: Option<CommandName>, out: &mut S) -> u8
+    ensures { Pushed (S.seen out.old) (S.seen out.new) (helped about) result }
+{
+    match push_help(about, out) {
+        Ok(()) => 0,
+        Err(_) => 4,
+    }
+}
+
+/// `help [COMMAND]`. No file is read.
+pub fn help<S: Sink>(about: Option<CommandName>, out: &mut S) -> u8
+    ensures { (devices : List DeviceData) (before after : FilesSeen) → after.contents ≡ before.contents
+        → AnswersJob devices (help_job about) before after (S.seen out.old) (S.seen out.new) result }
+{
+    tell_help(about, out)
+}
