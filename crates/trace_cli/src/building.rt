@@ -1,12 +1,12 @@
 //! From the files of an application to its image, which is put under a name or run.
-ghost use Rattle.std.specs.Prelude.{◌≡◌, ◌≤◌, ◌<◌, ◌⊎◌, ◌++◌, ◌∷◌, [], ℕ, List, length, None, Some, IfOk, OnOk, IfErr, string_bytes};
+ghost use Rattle.std.specs.Prelude.{◌≡◌, ◌≤◌, ◌<◌, ◌⊎◌, ◌++◌, ◌∷◌, [], ℕ, List, length, None, IfOk, OnOk, IfErr};
 ghost use Rattle.kernel_abi.specs.Devices.{DeviceData};
 ghost use Rattle.app_toml.specs.Held.{app_of};
 ghost use Rattle.command_line.specs.CommandLine.{build as build_job};
 ghost use Rattle.image_format.specs.Images.{picture};
 ghost use Rattle.image_build.specs.Accepted.{HasAccepted, described, next_task};
 ghost use Rattle.trace_cli.specs.Contents.{file_limit, room_refusal, source_refusal};
-ghost use Rattle.trace_cli.specs.Sources.{MayBe, OnlyReads};
+ghost use Rattle.trace_cli.specs.Sources.{OnlyReads};
 ghost use Rattle.trace_cli.specs.FileFaults.{IsFaultFor, IsNamedFaultOf};
 ghost use Rattle.trace_cli.specs.Building.{HasNext, HasAll, IsImageOf, IsImage, IsNamedFaultInApp, IsNamedFaultInSources};
 ghost use Rattle.trace_cli.specs.Verdict.{built};

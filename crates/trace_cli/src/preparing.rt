@@ -1,5 +1,5 @@
 //! From the files of a job to the board of its run.
-ghost use Rattle.std.specs.Prelude.{◌≡◌, ◌≤◌, ℕ, List, map, IfOk, IfErr};
+ghost use Rattle.std.specs.Prelude.{ℕ, List, map, IfOk, IfErr};
 ghost use Rattle.kernel_abi.specs.Devices.{AreFresh};
 ghost use Rattle.image_format.specs.Images.{picture};
 ghost use Rattle.run_script.specs.Events.{script_data};

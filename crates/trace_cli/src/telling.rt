@@ -1,5 +1,5 @@
 //! One line, and the status that goes with it.
-ghost use Rattle.std.specs.Prelude.{◌≡◌, ℕ, IfOk, string_bytes};
+ghost use Rattle.std.specs.Prelude.{◌≡◌, IfOk, string_bytes};
 ghost use Rattle.image_format.specs.Images.{picture};
 ghost use Rattle.trace_cli.specs.Pushed.{Pushed, Says, SaysNamedFault};
 ghost use Rattle.trace_cli.specs.Verdict.{Verdict, usage, unread, refused, refused_front, refused_line, unread_line, built_line, saved_line, listed, listing_line, status_of};
