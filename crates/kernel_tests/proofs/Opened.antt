@@ -1,5 +1,5 @@
 -- A board that was opened stands for the start of its run.
-use Rattle.std.proofs.Common.{◌≡◌, ◌≤◌, ℕ, true, length, arith, lt-ltb}
+use Rattle.std.proofs.Common.{◌≡◌, ◌≤◌, true, length, arith, lt-ltb}
 use Rattle.std.specs.Prelude.{Result, Ok, Err, IfOk}
 use Rattle.mem_banks.specs.Memory.{is_held}
 use Rattle.task_table.specs.State.{State}

@@ -1,7 +1,6 @@
 //! The loop of docs/GUIDE.md, From a crate of one's own: whole turns of a board with a console, up to the end of the run.
-ghost use Rattle.std.specs.Prelude.{◌≡◌, IfOk};
 ghost use Rattle.board_core.specs.Data.{boxed};
-ghost use Rattle.board_core.specs.Stands.{Stood, turns_of};
+ghost use Rattle.board_core.specs.Stands.{Stood};
 
 use board_core::{Board, End, Turned};
 use devices::{Console, Device};
@@ -25,18 +24,11 @@ const CODE: [u8; 24] = [
     0x00, 0x22, 0x00, 0x22, 0x00, 0x22, 0x00, 0xde,
 ];
 
-fn board(rt: &impl Abort, alloc: Global) -> Result<Board, AllocError>
-    ensures stood { IfOk result (λ b. Stood (boxed shown) b) }
-    ensures turns { IfOk result (λ b. turns_of b ≡ 0) }
-{
+fn image(rt: &impl Abort, alloc: Global) -> Image {
     let mut bytes = [0; 312];
     bytes[..56].copy_from_slice(&HEAD);
     bytes[56..80].copy_from_slice(&CODE);
-    let image = Image::read(alloc, &bytes).expect(rt, "the image is sound");
-    let script = Script::read(alloc, b"every 10 tick\n").expect(rt, "the script is taken");
-    let mut devices: Vec<Box<dyn Device>> = Vec::new(alloc);
-    devices.push(Box::new(alloc, Console::new(0x4000_0000))?)?;
-    Board::open(alloc, &image, &script, devices)
+    Image::read(alloc, &bytes).expect(rt, "the image is sound")
 }
 
 /// What a turn gives out, and a dot for a tick.
@@ -71,7 +63,11 @@ fn play(alloc: Global, board: &mut Board) -> Result<(Vec<u32>, Vec<u8>), AllocEr
 #[test]
 fn whole_turns_up_to_the_end(rt: HostRuntime) -> Result<(), Fail> {
     let alloc = rt.alloc();
-    let mut board = board(&rt, alloc)?;
+    let image = image(&rt, alloc);
+    let script = Script::read(alloc, b"every 10 tick\n").expect(&rt, "the script is taken");
+    let mut devices: Vec<Box<dyn Device>> = Vec::new(alloc);
+    devices.push(Box::new(alloc, Console::new(0x4000_0000))?)?;
+    let mut board = Board::open(alloc, &image, &script, devices)?;
     let (ran, text) = play(alloc, &mut board)?;
     assert!(rt;
         ran.as_slice()
