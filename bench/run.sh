@@ -123,14 +123,14 @@ instructions() {
     many=$(host "$@" --steps 1200000)
     awk -v what="$what" -v n=$((many - few)) -v most="$most" 'BEGIN { printf "%-28s %7.1f host instructions a turn, at most %d\n", what, n / 1e6, most; exit n / 1e6 > most }' || short=1
 }
-for image in $compiled; do instructions "$image" 66 "out/$image.img" out/empty.txt; done
+for image in $compiled; do instructions "$image" 54 "out/$image.img" out/empty.txt; done
 instructions "two instructions" 26 "$data/a.img" out/empty.txt
-instructions "shared memory" 70 out/shared.img out/empty.txt
-instructions "a driver that polls" 210 out/polls.img out/empty.txt
-instructions "32 tasks with timers" 355 out/timers.img timers/script.txt
-instructions "16 clients, 4 servers" 248 out/messages.img out/empty.txt
-instructions "8 lenders, 1 server" 246 out/leases.img out/empty.txt
-instructions "large sample" 158 sample/sample.img sample/script.txt
-instructions "512 tasks with timers" 386 out/timers512.img timers/script.txt
-instructions "507 clients, 4 servers" 260 out/messages512.img out/empty.txt
+instructions "shared memory" 52 out/shared.img out/empty.txt
+instructions "a driver that polls" 192 out/polls.img out/empty.txt
+instructions "32 tasks with timers" 352 out/timers.img timers/script.txt
+instructions "16 clients, 4 servers" 245 out/messages.img out/empty.txt
+instructions "8 lenders, 1 server" 242 out/leases.img out/empty.txt
+instructions "large sample" 152 sample/sample.img sample/script.txt
+instructions "512 tasks with timers" 382 out/timers512.img timers/script.txt
+instructions "507 clients, 4 servers" 257 out/messages512.img out/empty.txt
 exit $short
