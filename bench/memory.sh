@@ -46,6 +46,8 @@ audit examples/client-server/expected-mem.txt
 save crates/hubris/data/a.img crates/hubris/data/e.txt $out/app.img --steps 3
 resume crates/hubris/data/a.img crates/hubris/data/e.txt $out/state --steps 3
 debug crates/hubris/data/a.img crates/hubris/data/e.txt $out/commands
+help
+help run
 WORDS
 rm -rf $out
 [ $bad = 0 ]

@@ -27,7 +27,7 @@ __attribute__((constructor)) static void begin(void) {
     const char *name = getenv("REFUSE_TO"), *wanted = getenv("REFUSE_TEXT");
     out = getenv("REFUSE_OUT");
     if (wanted) text = open(wanted, O_RDONLY | O_CLOEXEC);
-    if (name) to = open(name, O_WRONLY | O_CREAT | O_TRUNC | O_CLOEXEC, 0666);
+    if (name) to = open(name, O_WRONLY | O_CREAT | O_TRUNC | O_APPEND | O_CLOEXEC, 0666);
 }
 
 ssize_t write(int fd, const void *bytes, size_t count) {
@@ -50,12 +50,26 @@ static long told(int from, int *same) {
     return length;
 }
 
+/* Where the open files stand: a child shares the places of its parent, and reads on from them. */
+enum { FILES = 64 };
+static off_t places[FILES];
+
+static void note_places(void) {
+    for (int fd = 3; fd < FILES; fd++) places[fd] = lseek(fd, 0, SEEK_CUR);
+}
+
+static void take_places_back(void) {
+    for (int fd = 3; fd < FILES; fd++)
+        if (places[fd] >= 0) lseek(fd, places[fd], SEEK_SET);
+}
+
 /* Whether this process is the child for which the call is refused. */
 static int is_refused(void) {
     int ends[2], status, same;
     if (to < 0) return 0;
     calls++;
     if (pipe(ends)) _exit(99);
+    note_places();
     pid_t child = fork();
     if (child < 0) _exit(99);
     if (child == 0) {
@@ -70,6 +84,7 @@ static int is_refused(void) {
     long length = told(ends[0], &same);
     close(ends[0]);
     waitpid(child, &status, 0);
+    take_places_back();
     char line[128];
     int is_put = out && access(out, F_OK) == 0;
     if (is_put) unlink(out);
