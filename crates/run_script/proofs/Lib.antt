@@ -6,3 +6,4 @@ pub mod Picks
 pub mod Known
 pub mod Each
 pub mod Coming
+pub mod Adding

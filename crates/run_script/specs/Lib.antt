@@ -1,5 +1,6 @@
 pub mod Events
 pub mod Facts
+pub mod Laying
 pub mod Drafts
 pub mod Scripts
 pub mod Statements

@@ -9,9 +9,9 @@ use crate::statement::Statement;
 use std::alloc::Global;
 
 /// The most events that a script lists, and the most of one turn.
-const MOST: usize = 65536;
+pub(crate) const MOST: usize = 65536;
 
-const MOST_OF_TURN: u8 = 8;
+pub(crate) const MOST_OF_TURN: u8 = 8;
 
 /// What is read so far.
 #[derive(Drop)]

@@ -4,6 +4,7 @@
 
 mod draft;
 mod events;
+mod laying;
 mod making;
 mod reading;
 mod script;

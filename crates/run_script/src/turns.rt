@@ -13,7 +13,7 @@ use crate::script::Script;
 use std::alloc::{AllocError, Global};
 
 /// Where the first listed event of this turn or a later one stands, or how many there are.
-fn first_of(script: &Script, turn: u32) -> usize
+pub(crate) fn first_of(script: &Script, turn: u32) -> usize
     ensures within { result ≤ length (script_data script.now).events }
     ensures before { (k : ℕ) (d : Listed) → k < result
         → nat_lt (slice_index_or (script_data script.now).events k d).0 turn ≡ true }
@@ -27,7 +27,7 @@ fn first_of(script: &Script, turn: u32) -> usize
 }
 
 /// The k-th listed event of a turn.
-fn listed_at(script: &Script, turn: u32, k: u32) -> Option<Event>
+pub(crate) fn listed_at(script: &Script, turn: u32, k: u32) -> Option<Event>
     ensures { result ≡ slice_get (listed_of turn (script_data script.now).events) k }
 {
     let at = first_of(script, turn) + k as usize;
@@ -65,7 +65,7 @@ fn event_of(script: &Script, turn: u32, k: u32) -> Option<Event>
 }
 
 /// A run has fewer turns.
-const TURNS: u32 = 1_000_000_000;
+pub(crate) const TURNS: u32 = 1_000_000_000;
 
 /// The turn, but 1 for turn 0.
 fn from_1(turn: u32) -> u32
