@@ -49,3 +49,6 @@ pub mod LonerBirths
 pub mod BirthTurns
 pub mod RunCuts
 pub mod GenerationsSeen
+pub mod Laid
+pub mod SameScripts
+pub mod Forks

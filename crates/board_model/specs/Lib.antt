@@ -10,3 +10,5 @@ pub mod Agreement
 pub mod Loners
 pub mod LonerTurns
 pub mod Cut
+pub mod Laid
+pub mod SameScripts

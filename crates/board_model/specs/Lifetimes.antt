@@ -1,5 +1,6 @@
 -- What a turn may do to memory and to calls, and the ledger of a run.
 use Rattle.std.specs.Prelude.{ℕ, ◌%◌, ◌<◌, ◌≤◌, ◌≡◌, ◌≢◌, List, [], map, None, Some, Contains, bit_and, fold}
+use Rattle.kernel_abi.specs.declared.Ending.{Ending}
 use Rattle.kernel_abi.specs.declared.Note.{Note}
 use Rattle.kernel_abi.specs.Devices.{DeviceData, devices_fed}
 use Rattle.run_script.specs.declared.events.Event.{Event}
@@ -17,7 +18,7 @@ use Rattle.task_table.specs.Lives.{IsClosed, IsSilent}
 use Rattle.board_model.specs.declared.outcomes.Level.{Level}
 use Rattle.board_model.specs.Script.{Scenario, start_of}
 use Rattle.board_model.specs.Turn.{after_events, turn}
-use Rattle.board_model.specs.Run.{run, state_after, notes_after}
+use Rattle.board_model.specs.Run.{run, turn_after, state_after, notes_after}
 
 -- ## one turn
 
@@ -84,6 +85,10 @@ ChangesOnGrounds level x s = (a : ℕ) → byte_at (turn level x s).state.memory
 -- the notes of a run, without their turns
 abbrev pub notes_in : List (ℕ × Note) → List Note
 notes_in notes = map (λ n. n.1) notes
+
+-- turn n of a run from the start notes that call k is closed
+abbrev pub ClosesIn : Level → Scenario → ℕ → ℕ → Ending → Type 0
+ClosesIn level x n k ending = Contains (turn_after level x n (start_of x)).notes (note.Close k ending)
 
 -- what the notes of a run from the start say of calls is so, and agrees with the calls that are open at its end
 abbrev pub IsLedgerOfRun : Level → Scenario → ℕ → Type 0

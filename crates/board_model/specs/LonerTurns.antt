@@ -1,12 +1,14 @@
 -- The turns of one birth of a task, counted by its own.
-use Rattle.std.specs.Prelude.{◌≡◌, ◌⊎◌, ℕ, zero, suc, ◌+◌, ◌<◌, Bool, false, ◌==◌, if◌then◌else◌, List, Contains, Option, None, Some}
+use Rattle.std.specs.Prelude.{◌≡◌, ◌⊎◌, ℕ, zero, suc, ◌+◌, ◌<◌, Bool, false, ◌==◌, if◌then◌else◌, List, length, Contains, Option, None, Some}
 use Rattle.kernel_abi.specs.declared.Note.{Note}
 use Rattle.kernel_abi.specs.declared.Note.TheVariants as note
-use Rattle.task_table.specs.State.{State}
+use Rattle.task_table.specs.State.{State, Turn}
 use Rattle.task_table.specs.Reading.{task_at, chosen, IsIdle}
+use Rattle.task_table.specs.Effects.{restarted}
+use Rattle.task_table.specs.Rows.{goes_on_with}
 use Rattle.board_model.specs.declared.outcomes.Level.{Level}
 use Rattle.board_model.specs.Script.{Scenario}
-use Rattle.board_model.specs.Turn.{after_events, turn}
+use Rattle.board_model.specs.Turn.{after_events, turn, stepped, with_current}
 use Rattle.board_model.specs.Run.{turn_after, state_after}
 use Rattle.task_table.specs.Sane.{Sane}
 use Rattle.board_model.specs.Loners.{IsLoner, HaveSameRegions, AreMadeAlike, HaveSameBytes, HaveSameOwn, IsUntouched, IsStruck, IsAtBirth}
@@ -41,6 +43,16 @@ pub record AreAlike (x y : Scenario) (i j : ℕ) (s u : State) : Type 0 where
 -- loner that is alike in another state has the same after its own turn there
 abbrev pub LonersDecide : Level → Scenario → State → Type 0
 LonersDecide level x s = (other : Level) (y : Scenario) (u : State) (i j : ℕ) → Sane y.setup u → AreAlike x y i j s u → IsOwnTurn x i s → IsOwnTurn y j u → IsToItself i (turn level x s).notes → HaveSameOwn x.setup i j (turn level x s).state (turn other y u).state
+
+-- in the turn from s, its own, task c restarts task i and goes on: from some state of that turn on, with or without i running, and
+-- with some values for c
+pub record IsRestart (level : Level) (x : Scenario) (s : State) (c i : ℕ) : Type 0 where
+  pub own : IsOwnTurn x c s
+  pub before : Turn
+  pub run : Bool
+  pub values : List ℕ
+  pub does : stepped level x.setup c (with_current c (after_events x s)) ≡ goes_on_with c values (restarted x.setup i run before)
+  pub there : i < length before.state.tasks
 
 -- ## many turns
 
@@ -77,3 +89,10 @@ own_count level x i s (suc n) = own_count level x i s n + (if is_own_turn x i (s
 -- in each of the first n turns from a state the task goes by itself
 abbrev pub GoesByItself : Level → Scenario → ℕ → State → ℕ → Type 0
 GoesByItself level x i s n = (m : ℕ) → m < n → IsToItself i (turn_after level x m s).notes
+
+-- task i goes by itself for n turns from s, and task j for m from u; as many of these are its own, of which there is one at least
+pub record LiveAsLong (level other : Level) (x y : Scenario) (i j : ℕ) (s u : State) (n m : ℕ) : Type 0 where
+  pub first : GoesByItself level x i s n
+  pub second : GoesByItself other y j u m
+  pub some : 0 < own_count level x i s n
+  pub as_many : own_count other y j u m ≡ own_count level x i s n

@@ -1,10 +1,9 @@
 //! Laws of the board, each the contract of a function that does nothing.
 
-ghost use Rattle.std.specs.Prelude.{◌≡◌, ◌≢◌, ◌+◌, ◌<◌, ◌≤◌, ℕ, true, List, [], Option, Some, None, Contains, length, fold};
+ghost use Rattle.std.specs.Prelude.{◌≡◌, ◌≢◌, ◌+◌, ◌<◌, ◌≤◌, ℕ, true, List, [], Option, Some, None, length, fold};
 ghost use Rattle.kernel_abi.specs.declared.Fault.{Fault};
 ghost use Rattle.kernel_abi.specs.declared.Ending.{Ending};
 ghost use Rattle.kernel_abi.specs.declared.Note.{Note};
-ghost use Rattle.kernel_abi.specs.declared.Note.TheVariants as note;
 ghost use Rattle.run_script.specs.declared.events.Event.{Event};
 ghost use Rattle.run_script.specs.declared.events.Event.TheVariants.{Feed};
 ghost use Rattle.run_script.specs.Facts.{Facts};
@@ -24,9 +23,10 @@ ghost use Rattle.board_model.specs.declared.outcomes.Level.{Level as Detail};
 ghost use Rattle.board_model.specs.Script.{Scenario, start_of};
 ghost use Rattle.board_model.specs.Turn.{effect_of, moved, noted_at, stepped, happened, after_events, with_current, turn_of, turn};
 ghost use Rattle.board_model.specs.Faults.{IsFaulting, IsSameButForFault, AreEntries};
+ghost use Rattle.board_model.specs.LonerTurns.{IsOwnTurn};
 ghost use Rattle.board_model.specs.DeadCalls.{IsDeadTurn, NamesDead, TouchesNoMemory};
 ghost use Rattle.board_model.specs.Run.{is_down, end_at, ending, run, turn_after, state_after};
-ghost use Rattle.board_model.specs.Lifetimes.{IsUnused, IsGroundedTurn, ChangesOnGrounds, IsLedgerOfRun, IsOfTurns, devices_after};
+ghost use Rattle.board_model.specs.Lifetimes.{IsUnused, IsGroundedTurn, ChangesOnGrounds, ClosesIn, IsLedgerOfRun, IsOfTurns, devices_after};
 
 /// The turn of the chosen task, from where it is the current one, is a chain of steps: those of its
 /// instruction or of its system call's row, and what is noted besides.
@@ -89,7 +89,7 @@ pub fn turns_stand_on_their_grounds()
 /// A turn changes devices only at addresses that the chosen task may read, or write; before it each byte that comes from
 /// outside changes its own, and an idle turn changes none.
 pub fn turns_reach_devices_where_they_may()
-    ensures reached { (level : Detail) (x : Scenario) (s : State) (c : ℕ) → Sane x.setup s → chosen x.setup (after_events x s).state ≡ Some c → AreReached x.setup c (after_events x s).state.devices (turn level x s).state.devices }
+    ensures reached { (level : Detail) (x : Scenario) (s : State) (c : ℕ) → Sane x.setup s → IsOwnTurn x c s → AreReached x.setup c (after_events x s).state.devices (turn level x s).state.devices }
     ensures idle { (level : Detail) (x : Scenario) (s : State) → chosen x.setup (after_events x s).state ≡ None → (turn level x s).state.devices ≡ (after_events x s).state.devices }
     ensures fed { (x : Scenario) (s : State) → (after_events x s).state.devices ≡ fold devices_after s.devices (events_of x.script s.turn) }
 {}
@@ -118,7 +118,7 @@ pub fn each_byte_that_a_run_changes_lies_on_a_ground()
 /// byte is written on its ground, none is read for it, and no task takes it or borrows from it; and so it is from any state in which a
 /// call is closed. (Hubris Reference: leases.)
 pub fn a_closed_call_moves_no_byte()
-    ensures noted { (level : Detail) (x : Scenario) (n m k : ℕ) (ending : Ending) → Sane x.setup (start_of x) → Contains (turn_after level x n (start_of x)).notes (note.Close k ending) → n < m → IsUnused (turn_after level x m (start_of x)) k }
+    ensures noted { (level : Detail) (x : Scenario) (n m k : ℕ) (ending : Ending) → Sane x.setup (start_of x) → ClosesIn level x n k ending → n < m → IsUnused (turn_after level x m (start_of x)) k }
     ensures closed { (level : Detail) (x : Scenario) (n k : ℕ) (s : State) → Sane x.setup s → IsClosed s k → IsUnused (turn_after level x n s) k × IsClosed (state_after level x n s) k }
 {}
 

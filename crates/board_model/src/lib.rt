@@ -5,6 +5,7 @@ mod cuts;
 mod laws;
 mod loners;
 mod outcomes;
+mod scripts;
 mod two_runs;
 
 pub use cuts::{generations_decide_what_is_seen, runs_go_on_from_a_cut};
@@ -24,6 +25,10 @@ pub use loners::{
     others_leave_loners_alone, who_is_alone_is_a_loner,
 };
 pub use outcomes::{End, Level, Turned};
+pub use scripts::{
+    an_arrival_goes_on_from_before_it, arrivals_decide_nothing_before_and_after,
+    arrivals_that_meet_end_alike, what_happens_decides,
+};
 pub use two_runs::{
     a_turn_depends_on_what_it_reads, generations_decide, instructions_are_noted_beside,
     what_is_noted_decides_nothing,

@@ -7,21 +7,17 @@
 //!   birth begins alike (`births_begin_alike`).
 //! - Who is alone, as regions are compared, is one of these (`who_is_alone_is_a_loner`).
 
-ghost use Rattle.std.specs.Prelude.{◌≡◌, ◌≢◌, ◌<◌, ℕ, suc, Bool, true, false, List, Some, Contains, length};
-ghost use Rattle.region_check.specs.declared.Region.{Region};
-ghost use Rattle.region_check.specs.Rights.{is_alone, SameOrApart};
-ghost use Rattle.task_table.specs.State.{Setup, State, Turn};
-ghost use Rattle.task_table.specs.Reading.{task_at, setup_at, chosen, IsIdle};
-ghost use Rattle.task_table.specs.Effects.{restarted};
-ghost use Rattle.task_table.specs.Rows.{goes_on_with};
+ghost use Rattle.std.specs.Prelude.{◌≢◌, ◌<◌, ℕ, suc, length};
+ghost use Rattle.task_table.specs.State.{Setup, State};
+ghost use Rattle.task_table.specs.Reading.{task_at, IsIdle};
 ghost use Rattle.task_table.specs.Start.{start};
 ghost use Rattle.task_table.specs.Sane.{Sane};
 ghost use Rattle.board_model.specs.declared.outcomes.Level.{Level as Detail};
 ghost use Rattle.board_model.specs.Script.{Scenario};
-ghost use Rattle.board_model.specs.Turn.{after_events, stepped, with_current, turn};
+ghost use Rattle.board_model.specs.Turn.{after_events, turn};
 ghost use Rattle.board_model.specs.Run.{state_after};
-ghost use Rattle.board_model.specs.Loners.{IsLoner, HaveSameOwn, IsUntouched, IsAtBirth};
-ghost use Rattle.board_model.specs.LonerTurns.{LeavesLoners, LonersDecide, Lives, AreBornAlike, own_count, GoesByItself};
+ghost use Rattle.board_model.specs.Loners.{IsAlone, IsLoner, HaveSameOwn, IsUntouched, IsAtBirth};
+ghost use Rattle.board_model.specs.LonerTurns.{IsRestart, LeavesLoners, LonersDecide, LiveAsLong, Lives, AreBornAlike};
 
 /// What others do leaves a loner alone. A task that waits for nothing has after a turn that is not its own the births,
 /// registers, flags and health that it had, and waits for nothing, unless the supervisor restarted it or made it fault in
@@ -43,7 +39,7 @@ pub fn loners_decide_their_own_turns()
 /// the other tasks, the priorities and the scripts are and whenever these turns fall: as long as neither makes a system call
 /// but PANIC, nor is made to fault by the supervisor.
 pub fn loners_go_their_own_way()
-    ensures runs { (level other : Detail) (x y : Scenario) (i j n m : ℕ) (s u : State) → AreBornAlike x y i j s u → GoesByItself level x i s n → GoesByItself other y j u m → 0 < own_count level x i s n → own_count other y j u m ≡ own_count level x i s n → HaveSameOwn x.setup i j (state_after level x n s) (state_after other y m u) }
+    ensures runs { (level other : Detail) (x y : Scenario) (i j n m : ℕ) (s u : State) → AreBornAlike x y i j s u → LiveAsLong level other x y i j s u n m → HaveSameOwn x.setup i j (state_after level x n s) (state_after other y m u) }
     ensures lives { (level other : Detail) (x y : Scenario) (i j k : ℕ) (s u z v : State) → AreBornAlike x y i j s u → Lives level x i s (suc k) z → Lives other y j u (suc k) v → HaveSameOwn x.setup i j z v }
 {}
 
@@ -52,12 +48,12 @@ pub fn loners_go_their_own_way()
 /// was born is such a turn.
 pub fn births_begin_alike()
     ensures first { (g : Setup) (i : ℕ) → i < length g.tasks → IsAtBirth g i (start g) }
-    ensures later { (level : Detail) (x : Scenario) (s : State) (i c : ℕ) (values : List ℕ) (run : Bool) (t : Turn) → chosen x.setup (after_events x s).state ≡ Some c → stepped level x.setup c (with_current c (after_events x s)) ≡ goes_on_with c values (restarted x.setup i run t) → i < length t.state.tasks → i ≢ c → IsAtBirth x.setup i (turn level x s).state }
+    ensures later { (level : Detail) (x : Scenario) (s : State) (c i : ℕ) → IsRestart level x s c i → i ≢ c → IsAtBirth x.setup i (turn level x s).state }
     ensures each { (level : Detail) (x : Scenario) (s : State) (i : ℕ) → Sane x.setup s → (task_at (turn level x s).state i).births ≢ (task_at s i).births → IsAtBirth x.setup i (turn level x s).state }
 {}
 
 /// A task that is alone among the others, and has no device, is a loner, where any two regions are at the same place or have
 /// no byte in common, as in every image.
 pub fn who_is_alone_is_a_loner()
-    ensures { (g : Setup) (i : ℕ) → i < length g.tasks → ((j : ℕ) → j ≢ i → is_alone (setup_at g i).regions (setup_at g j).regions ≡ true) → ((r : Region) → Contains (setup_at g i).regions r → r.rights.device ≡ false) → ((j : ℕ) (r q : Region) → Contains (setup_at g i).regions r → Contains (setup_at g j).regions q → SameOrApart r q) → IsLoner g i }
+    ensures { (g : Setup) (i : ℕ) → IsAlone g i → IsLoner g i }
 {}

@@ -6,7 +6,7 @@ pub returns-clause-first : goal.returns-clause-first
 returns-clause-first c = λ g i inside. birth-start g i inside
 
 pub returns-clause-later : goal.returns-clause-later
-returns-clause-later c = λ level x s i v values run t own does inside other. birth-turn level x s i v values run t own does inside other
+returns-clause-later c = λ level x s caller i h other. birth-turn level x s i caller h.values h.run h.before h.own h.does h.there other
 
 pub returns-clause-each : goal.returns-clause-each
 returns-clause-each c = λ level x s i h changes. begins_at_birth level x s h i changes

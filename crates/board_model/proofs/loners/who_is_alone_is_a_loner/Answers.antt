@@ -3,8 +3,8 @@ use Rattle.task_table.specs.Reading.{setup_at}
 use Rattle.board_model.proofs.loners.who_is_alone_is_a_loner.Goals as goal
 
 pub returns : goal.returns
-returns c = λ g i there lone no_device places. record {
-  there = there;
-  no_device = no_device;
-  apart = λ j other r q here yonder a inside. alone.apart (setup_at g i).regions (setup_at g j).regions (lone j other) r q here yonder (places j r q here yonder) a inside;
+returns c = λ g i h. record {
+  there = h.there;
+  no_device = h.no_device;
+  apart = λ j other r q here yonder a inside. alone.apart (setup_at g i).regions (setup_at g j).regions (h.alone j other) r q here yonder (h.placed j r q here yonder) a inside;
 }
