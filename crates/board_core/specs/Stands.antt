@@ -5,6 +5,7 @@ use Rattle.task_table.specs.State.{State}
 use Rattle.task_table.specs.Sane.{Sane, IsCounted}
 use Rattle.task_table.specs.Holds.{notes_of as kernel_notes, task_count}
 use Rattle.run_script.specs.Events.{script_data}
+use Rattle.run_script.specs.declared.script.Script.{Script}
 use Rattle.run_script.specs.Scripts.{IsNext}
 use Rattle.board_core.specs.declared.board.Board.{Board}
 use Rattle.board_model.specs.Script.{Scenario}
@@ -23,6 +24,10 @@ turns_of b = b.turns
 
 abbrev pub count_of : {X : Type 0} {H : X → Type 0} → Board X H → ℕ
 count_of b = task_count b.machine.reach.kernel
+
+-- its script
+abbrev pub script_of : {X : Type 0} {H : X → Type 0} → Board X H → Script
+script_of b = b.script
 
 -- its parts are those of the state: its machine's, its turn number and its choice; its script is the
 -- run's, it knows when something happens next, and which devices each task may read

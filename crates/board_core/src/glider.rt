@@ -1,5 +1,5 @@
 //! The processor of the current task, which can have a window, the bytes of three of the task's regions.
-ghost use Rattle.std.specs.Prelude.{◌≡◌, ◌≤◌, ◌<◌, true, false, length};
+ghost use Rattle.std.specs.Prelude.{◌≡◌, ◌≤◌, ◌<◌, true, false, length, []};
 ghost use Rattle.thumb_step.specs.Windows.{Glides, IsApart, Keeps, IsAtSyscall, is_at_syscall, view_of};
 ghost use Rattle.board_core.specs.Gliding.{HasWorked, IsLast, TellsCall};
 
@@ -40,7 +40,12 @@ pub fn is_apart(window: &Window) -> bool
 
 impl Glider {
     /// One that never had a window.
-    pub fn new(alloc: Global) -> Glider {
+    pub fn new(alloc: Global) -> Glider
+        ensures flash { result.runner.window.flash.items ≡ [] }
+        ensures ram { result.runner.window.ram.items ≡ [] }
+        ensures area { result.runner.window.area.items ≡ [] }
+        ensures none { result.made ≡ 0 }
+    {
         let flags = Flags {
             n: false,
             z: false,

@@ -1,5 +1,5 @@
 //! The processor of the current task while it has a window and, beside it, the devices of which the task may read some.
-ghost use Rattle.std.specs.Prelude.{◌≡◌, ◌+◌, ◌%◌, ◌≤◌, ◌<◌, length, true, false};
+ghost use Rattle.std.specs.Prelude.{◌≡◌, ◌+◌, ◌%◌, ◌≤◌, ◌<◌, length, true, false, []};
 ghost use Rattle.kernel_abi.specs.Devices.{device_number};
 ghost use Rattle.words_core.specs.Regs.{reg_at, program_counter};
 ghost use Rattle.thumb_exec.specs.Sizes.{IsSize};
@@ -38,7 +38,11 @@ pub struct Poller {
 
 impl Poller {
     /// One that never had a window.
-    pub fn new(alloc: Global) -> Poller {
+    pub fn new(alloc: Global) -> Poller
+        ensures devices { data_of shown result.devices ≡ [] }
+        ensures ports { result.ports.items ≡ [] }
+        ensures none { result.made ≡ 0 }
+    {
         Poller {
             glider: Glider::new(alloc),
             devices: Devices::of(Vec::new(alloc)),

@@ -9,14 +9,18 @@ ghost use Rattle.kernel_abi.specs.Devices.{device_at, with_device, IsSettable};
 ghost use Rattle.mem_banks.specs.Memory.{with_bytes, is_held};
 ghost use Rattle.task_table.specs.State.{State};
 ghost use Rattle.task_table.specs.Setting.{with_slot, IsTold};
+ghost use Rattle.run_script.specs.Events.{script_data};
+ghost use Rattle.board_model.specs.Laid.{with_script};
 ghost use Rattle.board_model.specs.Script.{Scenario};
-ghost use Rattle.board_core.specs.Stands.{Holds, count_of};
+ghost use Rattle.board_core.specs.Stands.{Holds, count_of, script_of, turns_of};
 ghost use Rattle.board_core.specs.Setting.{timer_told, slot_told, with_flash};
 
 use crate::board::Board;
 use crate::choice::choice_of;
 use crate::views::TaskView;
 use kernel_abi::{Generation, Timer};
+use run_script::Script;
+use std::mem::swap;
 use task_table::{Line, Slot};
 
 /// A timer by its deadline and its bits.
@@ -55,6 +59,18 @@ impl Board {
     {
         self.turns = v;
         self.due = self.script.next(v);
+    }
+
+    /// What happens from outside is another script's from now on. Its place is given the one before.
+    pub fn exchange_script(&mut self, script: &mut Script)
+        requires { turns_of self.old < 2 ^ 32 }
+        ensures holds { (x : Scenario) (s : State) → Holds shown x self.old s → Holds shown (with_script x (script_data script.old)) self.new s }
+        ensures taken { script_of self.new ≡ script.old }
+        ensures given { script.new ≡ script_of self.old }
+        ensures count { count_of self.new ≡ count_of self.old }
+    {
+        swap(&mut self.script, script);
+        self.due = self.script.next(self.turns);
     }
 
     /// The time in ticks is so.

@@ -6,6 +6,7 @@ ghost use Rattle.mem_banks.specs.Memory.{byte_at};
 ghost use Rattle.task_table.specs.Reading.{setup_at, chosen};
 ghost use Rattle.task_table.specs.Start.{start};
 ghost use Rattle.task_table.specs.Holds.{Holds as KernelHolds, task_count};
+ghost use Rattle.task_table.specs.Limits.{most_tasks};
 ghost use Rattle.run_script.specs.Events.{script_data};
 ghost use Rattle.run_script.specs.Scripts.{IsNext, lasts};
 ghost use Rattle.board_model.specs.Script.{Scenario};
@@ -94,6 +95,7 @@ impl Board {
     /// How many tasks there are.
     pub fn task_count(&self) -> usize
         ensures count { result ≡ count_of self.now }
+        ensures few { result ≤ most_tasks }
         ensures tasks { (x : Scenario) (s : State) → Stands shown x self.now s → result ≡ length s.tasks }
     {
         self.machine.reach.kernel.task_count()
