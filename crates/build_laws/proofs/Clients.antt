@@ -1,5 +1,5 @@
 -- The text of a client is taken.
-use Rattle.std.proofs.Common.{◌≡◌, ℕ, ◌<◌, List, ◌++◌, map, refl, codes, decimal}
+use Rattle.std.proofs.Common.{◌≡◌, ℕ, ◌<◌, List, ◌++◌, map, refl, codes, decimal, arith}
 use Rattle.std.specs.List.{range_with_len}
 use Rattle.std.specs.Fmt.{digits}
 use Rattle.text_lines.specs.Text.{value_in}
@@ -23,15 +23,16 @@ any_server : map server_cards (range_with_len 0 8) ≡ map (λ k. card_of (serve
 unfolding card_of digits value_in strip_front strip_end strip entry_at register_names register until from_first before after parts pieces operand_pieces closed_by split_by operand operands natural signed expression mnemonics1 mnemonics2 mnemonics3 mnemonics4 mnemonics5 mnemonics6 mnemonics7 mnemonic expressions shaped shape_size has_bad_register has_bad_number has_bad_list has_bad_count checked statement_of value insn_at shape_cause
 any_server = refl
 
-abbrev operation_line : ℕ → List ℕ
-operation_line operation = codes "adds r4, #" ++ decimal operation
+-- of the operation and of the period
+abbrev added_line : ℕ → List ℕ
+added_line number = codes "adds r4, #" ++ decimal number
 
-abbrev operation_cards : ℕ → Card
-operation_cards operation = card_of (operation_line operation)
+abbrev added_cards : ℕ → Card
+added_cards number = card_of (added_line number)
 
-any_operation : map operation_cards (range_with_len 0 6) ≡ map (λ k. card_of (operation_line 0)) (range_with_len 0 6)
+any_added : map added_cards (range_with_len 0 9) ≡ map (λ k. card_of (added_line 0)) (range_with_len 0 9)
 unfolding card_of digits value_in strip_front strip_end strip entry_at register_names register until from_first before after parts pieces operand_pieces closed_by split_by operand operands natural signed expression mnemonics1 mnemonics2 mnemonics3 mnemonics4 mnemonics5 mnemonics6 mnemonics7 mnemonic expressions shaped shape_size has_bad_register has_bad_number has_bad_list has_bad_count checked statement_of value insn_at shape_cause
-any_operation = refl
+any_added = refl
 
 abbrev size_line : ℕ → List ℕ
 size_line size = codes "movs r6, #" ++ decimal size
@@ -43,20 +44,10 @@ any_size : map size_cards (range_with_len 0 33) ≡ map (λ k. card_of (size_lin
 unfolding card_of digits value_in strip_front strip_end strip entry_at register_names register until from_first before after parts pieces operand_pieces closed_by split_by operand operands natural signed expression mnemonics1 mnemonics2 mnemonics3 mnemonics4 mnemonics5 mnemonics6 mnemonics7 mnemonic expressions shaped shape_size has_bad_register has_bad_number has_bad_list has_bad_count checked statement_of value insn_at shape_cause
 any_size = refl
 
-abbrev period_line : ℕ → List ℕ
-period_line period = codes "adds r4, #" ++ decimal period
-
-abbrev period_cards : ℕ → Card
-period_cards period = card_of (period_line period)
-
-any_period : map period_cards (range_with_len 0 9) ≡ map (λ k. card_of (period_line 0)) (range_with_len 0 9)
-unfolding card_of digits value_in strip_front strip_end strip entry_at register_names register until from_first before after parts pieces operand_pieces closed_by split_by operand operands natural signed expression mnemonics1 mnemonics2 mnemonics3 mnemonics4 mnemonics5 mnemonics6 mnemonics7 mnemonic expressions shaped shape_size has_bad_register has_bad_number has_bad_list has_bad_count checked statement_of value insn_at shape_cause
-any_period = refl
-
 pub same_cards : (server operation size period : ℕ) → server < 8 → operation < 6 → size < 33 → period < 9 → map card_of (client_lines server operation size period) ≡ map card_of (client_lines 0 0 0 0)
 unfolding client_lines
 same_cards server operation size period h i j k =
-    rw (one_value server_cards (card_of (server_line 0)) 8 server any_server h) (rw (one_value operation_cards (card_of (operation_line 0)) 6 operation any_operation i) (rw (one_value size_cards (card_of (size_line 0)) 33 size any_size j) (rw (one_value period_cards (card_of (period_line 0)) 9 period any_period k) refl)))
+    rw (one_value server_cards (card_of (server_line 0)) 8 server any_server h) (rw (one_value added_cards (card_of (added_line 0)) 9 operation any_added (omega (arith, i))) (rw (one_value size_cards (card_of (size_line 0)) 33 size any_size j) (rw (one_value added_cards (card_of (added_line 0)) 9 period any_added k) refl)))
 
 pub fine : AreFine (map card_of (client_lines 0 0 0 0))
 unfolding card_of digits value_in strip_front strip_end strip entry_at register_names register until from_first before after parts pieces operand_pieces closed_by split_by operand operands natural signed expression mnemonics1 mnemonics2 mnemonics3 mnemonics4 mnemonics5 mnemonics6 mnemonics7 mnemonic expressions shaped shape_size has_bad_register has_bad_number has_bad_list has_bad_count checked statement_of value insn_at shape_cause client_lines

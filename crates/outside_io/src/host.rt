@@ -147,6 +147,7 @@ impl<R: rt::Files + AllocGlobal> Files for HostFiles<R> {
         ensures count { (counts_of self.new).given ≡ (counts_of self.old).given }
         ensures reads { (counts_of self.new).read_faults ≡ (counts_of self.old).read_faults }
 
+        ensures gone { self.new.kept ≡ None }
         ensures faults { CountsFailure (counts_of self.old).put_faults (counts_of self.new).put_faults result }
     {
         self.kept = None;

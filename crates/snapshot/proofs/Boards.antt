@@ -21,7 +21,7 @@ use Rattle.board_core.proofs.Loading.{HoldsRest, rest_held, devices_held}
 use Rattle.board_core.proofs.Turning.{rested}
 use Rattle.board_core.proofs.KeptAlike.{stands_alike}
 use Rattle.snapshot.specs.Records.{header_at, task_in, device_in}
-use Rattle.snapshot.specs.Spelling.{AreBytes}
+use Rattle.image_format.specs.Picture.{AreBytes}
 use Rattle.snapshot.specs.Accepted.{IsAccepted, IsGoodRecord, IsGoodDevice}
 use Rattle.snapshot.specs.Waits.{state_fault}
 use Rattle.snapshot.specs.Saved.{SpellsState, expected_of}

@@ -1,5 +1,5 @@
 -- The state that bytes spell.
-use Rattle.std.specs.Prelude.{ℕ, ◌+◌, ◌/◌, ◌%◌, ◌==◌, List, length, map, drop, slice_index, filter_map, Option, Some, None, if◌then◌else◌}
+use Rattle.std.specs.Prelude.{◌≡◌, ℕ, ◌+◌, ◌/◌, ◌%◌, ◌==◌, List, length, map, drop, slice_index, filter_map, Option, Some, None, if◌then◌else◌}
 use Rattle.std.specs.List.{range_with_len}
 use Rattle.kernel_abi.specs.declared.Fault.{Fault}
 use Rattle.kernel_abi.specs.declared.Health.{Health}
@@ -16,8 +16,13 @@ use Rattle.snapshot.specs.declared.records.TaskRecord.{TaskRecord}
 use Rattle.snapshot.specs.declared.records.DeviceRecord.{DeviceRecord}
 use Rattle.snapshot.specs.Records.{header_at, task_in, device_in, ram_place}
 use Rattle.snapshot.specs.Causes.{word}
-use Rattle.snapshot.specs.Waits.{is_call, is_listen, server_id}
+use Rattle.snapshot.specs.Saved.{expected_of}
+use Rattle.snapshot.specs.Waits.{is_call, is_listen, server_id, state_fault}
 use Rattle.snapshot.specs.Accepted.{waiting}
+
+-- no cause is found in the bytes, as in those of a state of this image beside these devices
+abbrev pub IsNotRefused : Setup → List device.DeviceData → List ℕ → Type 0
+IsNotRefused g devices bytes = state_fault (expected_of g devices) bytes ≡ None
 
 -- ## a task
 
