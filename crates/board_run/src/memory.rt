@@ -9,41 +9,38 @@ ghost use Rattle.board_core.specs.Data.{boxed};
 ghost use Rattle.board_run.specs.MemoryText.{are_zeros, begins_at, byte_of, bytes_hex, memory_text, place_text, region_at, region_line, region_text, row_count, row_line, row_text, rows_text};
 
 use crate::line::{Line, push_byte, region_line as put_region_line};
+use crate::regions::{RegionTest, first_region};
 use board_core::Board;
 use mem_banks::RAM;
 use outside_io::{Failed, Sink};
 use region_check::Region;
 use trace_text::push_hex;
 
-// The first of the regions that begins there.
-fn region_in(regions: &[Region], base: u32) -> Option<Region>
-    ensures found { result ≡ find (begins_at base) regions.now }
-    ensures base { IfSome result (λ r. r.base ≡ base) }
-{
-    for region in regions {
-        if region.base == base {
-            return Some(*region);
-        }
+/// Those that begin at an address.
+#[derive(Drop)]
+struct BeginsAt {
+    base: u32,
+}
+
+impl RegionTest for BeginsAt {
+    ghost holds = { λ t r. begins_at t.base r };
+
+    fn passes(&self, region: &Region) -> bool {
+        region.base == self.base
     }
-    None
 }
 
 /// The region that begins at an address, of whatever task.
+#[tactic(auto, unfolding(crate::specs::MemoryText::region_at))]
 fn region_at(board: &Board, base: u32) -> Option<Region>
     ensures base { IfSome result (λ r. r.base ≡ base) }
     ensures found { (x : Scenario) (s : State) → Stands (boxed shown) x board.now s → result ≡ region_at x.setup base }
 {
-    for i in 0..board.task_count() {
-        let found = region_in(board.regions(i), base);
-        if found.is_some() {
-            return found;
-        }
-    }
-    None
+    first_region(board, &BeginsAt { base })
 }
 
 /// The byte at an address; 0 where there is none.
-fn byte_at(board: &Board, addr: u32) -> u8
+pub fn byte_at(board: &Board, addr: u32) -> u8
     ensures { (x : Scenario) (s : State) → Stands (boxed shown) x board.now s → result ≡ byte_of s.memory addr }
 {
     board.byte(addr).unwrap_or(0)

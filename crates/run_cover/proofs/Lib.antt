@@ -1,0 +1,4 @@
+pub mod Growing
+mod Quiet
+mod QuietRows
+pub mod Executing

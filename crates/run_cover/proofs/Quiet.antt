@@ -1,0 +1,176 @@
+-- No effect notes an instruction: what an effect appends leaves the number of notes of the instruction at an address as it was.
+-- (a: that address; t: where the effects began)
+use Rattle.std.proofs.Common.{◌≡◌, ◌+◌, ℕ, Bool, true, false, cond, List, [], ◌∷◌, length, Option, Some, None, refl, ◌∙◌, ap, arith}
+use Rattle.std.specs.Prelude.{fold, count_by}
+use Rattle.std.specs.List.{range_with_len}
+use Rattle.std.proofs.lemmas.List.Sums.{sum_by-append, sum_by_push}
+use Rattle.kernel_abi.specs.declared.Ending.{Ending}
+use Rattle.kernel_abi.specs.declared.Ending.TheVariants.{Restart}
+use Rattle.kernel_abi.specs.declared.Fault.{Fault}
+use Rattle.kernel_abi.specs.declared.Given.{Given}
+use Rattle.kernel_abi.specs.declared.Health.{Health}
+use Rattle.kernel_abi.specs.declared.Health.TheVariants.{Faulted}
+use Rattle.kernel_abi.specs.declared.Note.{Note}
+use Rattle.kernel_abi.specs.declared.Note.TheVariants as note
+use Rattle.kernel_abi.specs.declared.Timer.{Timer}
+use Rattle.kernel_abi.specs.Devices.{DeviceData}
+use Rattle.words_core.specs.declared.Flags.{Flags}
+use Rattle.task_table.specs.declared.Line.{Line}
+use Rattle.task_table.specs.declared.slot.Slice.{Slice}
+use Rattle.task_table.specs.State.{Setup, Call, Listen, Ground, Message, Read, Turn}
+use Rattle.task_table.specs.Reading.{listen_of, call_of}
+use Rattle.task_table.specs.Effects.{without_listen, changed, noted, with_processor, with_health, stored, copied, looked, given, returned, past_syscall, bits_added, bits_cleared, woken_by, posted, woken, with_timer, clocked, with_line, with_devices, given_out, device_stored, device_taken, close_notes, closed, faulted_as, faulted, offered, handed, dead_answered, restarted}
+use Rattle.task_table.specs.Sends.{taken_at_once, offers_call}
+use Rattle.run_cover.specs.Counted.{is_at}
+
+-- as many notes of the instruction at an address
+pub record IsQuiet (a : ℕ) (t u : Turn) : Type 0 where
+  pub same : count_by (is_at a) u.notes ≡ count_by (is_at a) t.notes
+
+pub quiet_itself : (a : ℕ) (t : Turn) → IsQuiet a t t
+quiet_itself a t = record { same = refl }
+
+pub quiet_if : {a : ℕ} {t : Turn} (b : Bool) {u v : Turn} → IsQuiet a t u → IsQuiet a t v → IsQuiet a t (cond b u v)
+quiet_if true here later = here
+quiet_if false here later = later
+
+pub quiet_fold : {X : Type 0} (a : ℕ) (t : Turn) (f : Turn → X → Turn) → ((u : Turn) (x : X) → IsQuiet a t u → IsQuiet a t (f u x)) → (xs : List X) (u : Turn) → IsQuiet a t u → IsQuiet a t (fold f u xs)
+quiet_fold a t f each [] u h = h
+quiet_fold a t f each (x ∷ xs) u h = quiet_fold a t f each xs (f u x) (each u x h)
+
+module _ (a : ℕ) (t : Turn) where
+  pub quiet_noted : (n : Note) (u : Turn) → is_at a n ≡ false → IsQuiet a t u → IsQuiet a t (noted n u)
+  unfolding noted
+  quiet_noted n u other h =
+      let more = sum_by_push (λ (m : Note). cond (is_at a m) 1 0) u.notes n in
+      let none : cond (is_at a n) 1 0 ≡ 0 = ap (λ b. cond b 1 0) other in
+      record { same = more ∙ ap (λ k. count_by (is_at a) u.notes + k) none ∙ omega arith ∙ h.same }
+
+  -- ## what notes nothing
+
+  pub quiet_same : (u v : Turn) → v.notes ≡ u.notes → IsQuiet a t u → IsQuiet a t v
+  quiet_same u v e h = record { same = ap (count_by (is_at a)) e ∙ h.same }
+
+  pub quiet_processor : (i : ℕ) (registers : List ℕ) (flags : Flags) (u : Turn) → IsQuiet a t u → IsQuiet a t (with_processor i registers flags u)
+  unfolding with_processor
+  quiet_processor i registers flags u h = record { same = h.same }
+
+  quiet_health : (i : ℕ) (health : Health) (u : Turn) → IsQuiet a t u → IsQuiet a t (with_health i health u)
+  unfolding with_health
+  quiet_health i health u h = record { same = h.same }
+
+  quiet_unlistened : (i : ℕ) (u : Turn) → IsQuiet a t u → IsQuiet a t (changed (without_listen i) u)
+  quiet_unlistened i u h = record { same = h.same }
+
+  pub quiet_stored : (on : Ground) (at : ℕ) (bytes : List ℕ) (u : Turn) → IsQuiet a t u → IsQuiet a t (stored on at bytes u)
+  unfolding stored
+  quiet_stored on at bytes u h = record { same = h.same }
+
+  pub quiet_copied : (on : Ground) (from to n : ℕ) (u : Turn) → IsQuiet a t u → IsQuiet a t (copied on from to n u)
+  unfolding copied
+  quiet_copied on from to n u h = record { same = h.same }
+
+  pub quiet_looked : (r : Read) (u : Turn) → IsQuiet a t u → IsQuiet a t (looked r u)
+  unfolding looked
+  quiet_looked r u h = record { same = h.same }
+
+  pub quiet_given : (i : ℕ) (values : List ℕ) (u : Turn) → IsQuiet a t u → IsQuiet a t (given i values u)
+  unfolding given
+  quiet_given i values u h = record { same = h.same }
+
+  pub quiet_past_syscall : (i : ℕ) (u : Turn) → IsQuiet a t u → IsQuiet a t (past_syscall i u)
+  unfolding past_syscall
+  quiet_past_syscall i u h = record { same = h.same }
+
+  pub quiet_cleared : (i mask : ℕ) (u : Turn) → IsQuiet a t u → IsQuiet a t (bits_cleared i mask u)
+  unfolding bits_cleared
+  quiet_cleared i mask u h = record { same = h.same }
+
+  pub quiet_timer : (i : ℕ) (timer : Option Timer) (u : Turn) → IsQuiet a t u → IsQuiet a t (with_timer i timer u)
+  unfolding with_timer
+  quiet_timer i timer u h = record { same = h.same }
+
+  pub quiet_line : (k : ℕ) (line : Line) (u : Turn) → IsQuiet a t u → IsQuiet a t (with_line k line u)
+  unfolding with_line
+  quiet_line k line u h = record { same = h.same }
+
+  pub quiet_devices : (devices : List DeviceData) (u : Turn) → IsQuiet a t u → IsQuiet a t (with_devices devices u)
+  unfolding with_devices
+  quiet_devices devices u h = record { same = h.same }
+
+  -- ## what notes something else
+
+  pub quiet_returned : (i : ℕ) (u : Turn) → IsQuiet a t u → IsQuiet a t (returned i u)
+  unfolding returned
+  quiet_returned i u h = quiet_noted _ u refl h
+
+  pub quiet_clocked : (u : Turn) → IsQuiet a t u → IsQuiet a t (clocked u)
+  unfolding clocked
+  quiet_clocked u h = quiet_noted _ _ refl (quiet_same u _ refl h)
+
+  quiet_added : (i bits : ℕ) (u : Turn) → IsQuiet a t u → IsQuiet a t (bits_added i bits u)
+  unfolding bits_added
+  quiet_added i bits u h = quiet_noted _ _ refl (quiet_same u _ refl h)
+
+  quiet_woken : (i : ℕ) (o : Option Listen) (u : Turn) → IsQuiet a t u → IsQuiet a t (woken_by i o u)
+  quiet_woken i None u h = h
+  quiet_woken i (Some l) u h = quiet_if _ h (quiet_returned i _ (quiet_given i _ _ (quiet_cleared i l.mask _ (quiet_same u _ refl h))))
+
+  pub quiet_posted : (i bits : ℕ) (u : Turn) → IsQuiet a t u → IsQuiet a t (posted i bits u)
+  unfolding posted woken
+  quiet_posted i bits u h = quiet_woken i (listen_of (bits_added i bits u).state i) (bits_added i bits u) (quiet_added i bits u h)
+
+  quiet_out : (o : Option Given) (u : Turn) → IsQuiet a t u → IsQuiet a t (given_out o u)
+  quiet_out None u h = h
+  quiet_out (Some x) u h = quiet_noted _ u refl h
+
+  pub quiet_device_stored : (at value : ℕ) (u : Turn) → IsQuiet a t u → IsQuiet a t (device_stored at value u)
+  unfolding device_stored
+  quiet_device_stored at value u h = quiet_out _ _ (quiet_devices _ u h)
+
+  pub quiet_device_taken : (at : ℕ) (u : Turn) → IsQuiet a t u → IsQuiet a t (device_taken at u)
+  unfolding device_taken
+  quiet_device_taken at u h = quiet_devices _ u h
+
+  pub quiet_closed : (i : ℕ) (ending : Ending) (u : Turn) → IsQuiet a t u → IsQuiet a t (closed i ending u)
+  unfolding closed
+  quiet_closed i ending u h = record { same = sum_by-append (λ (m : Note). cond (is_at a m) 1 0) u.notes (close_notes ending (call_of u.state i)) ∙ ap (λ k. count_by (is_at a) u.notes + k) (by_call (call_of u.state i)) ∙ omega arith ∙ h.same }
+    where
+      by_call : (o : Option Call) → count_by (is_at a) (close_notes ending o) ≡ 0
+      by_call None = refl
+      by_call (Some k) = refl
+
+  pub quiet_faulted_as : (g : Setup) (i : ℕ) (fault : Fault) (ending : Ending) (u : Turn) → IsQuiet a t u → IsQuiet a t (faulted_as g i fault ending u)
+  unfolding faulted_as
+  quiet_faulted_as g i fault ending u h =
+      let shut = quiet_closed i ending _ (quiet_noted (note.Fault i fault) _ refl (quiet_same _ _ refl (quiet_health i (Faulted fault) u h))) in
+      quiet_if _ shut (quiet_posted 0 g.fault_bits _ shut)
+
+  pub quiet_faulted : (g : Setup) (i : ℕ) (fault : Fault) (u : Turn) → IsQuiet a t u → IsQuiet a t (faulted g i fault u)
+  quiet_faulted g i fault u h = quiet_faulted_as g i fault _ u h
+
+  -- ## calls and births
+
+  pub quiet_handed : (on : Ground) (k : Call) (buffer : Slice) (u : Turn) → IsQuiet a t u → IsQuiet a t (handed on k buffer u)
+  unfolding handed
+  quiet_handed on k buffer u h = quiet_given _ _ _ (quiet_same _ _ refl (quiet_noted _ _ refl (quiet_same _ _ refl (quiet_copied _ _ _ _ _ (quiet_looked _ u h)))))
+
+  quiet_taken : (k : Call) (o : Option Listen) (u : Turn) → IsQuiet a t u → IsQuiet a t (taken_at_once k o u)
+  quiet_taken k None u h = h
+  quiet_taken k (Some l) u h = quiet_if _ (quiet_returned _ _ (quiet_handed (Message k.number) k l.buffer u h)) h
+
+  quiet_offered : (k : Call) (u : Turn) → IsQuiet a t u → IsQuiet a t (offered k u)
+  unfolding offered
+  quiet_offered k u h = quiet_noted _ _ refl (quiet_same u _ refl h)
+
+  pub quiet_offers : (k : Call) (u : Turn) → IsQuiet a t u → IsQuiet a t (offers_call k u)
+  quiet_offers k u h = quiet_taken k (listen_of u.state k.server.index) (offered k u) (quiet_offered k u h)
+
+  quiet_dead : (i : ℕ) (u : Turn) (j : ℕ) → IsQuiet a t u → IsQuiet a t (dead_answered i u j)
+  quiet_dead i u j h = search (quiet_if, quiet_returned, quiet_given, quiet_closed, quiet_unlistened) depth 12
+
+  pub quiet_restarted : (g : Setup) (i : ℕ) (start : Bool) (u : Turn) → IsQuiet a t u → IsQuiet a t (restarted g i start u)
+  unfolding restarted
+  quiet_restarted g i start u h =
+      quiet_fold a t (dead_answered i) (λ v j k. quiet_dead i v j k) (range_with_len 0 (length u.state.tasks)) _
+      (quiet_noted _ _ refl (quiet_same (closed i Restart u) _ refl (quiet_closed i Restart u h)))

@@ -1,0 +1,191 @@
+-- So no system call notes an instruction: the walk over the rows.
+-- (a: the address; t: where the turn was; c: the caller; u: what the turn has come to)
+use Rattle.std.proofs.Common.{ℕ, Bool, List, Option, Some, None, refl, IfSome}
+use Rattle.std.specs.Prelude.{filter}
+use Rattle.kernel_abi.specs.Arguments.{irq_args}
+use Rattle.kernel_abi.specs.declared.Borrow.{Borrow}
+use Rattle.kernel_abi.specs.declared.Borrow.TheVariants as borrow
+use Rattle.kernel_abi.specs.declared.Fault.{Fault}
+use Rattle.kernel_abi.specs.declared.Health.{Health}
+use Rattle.kernel_abi.specs.declared.Health.TheVariants.{Well, Stopped, Faulted}
+use Rattle.kernel_abi.specs.declared.LeaseEntry.{LeaseEntry}
+use Rattle.kernel_abi.specs.declared.arguments.BorrowArgs.{BorrowArgs}
+use Rattle.kernel_abi.specs.declared.arguments.RecvArgs.{RecvArgs}
+use Rattle.kernel_abi.specs.declared.arguments.ReplyArgs.{ReplyArgs}
+use Rattle.kernel_abi.specs.declared.arguments.SendArgs.{SendArgs}
+use Rattle.task_table.specs.declared.slot.Slice.{Slice}
+use Rattle.task_table.specs.State.{Setup, LineSetup, Call, From, Turn}
+use Rattle.task_table.specs.Reading.{task_at, arguments}
+use Rattle.task_table.specs.Effects.{past_syscall, faulted}
+use Rattle.task_table.specs.Rows.{goes_on, goes_on_with, panicked, timer_set, timer_answered, owns_with, line_controlled, irq_controlled, irq_answered, listens, receives_or_listens, takes_bits, message_received, received, syscall_noted}
+use Rattle.task_table.specs.Sends.{sends, sent, replied_to, replied, reply_faulted_to, reply_faulted, post_made, refreshed}
+use Rattle.task_table.specs.Borrows.{Way, moved, lent, granted, borrowed_by, borrowed, informed_by, informed}
+use Rattle.task_table.specs.Orders.{Order, injected_by, injected, orders, obeyed, order_of, ordered}
+use Rattle.task_table.specs.Syscalls.{syscall_made}
+use Rattle.task_table.proofs.OrderChains.{each_found}
+use Rattle.run_cover.proofs.Quiet.{IsQuiet, quiet_if, quiet_fold, quiet_noted, quiet_same, quiet_stored, quiet_copied, quiet_looked, quiet_given, quiet_past_syscall, quiet_cleared, quiet_timer, quiet_line, quiet_returned, quiet_posted, quiet_closed, quiet_faulted_as, quiet_faulted, quiet_handed, quiet_offers, quiet_restarted}
+
+module _ (a : ℕ) (t : Turn) (g : Setup) (c : ℕ) where
+  goes : (u : Turn) → IsQuiet a t u → IsQuiet a t (goes_on c u)
+  goes u h = quiet_returned a t c _ (quiet_past_syscall a t c u h)
+
+  goes_with : (values : List ℕ) (u : Turn) → IsQuiet a t u → IsQuiet a t (goes_on_with c values u)
+  goes_with values u h = goes _ (quiet_given a t c values u h)
+
+  fails : (fault : Fault) (u : Turn) → IsQuiet a t u → IsQuiet a t (faulted g c fault u)
+  fails fault u h = quiet_faulted a t g c fault u h
+
+  -- ## PANIC, timers, interrupts
+
+  quiet_panicked : (u : Turn) → IsQuiet a t u → IsQuiet a t (panicked g c u)
+  unfolding panicked
+  quiet_panicked u h = fails _ u h
+
+  quiet_timer_set : (u : Turn) → IsQuiet a t u → IsQuiet a t (timer_set c u)
+  unfolding timer_set
+  quiet_timer_set u h = search (quiet_if, goes, quiet_timer, quiet_posted) depth 12
+
+  quiet_timer_answered : (u : Turn) → IsQuiet a t u → IsQuiet a t (timer_answered c u)
+  unfolding timer_answered
+  quiet_timer_answered u h = goes_with _ u h
+
+  controls : (bits : ℕ) (enable : Bool) (u : Turn) (o : LineSetup) → IsQuiet a t u → IsQuiet a t (line_controlled c bits enable o.line u)
+  controls bits enable u o h = search (quiet_if, quiet_line, quiet_posted) depth 12
+
+  quiet_irq_controlled : (u : Turn) → IsQuiet a t u → IsQuiet a t (irq_controlled g c u)
+  unfolding irq_controlled
+  quiet_irq_controlled u h =
+      let x = irq_args (arguments u.state c) in
+      quiet_if _ (fails _ u h)
+      (goes _ (quiet_fold a t (λ v o. line_controlled c x.bits x.enable o.line v) (λ v o k. controls x.bits x.enable v o k) (filter (owns_with c x.bits) g.lines) u h))
+
+  quiet_irq_answered : (u : Turn) → IsQuiet a t u → IsQuiet a t (irq_answered g c u)
+  unfolding irq_answered
+  quiet_irq_answered u h = search (quiet_if, fails, goes_with, quiet_noted) depth 12
+
+  -- ## RECV
+
+  quiet_listens : (x : RecvArgs) (from : From) (u : Turn) → IsQuiet a t u → IsQuiet a t (listens c x from u)
+  quiet_listens x from u h = quiet_noted a t _ _ refl (quiet_same a t (past_syscall c u) _ refl (quiet_past_syscall a t c u h))
+
+  receives_if : (x : RecvArgs) (from : From) (o : Option Call) (u : Turn) → IsQuiet a t u → IsQuiet a t (receives_or_listens c x from o u)
+  receives_if x from None u h = quiet_listens x from u h
+  receives_if x from (Some k) u h = quiet_returned a t c _ (quiet_handed a t _ k _ _ (quiet_past_syscall a t c u h))
+
+  takes : (mask : ℕ) (u : Turn) → IsQuiet a t u → IsQuiet a t (takes_bits c mask u)
+  takes mask u h = goes_with _ _ (quiet_cleared a t c mask u h)
+
+  quiet_message : (best : Option ℕ) (u : Turn) → IsQuiet a t u → IsQuiet a t (message_received c best u)
+  quiet_message best u h = search (quiet_if, quiet_listens, goes_with, receives_if) depth 12
+
+  quiet_received : (best : Option ℕ) (u : Turn) → IsQuiet a t u → IsQuiet a t (received g c best u)
+  unfolding received
+  quiet_received best u h = search (quiet_if, fails, takes, quiet_message) depth 12
+
+  -- ## SEND, REPLY, REPLY_FAULT, POST and REFRESH_TASK_ID
+
+  quiet_sends : (x : SendArgs) (server : ℕ) (u : Turn) → IsQuiet a t u → IsQuiet a t (sends c x server u)
+  quiet_sends x server u h = quiet_offers a t _ _ (quiet_past_syscall a t c u h)
+
+  quiet_sent : (u : Turn) → IsQuiet a t u → IsQuiet a t (sent g c u)
+  unfolding sent
+  quiet_sent u h = search (quiet_if, fails, goes_with, quiet_sends) depth 12
+
+  replies : (x : ReplyArgs) (o : Option Call) (u : Turn) → IsQuiet a t u → IsQuiet a t (replied_to g c x o u)
+  replies x None u h = goes u h
+  replies x (Some k) u h = search (quiet_if, fails, goes, quiet_returned, quiet_given, quiet_closed, quiet_copied) depth 12
+
+  quiet_replied : (u : Turn) → IsQuiet a t u → IsQuiet a t (replied g c u)
+  unfolding replied
+  quiet_replied u h = search (quiet_if, fails, goes, replies) depth 12
+
+  faults : (reason : ℕ) (o : Option Call) (u : Turn) → IsQuiet a t u → IsQuiet a t (reply_faulted_to g c reason o u)
+  faults reason None u h = goes u h
+  faults reason (Some k) u h = goes _ (quiet_faulted_as a t g _ _ _ u h)
+
+  quiet_reply_faulted : (u : Turn) → IsQuiet a t u → IsQuiet a t (reply_faulted g c u)
+  unfolding reply_faulted
+  quiet_reply_faulted u h = search (quiet_if, fails, goes, faults) depth 12
+
+  quiet_post_made : (u : Turn) → IsQuiet a t u → IsQuiet a t (post_made g c u)
+  unfolding post_made
+  quiet_post_made u h = search (quiet_if, fails, goes_with, quiet_posted) depth 12
+
+  quiet_refreshed : (u : Turn) → IsQuiet a t u → IsQuiet a t (refreshed g c u)
+  unfolding refreshed
+  quiet_refreshed u h = search (quiet_if, fails, goes_with) depth 12
+
+  -- ## borrows
+
+  moves : (way : Borrow) (k : Call) (leased own n : ℕ) (u : Turn) → IsQuiet a t u → IsQuiet a t (moved way k leased own n u)
+  moves borrow.Read k leased own n u h = quiet_copied a t _ _ _ _ _ (quiet_looked a t _ u h)
+  moves borrow.Write k leased own n u h = quiet_copied a t _ _ _ _ u h
+  moves borrow.Info k leased own n u h = h
+
+  quiet_lent : (way : Way) (x : BorrowArgs) (k : Call) (part : Slice) (u : Turn) → IsQuiet a t u → IsQuiet a t (lent g way c x k part u)
+  quiet_lent way x k part u h = search (quiet_if, goes_with, quiet_faulted, quiet_noted, moves) depth 12
+
+  quiet_granted : (way : Way) (x : BorrowArgs) (k : Call) (e : LeaseEntry) (u : Turn) → IsQuiet a t u → IsQuiet a t (granted g way c x k e u)
+  quiet_granted way x k e u h = search (quiet_if, fails, goes_with, quiet_faulted, quiet_lent) depth 12
+
+  borrows : (way : Way) (x : BorrowArgs) (o : Option Call) (u : Turn) → IsQuiet a t u → IsQuiet a t (borrowed_by g way c x o u)
+  borrows way x None u h = goes_with _ u h
+  borrows way x (Some k) u h = search (quiet_if, fails, goes_with, quiet_faulted, quiet_granted, quiet_looked) depth 12
+
+  quiet_borrowed : (way : Way) (u : Turn) → IsQuiet a t u → IsQuiet a t (borrowed g way c u)
+  unfolding borrowed
+  quiet_borrowed way u h = search (quiet_if, fails, goes_with, borrows) depth 12
+
+  informs : (lease : ℕ) (o : Option Call) (u : Turn) → IsQuiet a t u → IsQuiet a t (informed_by g c lease o u)
+  informs lease None u h = goes_with _ u h
+  informs lease (Some k) u h = search (quiet_if, fails, goes_with, quiet_faulted, quiet_looked, quiet_noted) depth 12
+
+  quiet_informed : (u : Turn) → IsQuiet a t u → IsQuiet a t (informed g c u)
+  unfolding informed
+  quiet_informed u h = search (quiet_if, fails, goes_with, informs) depth 12
+
+  -- ## kernel messages
+
+  injects : (i : ℕ) (health : Health) (u : Turn) → IsQuiet a t u → IsQuiet a t (injected_by g i health u)
+  injects i Well u h = quiet_faulted a t g i _ u h
+  injects i Stopped u h = quiet_faulted a t g i _ u h
+  injects i (Faulted f) u h = h
+
+  quiet_injected : (i : ℕ) (u : Turn) → IsQuiet a t u → IsQuiet a t (injected g i u)
+  unfolding injected
+  quiet_injected i u h = injects i (task_at u.state i).health u h
+
+  -- what it does to a task leaves it quiet
+  IsQuietOrder : Order → Type 0
+  IsQuietOrder o = (x : SendArgs) (i : ℕ) (u : Turn) → IsQuiet a t u → IsQuiet a t (o.does g x i u)
+
+  obeys : (x : SendArgs) (o : Option Order) → IfSome o IsQuietOrder → (u : Turn) → IsQuiet a t u → IsQuiet a t (obeyed g c x o u)
+  unfolding IsQuietOrder
+  obeys x None each u h = fails _ u h
+  obeys x (Some o) each u h = search (quiet_if, fails, goes_with, each) depth 12
+
+  obeys_each : (x : SendArgs) (number : ℕ) (u : Turn) → IsQuiet a t u → IsQuiet a t (obeyed g c x (order_of number) u)
+  unfolding IsQuietOrder
+  obeys_each x number u h =
+      obeys x (order_of number)
+      (each_found IsQuietOrder orders number (
+        λ y i v k. quiet_stored a t _ _ _ v k,
+        (
+          λ y i v k. quiet_restarted a t g i _ v k,
+          (λ y i v k. quiet_injected i v k, (λ y i v k. quiet_noted a t _ _ refl (quiet_stored a t _ _ _ v k), tt)),
+        ),
+      )) u h
+
+  quiet_ordered : (u : Turn) → IsQuiet a t u → IsQuiet a t (ordered g c u)
+  unfolding ordered
+  quiet_ordered u h = search (quiet_if, fails, obeys_each) depth 12
+
+  -- ## every system call
+
+  pub quiet_syscall_noted : (u : Turn) → IsQuiet a t u → IsQuiet a t (syscall_noted c u)
+  unfolding syscall_noted
+  quiet_syscall_noted u h = quiet_noted a t _ u refl h
+
+  pub quiet_syscall_made : (u : Turn) → IsQuiet a t u → IsQuiet a t (syscall_made g c u)
+  unfolding syscall_made
+  quiet_syscall_made u h = search (quiet_if, fails, quiet_ordered, quiet_sent, quiet_received, quiet_replied, quiet_timer_set, quiet_borrowed, quiet_informed, quiet_irq_controlled, quiet_panicked, quiet_timer_answered, quiet_refreshed, quiet_post_made, quiet_reply_faulted, quiet_irq_answered) depth 40

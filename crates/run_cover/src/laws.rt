@@ -1,0 +1,16 @@
+//! What a count is. Nothing runs here.
+ghost use Rattle.std.specs.Prelude.{◌≡◌, ◌-◌, ℕ};
+ghost use Rattle.task_table.specs.State.{State};
+ghost use Rattle.task_table.specs.Sane.{Sane};
+ghost use Rattle.board_model.specs.declared.outcomes.Level.TheVariants.{All};
+ghost use Rattle.board_model.specs.Script.{Scenario};
+ghost use Rattle.board_model.specs.Run.{run};
+ghost use Rattle.run_cover.specs.Counted.{executed};
+ghost use Rattle.run_cover.specs.Executing.{turns_executing};
+
+/// The notes of the instruction at an address are as many as the turns of the run in which the task that ran had its PC there and
+/// could execute what stood there: it may execute each halfword of it, and these are an instruction. So a system call counts, and
+/// an instruction that faults; a fault of the fetch does not. (docs/FORMATS.md, Cover.)
+pub fn each_count_is_a_number_of_turns()
+    ensures { (x : Scenario) (n : ℕ) (s : State) (a : ℕ) → Sane x.setup s → executed (run All x n s).notes a ≡ turns_executing x a ((run All x n s).last.turn - s.turn) s }
+{}
