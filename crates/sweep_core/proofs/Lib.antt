@@ -1,0 +1,9 @@
+pub mod Letters
+pub mod Arrivals
+pub mod Differences
+pub mod Lined
+pub mod Going
+pub mod Few
+pub mod Sweeps
+pub mod Looking
+pub mod Whole

@@ -1,0 +1,255 @@
+-- A board with what a sweep keeps of it, from one arrival time to the next.
+use Rattle.std.proofs.Common.{◌≡◌, ◌∙◌, ℕ, ◌+◌, ◌-◌, ◌≤◌, min, Bool, List, [], ◌∷◌, ◌++◌, length, length-append, map, None, refl, sym, ap, subst, arith, Global}
+use Rattle.std.specs.Prelude.{Vec}
+use Rattle.std.proofs.lemmas.List.{length-map}
+use Rattle.kernel_abi.specs.declared.Kind.{Kind}
+use Rattle.kernel_abi.specs.Devices.{DeviceData}
+use Rattle.run_script.specs.declared.script.Script.{Script}
+use Rattle.run_script.specs.Events.{script_data}
+use Rattle.run_script.specs.Laying.{HasRoom}
+use Rattle.run_script.specs.Scripts.{Listed, ScriptData}
+use Rattle.task_table.specs.State.{Setup, State}
+use Rattle.task_table.specs.Sane.{Sane, IsCounted}
+use Rattle.board_model.specs.declared.outcomes.Level.TheVariants.{Calls}
+use Rattle.board_model.specs.Alike.{seen, reduced}
+use Rattle.board_model.specs.Cut.{cut_at}
+use Rattle.board_model.specs.Laid.{laid, postponed, with_script}
+use Rattle.board_model.specs.Run.{Run, run}
+use Rattle.board_model.specs.Script.{Scenario, start_of}
+use Rattle.board_model.proofs.SaneReduced.{sane-reduced}
+use Rattle.board_core.specs.declared.board.Board.{Board}
+use Rattle.board_core.specs.Data.{Shows}
+use Rattle.board_core.specs.Stands.{Holds, Stands, script_of, turns_of}
+use Rattle.snapshot.specs.Loaded.{sites}
+use Rattle.snapshot.specs.Records.{total}
+use Rattle.snapshot.specs.Saved.{SpellsState, expected_of, spelling}
+use Rattle.snapshot.specs.Waits.{state_fault}
+use Rattle.snapshot.proofs.Fixed.{fixed_run}
+use Rattle.snapshot.proofs.Stood.{as_long, spelling_long}
+use Rattle.sweep_core.specs.declared.sweeper.Sweeper.{Sweeper}
+use Rattle.sweep_core.specs.declared.tally.Tally.{Tally}
+use Rattle.sweep_core.specs.declared.told.Told.{Told}
+use Rattle.sweep_core.specs.Laying.{IsLaid}
+use Rattle.sweep_core.specs.Outcomes.{front_words, heard, memory_word, nothing_heard}
+use Rattle.sweep_core.specs.Swept.{is_supervisors}
+use Rattle.sweep_core.specs.Sweeping.{HasComeTo, HasScripts, HasTold, IsAsGood, IsAt, IsBefore, IsReady, own_script, run_of}
+use Rattle.sweep_core.specs.Told.{IsTold, IsToldFrom}
+use Rattle.sweep_core.proofs.Few.{few_tasks}
+use Rattle.sweep_core.proofs.Going.{come_within, goes_on, good_itself, heard_on, one_before, same_ram, silent, stays}
+use Rattle.sweep_core.proofs.Letters.{letters_alike}
+
+-- ---- what is kept of a state
+
+counted_reduced : (s : State) → IsCounted s → IsCounted (reduced s)
+unfolding seen
+counted_reduced s h = record { some = h.some; calls = h.calls; now = h.now }
+
+turn_kept : (s : State) → (reduced s).turn ≡ s.turn
+unfolding seen
+turn_kept s = refl
+
+kinds_in : (ds : List DeviceData) → map (λ (d : DeviceData). d.kind) ds ≡ map (λ (p : Kind × ℕ). p.0) (sites ds)
+kinds_in [] = refl
+kinds_in (d ∷ ds) = ap (λ (ks : List Kind). d.kind ∷ ks) (kinds_in ds)
+
+many_sites : (ds : List DeviceData) → length (sites ds) ≡ length ds
+many_sites ds = length-map ds (λ (d : DeviceData). (d.kind, d.base))
+
+-- a state that is as one of the run is spelled as long as the first one
+pub as_long_as_first : (x : Scenario) (script : ScriptData) (m : ℕ) (u : State) → Sane x.setup (start_of x) → Sane x.setup u → reduced u ≡ reduced (cut_at Calls (with_script x script) m (start_of x)) →
+    length (spelling (reduced u)) ≡ length (spelling (reduced (start_of x)))
+as_long_as_first x script m u sane hu same =
+    let s = start_of x in
+    let c = cut_at Calls (with_script x script) m s in
+    let fixed = fixed_run Calls (with_script x script) m s sane in
+    let tasks : length u.tasks ≡ length s.tasks = hu.steady.as_many ∙ sym sane.steady.as_many in
+    let places : sites u.devices ≡ sites s.devices = ap sites (sym (as_long u).devices) ∙ ap (λ (v : State). sites v.devices) same ∙ ap sites (as_long c).devices ∙ fixed.sites in
+    let devices : length u.devices ≡ length s.devices = sym (many_sites u.devices) ∙ ap (λ (l : List (Kind × ℕ)). length l) places ∙ many_sites s.devices in
+    let ram : length u.memory.ram ≡ length s.memory.ram = ap (λ (l : List ℕ). length l) (same_ram u c same) ∙ fixed.ram in
+    spelling_long x.setup u hu ∙ (λ i. total (tasks i) (devices i) (ram i)) ∙ sym (spelling_long x.setup s sane)
+
+-- ---- what is told of the rest of a run is told of the whole
+
+pub told_whole : (x : Scenario) (script other : ScriptData) (m limit : ℕ) (u : State) (mem : Bool) (front : Tally) (t : Told) → Sane x.setup (start_of x) → Sane x.setup u → IsAsGood other script →
+    reduced u ≡ reduced (cut_at Calls (with_script x script) m (start_of x)) → front ≡ heard nothing_heard (run Calls (with_script x script) m (start_of x)).notes → m ≤ limit →
+    IsToldFrom mem front (run Calls (with_script x other) (limit - u.turn) u) t → IsTold mem (run_of x script limit) t
+told_whole x script other m limit u mem front t sane hu good same is le h =
+    let r = run Calls (with_script x other) (limit - u.turn) u in
+    let w = run_of x script limit in
+    let rest = goes_on x script sane other m limit u hu good same le in
+    let end : r.end ≡ w.end = sym rest.end in
+    let all : heard front r.notes ≡ heard nothing_heard w.notes = heard_on x script sane m limit front r is rest in
+    record {
+      words = h.words ∙ (λ i. front_words (end i) (all i) ++ letters_alike r.last w.last rest.last i ++ memory_word mem (same_ram r.last w.last rest.last i));
+      faults = h.faults ∙ ap (λ (k : Tally). k.faults) all;
+      by_supervisor = h.by_supervisor ∙ ap is_supervisors end;
+    }
+
+module _ {X : Type 0} {H : X → Type 0} (shown : Shows X H) (x : Scenario) where
+  -- ---- saved and loaded
+
+  -- it stands in the run with its own script
+  pub with_own : (script : ScriptData) (b : Board X H) (u : State) → Stands shown (with_script x script) b u → Stands shown (with_script x (script_data (script_of b))) b u
+  with_own script b u st = subst (λ (s : ScriptData). Stands shown (with_script x s) b u) (sym st.holds.script) st
+
+  -- no cause is found in what was saved, at the end of the run from there
+  pub loadable : ((g : Setup) (s : State) (bytes : List ℕ) → Sane g s → IsCounted s → s.turn ≤ 1000000000 → length g.tasks ≤ 1024 → SpellsState g s bytes → state_fault (expected_of g s.devices) bytes ≡ None) →
+      (b : Board X H) (u : State) (n : ℕ) (bytes : List ℕ) → Stands shown x b u → u.turn ≤ 1000000000 → SpellsState x.setup (reduced u) bytes → state_fault (expected_of x.setup (run Calls x n u).last.devices) bytes ≡ None
+  loadable accepted b u n bytes st few spelled =
+      let s = reduced u in
+      let v = (run Calls x n u).last in
+      let tasks = few_tasks shown x b u st in
+      let none = accepted x.setup s bytes (sane-reduced x.setup u st.sane) (counted_reduced u st.counted) (omega (arith, turn_kept u, few)) (omega (arith, tasks)) spelled in
+      let kinds = ap (λ (ps : List (Kind × ℕ)). map (λ (p : Kind × ℕ). p.0) ps) (ap sites (as_long u).devices ∙ sym (fixed_run Calls x n u st.sane).sites) in
+      subst (λ (ks : List Kind). state_fault record (expected_of x.setup s.devices) { kinds = ks } bytes ≡ None) (kinds_in s.devices ∙ kinds ∙ sym (kinds_in v.devices)) none
+
+  -- and once that was loaded the board stands there again, with births modulo 64
+  pub back : (b b' : Board X H) (u : State) (n : ℕ) (bytes : List ℕ) → Sane x.setup u → IsCounted u → Stands shown x b (run Calls x n u).last → SpellsState x.setup (reduced u) bytes →
+      ((v s : State) → Stands shown x b v → SpellsState x.setup s bytes → Sane x.setup s → IsCounted s → sites s.devices ≡ sites v.devices → Stands shown x b' s) → Stands shown x b' (reduced u)
+  back b b' u n bytes sane counted st spelled each =
+      each (run Calls x n u).last (reduced u) st spelled (sane-reduced x.setup u sane) (counted_reduced u counted) (ap sites (as_long u).devices ∙ sym (fixed_run Calls x n u sane).sites)
+
+  module _ (arrival : List Listed) where
+    -- the turn at which it stands
+    pub turns_within : (script : ScriptData) (w : Sweeper X H) (m : ℕ) → Sane x.setup (start_of x) → (h : HasComeTo shown x script w m) → turns_of w.board ≤ m
+    turns_within script w m sane h =
+        let le = come_within x script sane m h.state h.same in
+        let is = h.stands.holds.turns in
+        omega (arith, le, is)
+
+    pub saved_long : (script : ScriptData) (w : Sweeper X H) (m : ℕ) → HasScripts x arrival w → (h : HasComeTo shown x script w m) → length w.saved.items ≡ length (spelling (reduced h.state))
+    saved_long script w m scripts h = scripts.saved ∙ sym (as_long_as_first x script m h.state scripts.start h.stands.sane h.same)
+
+    -- once the run was told and the state before it is loaded
+    pub at_again : (script : ScriptData) (w : Sweeper X H) (m : ℕ) (b : Board X H) (saved : Vec ℕ Global) → (h : IsAt shown x arrival script w m) → Stands shown (with_script x (own_script w)) b (reduced h.come.state) →
+        reduced (reduced h.come.state) ≡ reduced h.come.state → length saved.items ≡ length w.saved.items → IsAt shown x arrival script record w { board = b; saved = saved } m
+    at_again script w m b saved h st small long = record {
+      scripts = record { start = h.scripts.start; script = h.scripts.script; arriving = h.scripts.arriving; spare = h.scripts.spare; saved = long ∙ h.scripts.saved };
+      good = subst (λ (s : ScriptData). IsAsGood s script) (sym st.holds.script) h.good;
+      come = record { state = reduced h.come.state; stands = with_own (own_script w) b (reduced h.come.state) st; same = small ∙ h.come.same; front = h.come.front };
+    }
+
+    -- ---- on to an arrival time
+
+    count_laid : (script : ScriptData) (time : ℕ) → length (laid script arrival time).events ≡ length script.events + length arrival
+    count_laid script time = length-append script.events (postponed time arrival) ∙ ap (λ n. length script.events + n) (length-map arrival (λ (d : Listed). (time + d.0, d.1)))
+
+    -- the script that was laid
+    good_laid : (w : Sweeper X H) (d : ScriptData) (time : ℕ) → HasScripts x arrival w → IsLaid d (script_data w.script) (script_data w.arrival).events time →
+        length d.events ≡ length (script_data w.script).events + length (script_data w.arrival).events → IsAsGood d (laid x.script arrival time)
+    good_laid w d time scripts is count =
+        let over : IsLaid d x.script arrival time = subst (λ (s : ScriptData). IsLaid d s arrival time) scripts.script (subst (λ (l : List Listed). IsLaid d (script_data w.script) l time) scripts.arriving is) in
+        let script = ap (λ (s : ScriptData). length s.events) scripts.script in
+        let arriving = ap (λ (l : List Listed). length l) scripts.arriving in
+        record { events = over.events; last = over.last; count = omega (arith, count, script, arriving, count_laid x.script time) }
+
+    pub arrived : (w : Sweeper X H) (time limit : ℕ) (d spare : Script) (b : Board X H) (front : Tally) (n : ℕ) → (h : IsBefore shown x arrival w time limit) → n ≡ min time limit →
+        IsLaid (script_data d) (script_data w.script) (script_data w.arrival).events time → length (script_data d).events ≡ length (script_data w.script).events + length (script_data w.arrival).events →
+        spare ≡ script_of w.board →
+        Stands shown (with_script x (script_data d)) b (run Calls (with_script x (script_data d)) (n - h.come.state.turn) h.come.state).last →
+        front ≡ heard w.front (run Calls (with_script x (script_data d)) (n - h.come.state.turn) h.come.state).notes →
+        IsAt shown x arrival (laid x.script arrival time) record w { board = b; spare = spare; front = front } (min time limit)
+    arrived w time limit d spare b front n h least is count given st told =
+        let sane = h.scripts.start in
+        let u = h.come.state in
+        let script = laid x.script arrival time in
+        let good = good_laid w (script_data d) time h.scripts is count in
+        let early = h.early in
+        let few = h.few in
+        let ahead : h.turn ≤ n = omega (arith, least, early, few) in
+        let runs = one_before x arrival h.turn time h.turn sane (omega arith) early in
+        let same : reduced u ≡ reduced (cut_at Calls (with_script x script) h.turn (start_of x)) = h.come.same ∙ ap (λ (r : Run). reduced r.last) runs in
+        let heard_there : w.front ≡ heard nothing_heard (run Calls (with_script x script) h.turn (start_of x)).notes = h.come.front ∙ ap (λ (r : Run). heard nothing_heard r.notes) runs in
+        let r = run Calls (with_script x (script_data d)) (n - u.turn) u in
+        let rest = goes_on x script sane (script_data d) h.turn n u h.come.stands.sane good same ahead in
+        record {
+          scripts = record { start = sane; script = h.scripts.script; arriving = h.scripts.arriving; spare = subst (λ (s : Script). HasRoom s (length x.script.events + length arrival)) (sym given) h.own; saved = h.scripts.saved };
+          good = subst (λ (s : ScriptData). IsAsGood s script) (sym st.holds.script) good;
+          come = record {
+            state = r.last;
+            stands = with_own (script_data d) b r.last st;
+            same = rest.last ∙ ap (λ k. reduced (cut_at Calls (with_script x script) k (start_of x))) least;
+            front = told ∙ heard_on x script sane h.turn n w.front r heard_there rest ∙ ap (λ k. heard nothing_heard (run Calls (with_script x script) k (start_of x)).notes) least;
+          };
+        }
+
+    -- where there is no script it stays where it is
+    pub not_laid : (w : Sweeper X H) (time limit : ℕ) (spare : Script) → IsBefore shown x arrival w time limit → HasRoom spare (length x.script.events + length arrival) → IsBefore shown x arrival record w { spare = spare } time limit
+    not_laid w time limit spare h room = record {
+      scripts = record { start = h.scripts.start; script = h.scripts.script; arriving = h.scripts.arriving; spare = room; saved = h.scripts.saved };
+      own = h.own;
+      turn = h.turn;
+      early = h.early;
+      few = h.few;
+      come = record { state = h.come.state; stands = h.come.stands; same = h.come.same; front = h.come.front };
+    }
+
+    -- a script that lists so many events has room for them
+    room_of : (s : Script) (n : ℕ) → length (script_data s).events ≡ n → HasRoom s n
+    room_of s n is = omega (arith, s.events.ok.0, s.events.ok.1, is)
+
+    -- and from there further
+    pub before_again : (w : Sweeper X H) (time limit : ℕ) → IsAt shown x arrival (laid x.script arrival time) w (min time limit) → IsBefore shown x arrival w time limit
+    before_again w time limit h =
+        let m : ℕ = min time limit in
+        let runs = one_before x arrival time m m h.scripts.start (omega arith) (omega arith) in
+        record {
+          scripts = h.scripts;
+          own = room_of (script_of w.board) (length x.script.events + length arrival) (h.good.count ∙ count_laid x.script time);
+          turn = m;
+          early = omega arith;
+          few = omega arith;
+          come = record {
+            state = h.come.state;
+            stands = h.come.stands;
+            same = h.come.same ∙ ap (λ (r : Run). reduced r.last) runs;
+            front = h.come.front ∙ ap (λ (r : Run). heard nothing_heard r.notes) runs;
+          };
+        }
+
+    -- of a later one
+    pub later : (w : Sweeper X H) (time next limit : ℕ) → time ≤ next → IsBefore shown x arrival w time limit → IsBefore shown x arrival w next limit
+    later w time next limit le h = record { scripts = h.scripts; own = h.own; turn = h.turn; early = omega (arith, h.early, le); few = h.few; come = h.come }
+
+    -- ---- the start
+
+    pub ready_at : (w : Sweeper X H) → IsReady shown x arrival w → IsAt shown x arrival x.script w 0
+    ready_at w h = record {
+      scripts = h.scripts;
+      good = good_itself x.script (own_script w) h.stands.holds.script;
+      come = record {
+        state = start_of x;
+        stands = with_own x.script w.board (start_of x) h.stands;
+        same = ap reduced (sym (stays x (start_of x)));
+        front = h.front ∙ ap (λ l. heard nothing_heard l) (sym (silent x (start_of x)));
+      };
+    }
+
+    pub told_first : (w w' : Sweeper X H) → IsReady shown x arrival w → IsAt shown x arrival x.script w' 0 → own_script w' ≡ own_script w → w'.script ≡ w.script → HasTold shown x arrival w'
+    told_first w w' h at own script = record {
+      scripts = at.scripts;
+      room = subst (λ (s : Script). HasRoom s (length x.script.events + length arrival)) (sym script) h.own;
+      own = own ∙ h.stands.holds.script;
+      come = at.come;
+    }
+
+    -- with the script that has room
+    pub with_room : (w : Sweeper X H) (b : Board X H) (given : Script) → (h : HasTold shown x arrival w) → Holds shown (with_script x (script_data w.script)) b h.come.state → script_of b ≡ w.script → given ≡ script_of w.board →
+        (time limit : ℕ) → IsBefore shown x arrival record w { board = b; script = given } time limit
+    with_room w b given h holds taken is time limit =
+        let s = start_of x in
+        let y = with_script x (laid x.script arrival 0) in
+        let st : Stands shown (with_script x (script_data w.script)) b h.come.state = record { holds = holds; sane = h.come.stands.sane; counted = h.come.stands.counted } in
+        record {
+          scripts = record { start = h.scripts.start; script = ap script_data is ∙ h.own; arriving = h.scripts.arriving; spare = h.scripts.spare; saved = h.scripts.saved };
+          own = subst (λ (k : Script). HasRoom k (length x.script.events + length arrival)) (sym taken) h.room;
+          turn = 0;
+          early = omega arith;
+          few = omega arith;
+          come = record {
+            state = h.come.state;
+            stands = with_own (script_data w.script) b h.come.state st;
+            same = h.come.same ∙ ap reduced (stays x s ∙ sym (stays y s));
+            front = h.come.front ∙ ap (λ l. heard nothing_heard l) (silent x s ∙ sym (silent y s));
+          };
+        }

@@ -1,0 +1,72 @@
+use Rattle.std.proofs.Common.{arith}
+use Rattle.std.proofs.lemmas.Result.{err_from_is_err_and}
+use Rattle.board_core.specs.Data.{boxed}
+use Rattle.sweep_core.specs.Sweeping.{asked}
+use Rattle.sweep_core.proofs.Sweeps.{ready_at, told_first}
+use Rattle.sweep_core.proofs.Whole.{base_failed, none_differs, only_base, then_times}
+use Rattle.sweep_core.proofs.sweeper.Sweeper.sweep.Goals as goal
+
+pub tell-base-requires-clause-at : goal.tell-base-requires-clause-at
+tell-base-requires-clause-at g c =
+    let shown = boxed (λ p. (goal.Device-dyn g p).shown p.1) in
+    let r = c.requires.ready in
+    (r.0, r.1, r.0.script, 0, ready_at shown r.0 r.1 c.args.self.now r.2, omega arith)
+
+pub returns-in_err-push_base-clause-text : goal.returns-in_err-push_base-clause-text
+returns-in_err-push_base-clause-text g c = λ x arrival h.
+    let shown = boxed (λ p. (goal.Device-dyn g p).shown p.1) in
+    let a = asked arrival c.args.from c.args.to c.args.limit c.args.mem in
+    let p = err_from_is_err_and c.from_residual.result c.from_residual.ensures.1 in
+    let told = c.tell-base.ensures.told x arrival x.script 0 (ready_at shown x arrival c.args.self.now h) (omega arith) in
+    rw (p.1) (base_failed x a c.tell-base.result.words.bytes told.words _ _ c.in_err-push_base.ensures.bytes)
+
+pub returns-then-from-to-clause-text : goal.returns-then-from-to-clause-text
+returns-then-from-to-clause-text g c = λ x arrival h.
+    let shown = boxed (λ p. (goal.Device-dyn g p).shown p.1) in
+    let a = asked arrival c.args.from c.args.to c.args.limit c.args.mem in
+    let told = c.tell-base.ensures.told x arrival x.script 0 (ready_at shown x arrival c.args.self.now h) (omega arith) in
+    only_base x a c.tell-base.result.words.bytes told.words _ _ c.if-from-to.true c.in_ok-push_base.ensures.bytes
+
+pub returns-then-from-to-clause-makes : goal.returns-then-from-to-clause-makes
+returns-then-from-to-clause-makes g c = λ x arrival h. none_differs x (asked arrival c.args.from c.args.to c.args.limit c.args.mem) c.if-from-to.true
+
+pub take_room-requires : goal.take_room-requires
+take_room-requires g c =
+    let shown = boxed (λ p. (goal.Device-dyn g p).shown p.1) in
+    let r = c.requires.ready in
+    let w = c.args.self.now in
+    let ready = ready_at shown r.0 r.1 w r.2 in
+    let at = c.tell-base.ensures.same r.0 r.1 r.0.script 0 ready (omega arith) in
+    (r.0, r.1, told_first shown r.0 r.1 w c.tell-base.new.self r.2 at (c.tell-base.ensures.own r.0 r.1 r.0.script 0 ready (omega arith)) c.tell-base.ensures.script)
+
+pub push_times-requires-clause-based : goal.push_times-requires-clause-based
+push_times-requires-clause-based g c =
+    let shown = boxed (λ p. (goal.Device-dyn g p).shown p.1) in
+    let r = c.requires.ready in
+    let w = c.args.self.now in
+    let ready = ready_at shown r.0 r.1 w r.2 in
+    let at = c.tell-base.ensures.same r.0 r.1 r.0.script 0 ready (omega arith) in
+    let first = told_first shown r.0 r.1 w c.tell-base.new.self r.2 at (c.tell-base.ensures.own r.0 r.1 r.0.script 0 ready (omega arith)) c.tell-base.ensures.script in
+    (r.0, r.1, record { before = c.take_room.ensures r.0 r.1 first c.args.from c.args.limit; told = c.tell-base.ensures.told r.0 r.1 r.0.script 0 ready (omega arith) })
+
+pub returns-clause-text : goal.returns-clause-text
+returns-clause-text g c = λ x arrival h.
+    let shown = boxed (λ p. (goal.Device-dyn g p).shown p.1) in
+    let a = asked arrival c.args.from c.args.to c.args.limit c.args.mem in
+    let w = c.args.self.now in
+    let ready = ready_at shown x arrival w h in
+    let at = c.tell-base.ensures.same x arrival x.script 0 ready (omega arith) in
+    let first = told_first shown x arrival w c.tell-base.new.self h at (c.tell-base.ensures.own x arrival x.script 0 ready (omega arith)) c.tell-base.ensures.script in
+    let told = c.tell-base.ensures.told x arrival x.script 0 ready (omega arith) in
+    let times = c.push_times.ensures.text x arrival (record { before = c.take_room.ensures x arrival first c.args.from c.args.limit; told = told }) in
+    then_times x a c.tell-base.result.words.bytes told.words _ _ _ c.push_times.result c.in_ok-push_base.ensures.bytes times
+
+pub returns-clause-makes : goal.returns-clause-makes
+returns-clause-makes g c = λ x arrival h.
+    let shown = boxed (λ p. (goal.Device-dyn g p).shown p.1) in
+    let w = c.args.self.now in
+    let ready = ready_at shown x arrival w h in
+    let at = c.tell-base.ensures.same x arrival x.script 0 ready (omega arith) in
+    let first = told_first shown x arrival w c.tell-base.new.self h at (c.tell-base.ensures.own x arrival x.script 0 ready (omega arith)) c.tell-base.ensures.script in
+    let told = c.tell-base.ensures.told x arrival x.script 0 ready (omega arith) in
+    c.push_times.ensures.makes x arrival (record { before = c.take_room.ensures x arrival first c.args.from c.args.limit; told = told })

@@ -1,0 +1,84 @@
+-- A sweep: the outcome of each arrival time, and its text (docs/FORMATS.md, Sweep).
+use Rattle.std.specs.Prelude.{ℕ, zero, suc, ◌+◌, ◌-◌, Bool, true, false, not, ◌&&◌, ◌||◌, List, [], ◌++◌, codes, decimal, bytes_eq, nat_lt, if◌then◌else◌}
+use Rattle.std.specs.List.{list_any, range_with_len}
+use Rattle.run_script.specs.Scripts.{Listed}
+use Rattle.board_model.specs.declared.outcomes.End.{End}
+use Rattle.board_model.specs.declared.outcomes.End.TheVariants.{Supervisor, Bound, Still}
+use Rattle.board_model.specs.declared.outcomes.Level.TheVariants.{Calls}
+use Rattle.board_model.specs.Script.{Scenario, start_of}
+use Rattle.board_model.specs.Run.{Run, run}
+use Rattle.board_model.specs.Laid.{may_be_laid, arriving}
+use Rattle.sweep_core.specs.Outcomes.{outcome, heard, nothing_heard}
+
+-- what is asked: the events that arrive, from which turn on and below which one, how many turns a run has at most, and whether
+-- memory is told
+pub record Asking : Type 0 where
+  pub arrival : List Listed
+  pub from : ℕ
+  pub to : ℕ
+  pub limit : ℕ
+  pub mem : Bool
+
+-- the run without the arrival, and that of an arrival time
+abbrev pub base_run : Scenario → Asking → Run
+base_run x a = run Calls x a.limit (start_of x)
+
+abbrev pub arrival_run : Scenario → Asking → ℕ → Run
+arrival_run x a time = run Calls (arriving x a.arrival time) a.limit (start_of x)
+
+abbrev pub outcome_at : Scenario → Asking → ℕ → List ℕ
+outcome_at x a time = if may_be_laid x.script a.arrival time then outcome a.mem (arrival_run x a time) else codes "full"
+
+-- ## the text
+
+abbrev pub same_or : List ℕ → List ℕ → List ℕ
+same_or base o = if bytes_eq o base then codes "same" else o
+
+-- `<first> <last> <outcome>`
+unfoldable pub stretch_line : List ℕ → ℕ → ℕ → List ℕ → List ℕ
+stretch_line base first last o = decimal first ++ codes " " ++ decimal last ++ codes " " ++ same_or base o ++ codes "\n"
+
+-- the lines from a turn on, of which so many are left, where those from `first` on had the outcome o
+unfoldable pub lines_from : (ℕ → List ℕ) → List ℕ → ℕ → List ℕ → ℕ → ℕ → List ℕ
+lines_from outcomes base first o time zero = stretch_line base first (time - 1) o
+lines_from outcomes base first o time (suc left) =
+    if bytes_eq (outcomes time) o then lines_from outcomes base first o (time + 1) left
+    else stretch_line base first (time - 1) o ++ lines_from outcomes base time (outcomes time) (time + 1) left
+
+abbrev pub lines : (ℕ → List ℕ) → List ℕ → ℕ → ℕ → List ℕ
+lines outcomes base from zero = []
+lines outcomes base from (suc left) = lines_from outcomes base from (outcomes from) (from + 1) left
+
+unfoldable pub base_line : List ℕ → List ℕ
+base_line base = codes "without " ++ base ++ codes "\n"
+
+-- of the arrival times
+abbrev pub times_text : Scenario → Asking → List ℕ
+times_text x a = lines (outcome_at x a) (outcome a.mem (base_run x a)) a.from (a.to - a.from)
+
+unfoldable pub sweep_text : Scenario → Asking → List ℕ
+sweep_text x a = base_line (outcome a.mem (base_run x a)) ++ times_text x a
+
+-- ## whether an arrival time makes a difference
+
+abbrev pub is_supervisors : End → Bool
+is_supervisors Supervisor = true
+is_supervisors Bound = false
+is_supervisors Still = false
+
+-- more faults, or an end by the supervisor where there was none
+abbrev pub is_worse : Run → Run → Bool
+is_worse base r = nat_lt (heard nothing_heard base.notes).faults (heard nothing_heard r.notes).faults || (is_supervisors r.end && not (is_supervisors base.end))
+
+abbrev pub times : Asking → List ℕ
+times a = range_with_len a.from (a.to - a.from)
+
+abbrev pub is_made : Scenario → Asking → ℕ → Bool
+is_made x a time = may_be_laid x.script a.arrival time
+
+abbrev pub differ : Scenario → Asking → ℕ → ℕ → Bool
+differ x a one other = is_made x a one && is_made x a other && not (bytes_eq (outcome_at x a one) (outcome_at x a other))
+
+unfoldable pub makes_difference : Scenario → Asking → Bool
+makes_difference x a =
+    list_any (λ time. (is_made x a time && is_worse (base_run x a) (arrival_run x a time)) || list_any (differ x a time) (times a)) (times a)

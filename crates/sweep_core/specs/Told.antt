@@ -1,0 +1,28 @@
+-- What is told of a run, and what it is compared by.
+use Rattle.std.specs.Prelude.{◌≡◌, Bool, ◌&&◌, ◌||◌, not, nat_lt, ◌++◌}
+use Rattle.task_table.specs.State.{State}
+use Rattle.board_model.specs.declared.outcomes.End.{End}
+use Rattle.board_model.specs.Run.{Run}
+use Rattle.sweep_core.specs.declared.tally.Tally.{Tally}
+use Rattle.sweep_core.specs.declared.told.Told.{Told}
+use Rattle.sweep_core.specs.Outcomes.{front_words, heard, letters, memory_word, nothing_heard, outcome}
+use Rattle.sweep_core.specs.Swept.{is_supervisors}
+
+-- of a run that ended so in a state, and of which this was heard
+pub record IsToldAt (mem : Bool) (end : End) (tally : Tally) (last : State) (t : Told) : Type 0 where
+  pub words : t.words.bytes ≡ front_words end tally ++ letters last ++ memory_word mem last.memory.ram
+  pub faults : t.faults ≡ tally.faults
+  pub by_supervisor : t.by_supervisor ≡ is_supervisors end
+
+-- of a run that goes on where this was heard before
+abbrev pub IsToldFrom : Bool → Tally → Run → Told → Type 0
+IsToldFrom mem front r t = IsToldAt mem r.end (heard front r.notes) r.last t
+
+-- of a whole run
+pub record IsTold (mem : Bool) (r : Run) (t : Told) : Type 0 where
+  pub words : t.words.bytes ≡ outcome mem r
+  pub faults : t.faults ≡ (heard nothing_heard r.notes).faults
+  pub by_supervisor : t.by_supervisor ≡ is_supervisors r.end
+
+abbrev pub is_worse_told : Told → Told → Bool
+is_worse_told base t = nat_lt base.faults t.faults || (t.by_supervisor && not base.by_supervisor)

@@ -1,0 +1,32 @@
+//! The script of an arrival time, in room that was taken before.
+ghost use Rattle.std.specs.Prelude.{◌≡◌, ◌≤◌, ◌+◌, ℕ, true, length};
+ghost use Rattle.run_script.specs.Events.{script_data};
+ghost use Rattle.run_script.specs.Laying.{HasRoom};
+ghost use Rattle.board_model.specs.Laid.{may_be_laid};
+ghost use Rattle.sweep_core.specs.Laying.{IsLaid};
+
+use run_script::Script;
+
+/// The events of an arrival from turn `time` on, each behind the script's own of its turn; false where that
+/// is no script, and then `laid` is of no use.
+pub(crate) fn lay(laid: &mut Script, script: &Script, arrival: &Script, time: u32) -> bool
+    requires room { HasRoom laid.old (length (script_data script.now).events + length (script_data arrival.now).events) }
+    requires early { time ≤ 1000000000 }
+    ensures made { result ≡ may_be_laid (script_data script.now) (script_data arrival.now).events time }
+    ensures same { result ≡ true → IsLaid (script_data laid.new) (script_data script.now) (script_data arrival.now).events time }
+    ensures room { (n : ℕ) → HasRoom laid.old n → HasRoom laid.new n }
+    ensures count { result ≡ true → length (script_data laid.new).events ≡ length (script_data script.now).events + length (script_data arrival.now).events }
+{
+    laid.become_as(script);
+    for place in 0..arrival.count() {
+        match arrival.listed_event(place) {
+            Some((turn, event)) => {
+                if !laid.add(time + turn, event) {
+                    return false;
+                }
+            }
+            None => unreachable!(),
+        }
+    }
+    true
+}

@@ -1,0 +1,14 @@
+//! How a run ends for each time at which some events may arrive (docs/FORMATS.md, Sweep).
+#![tactic(auto)]
+
+mod comparing;
+mod laying;
+mod outcome;
+mod sweeper;
+mod tally;
+mod text;
+mod told;
+
+pub use outcome::{Outcome, outcome_of};
+pub use sweeper::Sweeper;
+pub use tally::Tally;

@@ -1,0 +1,224 @@
+//! A board that goes on from arrival time to arrival time, and from each of them to the end of that run and back.
+ghost use Rattle.std.specs.Prelude.{ℕ, ◌≡◌, ◌≤◌, ◌<◌, min, true, false, List, length, IfOk};
+ghost use Rattle.outside_io.specs.Outside.{Pushes, HasCause};
+ghost use Rattle.run_script.specs.Events.{script_data};
+ghost use Rattle.run_script.specs.Scripts.{Listed, ScriptData};
+ghost use Rattle.task_table.specs.State.{State};
+ghost use Rattle.board_model.specs.Alike.{reduced};
+ghost use Rattle.board_model.specs.Laid.{laid, may_be_laid};
+ghost use Rattle.board_model.specs.Script.{Scenario, start_of};
+ghost use Rattle.board_core.specs.Data.{boxed};
+ghost use Rattle.board_core.specs.Stands.{Stands};
+ghost use Rattle.snapshot.specs.Saved.{SpellsState, spelling};
+ghost use Rattle.sweep_core.specs.Swept.{makes_difference, sweep_text};
+ghost use Rattle.sweep_core.specs.Sweeping.{HasTold, IsAt, IsBased, IsBefore, IsLooked, IsReady, PushesTimes, asked, own_script, run_of};
+ghost use Rattle.sweep_core.specs.Told.{IsTold};
+
+use crate::comparing::Compared;
+use crate::laying::lay;
+use crate::outcome::{Outcome, full};
+use crate::tally::Tally;
+use crate::text::{Stretch, push_base};
+use crate::told::{Told, told_from};
+use board_core::{Board, Level};
+use board_run::play;
+use outside_io::{Failed, Sink};
+use run_script::Script;
+use snapshot::{load_into, save_into, saved_len, saved_states_are_accepted};
+use std::alloc::{AllocError, Global};
+
+/// A board over which the events of an arrival are laid, one arrival time after the other.
+#[derive(Drop)]
+pub struct Sweeper {
+    board: Board,
+
+    /// The script of the run without the arrival. It has room for each that is laid over it, until the board takes it.
+    script: Script,
+    arrival: Script,
+
+    /// Room for the script of the next arrival time. The board's own, which it changes places with, has as much from the first arrival
+    /// time on.
+    spare: Script,
+
+    /// Room for the state before an arrival time.
+    saved: Vec<u8>,
+
+    /// What was heard up to where the board stands.
+    front: Tally,
+}
+
+/// The state of a board, into room for it.
+fn save(board: &Board, saved: &mut Vec<u8>)
+    requires { (x : Scenario) × (s : State) × Stands (boxed shown) x board.now s × (length saved.old.items ≡ length (spelling (reduced s))) }
+    ensures spelled { (x : Scenario) (s : State) → Stands (boxed shown) x board.now s → SpellsState x.setup (reduced s) saved.new.items }
+    ensures long { length saved.new.items ≡ length saved.old.items }
+{
+    save_into(board, saved.as_mut_slice());
+}
+
+impl Sweeper {
+    /// At the start of a run, with a board that stands there. All memory that is taken is taken here.
+    ///
+    /// # Errors
+    ///
+    /// Only want of memory. The board is dropped then.
+    pub fn open(
+        alloc: Global,
+        board: Board,
+        script: &Script,
+        arrival: &Script,
+    ) -> Result<Sweeper, AllocError>
+        requires { (x : Scenario) × Stands (boxed shown) x board (start_of x) × (x.script ≡ script_data script.now) }
+        ensures { (x : Scenario) → Stands (boxed shown) x board (start_of x) → x.script ≡ script_data script.now → IfOk result (λ w. IsReady (boxed shown) x (script_data arrival.now).events w) }
+    {
+        let saved = vec![in alloc; 0; saved_len(&board)]?;
+        let room = script.count() + arrival.count();
+        let spare = Script::with_room(alloc, room)?;
+        let mut own = Script::with_room(alloc, room)?;
+        own.become_as(script);
+        let arrival = arrival.copy(alloc)?;
+        Ok(Sweeper {
+            board,
+            script: own,
+            arrival,
+            spare,
+            saved,
+            front: Tally::new(),
+        })
+    }
+
+    /// The run that goes on from here, to its end. The board stands here again afterwards.
+    fn tell(&mut self, limit: u32, mem: bool) -> Told
+        requires at { (x : Scenario) × (arrival : List Listed) × (script : ScriptData) × (m : ℕ) × IsAt (boxed shown) x arrival script self.old m × (m ≤ limit) }
+        requires few { limit ≤ 1000000000 }
+        ensures told { (x : Scenario) (arrival : List Listed) (script : ScriptData) (m : ℕ) → IsAt (boxed shown) x arrival script self.old m → m ≤ limit → IsTold mem (run_of x script limit) result }
+        ensures same { (x : Scenario) (arrival : List Listed) (script : ScriptData) (m : ℕ) → IsAt (boxed shown) x arrival script self.old m → m ≤ limit → IsAt (boxed shown) x arrival script self.new m }
+        ensures own { (x : Scenario) (arrival : List Listed) (script : ScriptData) (m : ℕ) → IsAt (boxed shown) x arrival script self.old m → m ≤ limit → own_script self.new ≡ own_script self.old }
+        ensures script { self.new.script ≡ self.old.script }
+    {
+        saved_states_are_accepted();
+        save(&self.board, &mut self.saved);
+        let told = told_from(&mut self.board, &self.front, limit, mem);
+        load_into(&mut self.board, self.saved.as_slice());
+        told
+    }
+
+    /// The board is given the script that has room, with which it goes on.
+    fn take_room(&mut self)
+        requires { (x : Scenario) × (arrival : List Listed) × HasTold (boxed shown) x arrival self.old }
+        ensures { (x : Scenario) (arrival : List Listed) → HasTold (boxed shown) x arrival self.old → (time limit : ℕ) → IsBefore (boxed shown) x arrival self.new time limit }
+    {
+        self.board.exchange_script(&mut self.script);
+    }
+
+    /// On to an arrival time, with its script, or to the end of the run before; false where there is no script, and then the board
+    /// stays where it is.
+    fn go_to(&mut self, time: u32, limit: u32) -> bool
+        requires before { (x : Scenario) × (arrival : List Listed) × IsBefore (boxed shown) x arrival self.old time limit }
+        requires early { time ≤ 1000000000 }
+        requires few { limit ≤ 1000000000 }
+        ensures made { (x : Scenario) (arrival : List Listed) → IsBefore (boxed shown) x arrival self.old time limit → result ≡ may_be_laid x.script arrival time }
+        ensures at { result ≡ true → (x : Scenario) (arrival : List Listed) → IsBefore (boxed shown) x arrival self.old time limit → IsAt (boxed shown) x arrival (laid x.script arrival time) self.new (min time limit) }
+        ensures stays { result ≡ false → (x : Scenario) (arrival : List Listed) → IsBefore (boxed shown) x arrival self.old time limit → IsBefore (boxed shown) x arrival self.new time limit }
+    {
+        if !lay(&mut self.spare, &self.script, &self.arrival, time) {
+            return false;
+        }
+        self.board.exchange_script(&mut self.spare);
+        match play(
+            &mut self.board,
+            time.min(limit),
+            Level::Calls,
+            &mut self.front,
+        ) {
+            Ok(_) => true,
+            Err(_) => unreachable!(),
+        }
+    }
+
+    /// The outcome of an arrival time, which is compared where there is one.
+    fn look_at(
+        &mut self,
+        time: u32,
+        limit: u32,
+        mem: bool,
+        base: &Told,
+        compared: &mut Compared,
+    ) -> Outcome
+        requires before { (x : Scenario) × (arrival : List Listed) × IsBefore (boxed shown) x arrival self.old time limit }
+        requires early { time ≤ 1000000000 }
+        requires few { limit ≤ 1000000000 }
+        ensures before { (x : Scenario) (arrival : List Listed) → IsBefore (boxed shown) x arrival self.old time limit → IsBefore (boxed shown) x arrival self.new time limit }
+        ensures looked { (x : Scenario) (arrival : List Listed) → IsBefore (boxed shown) x arrival self.old time limit → IsLooked x (asked arrival time time limit mem) time base.now compared.old compared.new result }
+    {
+        if !self.go_to(time, limit) {
+            return full();
+        }
+        let told = self.tell(limit, mem);
+        compared.add(base, &told);
+        told.words
+    }
+
+    /// Each stretch of arrival times, and whether one of them makes a difference. There is a first one.
+    fn push_times<S: Sink>(
+        &mut self,
+        from: u32,
+        to: u32,
+        limit: u32,
+        mem: bool,
+        base: &Told,
+        out: &mut S,
+    ) -> Result<bool, Failed>
+        requires based { (x : Scenario) × (arrival : List Listed) × IsBased (boxed shown) x (asked arrival from to limit mem) self.old base.now }
+        requires some { from < to }
+        requires range { to ≤ 1000000000 }
+        requires few { limit ≤ 1000000000 }
+        ensures text { (x : Scenario) (arrival : List Listed) → let a = asked arrival from to limit mem in IsBased (boxed shown) x a self.old base.now → PushesTimes x a (S.seen out.old).written (S.seen out.new).written result }
+        ensures makes { (x : Scenario) (arrival : List Listed) → let a = asked arrival from to limit mem in IsBased (boxed shown) x a self.old base.now → IfOk result (λ d. d ≡ makes_difference x a) }
+        ensures cause { HasCause (S.seen out.old).faults (S.seen out.new).faults result }
+    {
+        let mut compared = Compared::new();
+        let mut stretch = Stretch {
+            first: from,
+            words: self.look_at(from, limit, mem, base, &mut compared),
+        };
+        for time in from + 1..to {
+            let words = self.look_at(time, limit, mem, base, &mut compared);
+            stretch.go_on(time, words, &base.words, out)?;
+        }
+        stretch.end(to, &base.words, out)?;
+        Ok(compared.found)
+    }
+
+    /// The run without the arrival, and then with it in each turn from `from` on and below `to`, each of at most `limit` turns: the line
+    /// of the first, and one for each stretch of arrival times with one outcome (docs/FORMATS.md, Sweep), a push each, which is passed
+    /// on. Whether one of the arrival times makes a difference. It takes no memory.
+    ///
+    /// # Errors
+    ///
+    /// Only where a push or a flush failed. No further run is made.
+    pub fn sweep<S: Sink>(
+        &mut self,
+        from: u32,
+        to: u32,
+        limit: u32,
+        mem: bool,
+        out: &mut S,
+    ) -> Result<bool, Failed>
+        requires ready { (x : Scenario) × (arrival : List Listed) × IsReady (boxed shown) x arrival self.old }
+        requires range { to ≤ 1000000000 }
+        requires few { limit ≤ 1000000000 }
+        ensures text { (x : Scenario) (arrival : List Listed) → IsReady (boxed shown) x arrival self.old →
+            Pushes (S.seen out.old).written (S.seen out.new).written (sweep_text x (asked arrival from to limit mem)) result }
+        ensures makes { (x : Scenario) (arrival : List Listed) → IsReady (boxed shown) x arrival self.old → IfOk result (λ d. d ≡ makes_difference x (asked arrival from to limit mem)) }
+        ensures cause { HasCause (S.seen out.old).faults (S.seen out.new).faults result }
+    {
+        let base = self.tell(limit, mem);
+        push_base(&base.words, out)?;
+        if from >= to {
+            return Ok(false);
+        }
+        self.take_room();
+        self.push_times(from, to, limit, mem, &base, out)
+    }
+}

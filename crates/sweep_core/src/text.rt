@@ -1,0 +1,131 @@
+//! The lines of a sweep (docs/FORMATS.md, Sweep), a push each.
+ghost use Rattle.std.specs.Prelude.{◌≡◌, ◌<◌, ◌≤◌, ◌-◌, ◌++◌, bytes_eq, codes, decimal, length, if◌then◌else◌, IfOk};
+ghost use Rattle.outside_io.specs.Outside.{Pushes, HasCause};
+ghost use Rattle.sweep_core.specs.Stretches.{ended};
+ghost use Rattle.sweep_core.specs.Swept.{base_line, same_or, stretch_line};
+
+use crate::outcome::{Front, Outcome};
+use arrayvec::ArrayString;
+use outside_io::{Failed, Sink};
+use trace_text::push_decimal;
+
+/// A line of up to 705 bytes.
+type Line = ArrayString<1024>;
+
+/// A line, which is passed on at once: the run that gave it took longer.
+fn push_line<S: Sink>(line: &Line, out: &mut S) -> Result<(), Failed>
+    ensures bytes { Pushes (S.seen out.old).written (S.seen out.new).written line.now.bytes result }
+    ensures cause { HasCause (S.seen out.old).faults (S.seen out.new).faults result }
+{
+    out.push(line.as_str().as_bytes())?;
+    out.flush()
+}
+
+#[tactic(auto, unfolding(crate::specs::Swept::base_line))]
+fn base_line(base: &Outcome) -> Line
+    ensures { result.bytes ≡ base_line base.now.bytes }
+{
+    let mut line = Line::new();
+    line.push_str("without ");
+    line.push_str(base.as_str());
+    line.push_str("\n");
+    line
+}
+
+/// The line of the run without an arrival.
+pub(crate) fn push_base<S: Sink>(base: &Outcome, out: &mut S) -> Result<(), Failed>
+    ensures bytes { Pushes (S.seen out.old).written (S.seen out.new).written (base_line base.now.bytes) result }
+    ensures cause { HasCause (S.seen out.old).faults (S.seen out.new).faults result }
+{
+    push_line(&base_line(base), out)
+}
+
+/// The first and the last arrival time of a stretch.
+fn times(first: u32, last: u32) -> Front
+    ensures { result.bytes ≡ decimal first ++ codes " " ++ decimal last ++ codes " " }
+{
+    let mut out = Front::new();
+    push_decimal(&mut out, u64::from(first));
+    out.push_str(" ");
+    push_decimal(&mut out, u64::from(last));
+    out.push_str(" ");
+    out
+}
+
+/// An outcome, or that it is the one of the run without an arrival.
+fn push_words(words: &Outcome, base: &Outcome, line: &mut Line)
+    requires { length line.old.bytes ≤ 160 }
+    ensures bytes { line.new.bytes ≡ line.old.bytes ++ same_or base.now.bytes words.now.bytes }
+    ensures short { length line.new.bytes ≤ 928 }
+{
+    if words.as_str() == base.as_str() {
+        line.push_str("same");
+    } else {
+        line.push_str(words.as_str());
+    }
+}
+
+#[tactic(auto, unfolding(crate::specs::Swept::stretch_line))]
+fn stretch_line(first: u32, last: u32, words: &Outcome, base: &Outcome) -> Line
+    ensures { result.bytes ≡ stretch_line base.now.bytes first last words.now.bytes }
+{
+    let mut line = Line::new();
+    line.push_str(times(first, last).as_str());
+    push_words(words, base, &mut line);
+    line.push_str("\n");
+    line
+}
+
+/// The line of a stretch of arrival times with one outcome.
+fn push_stretch<S: Sink>(
+    first: u32,
+    last: u32,
+    words: &Outcome,
+    base: &Outcome,
+    out: &mut S,
+) -> Result<(), Failed>
+    ensures bytes { Pushes (S.seen out.old).written (S.seen out.new).written (stretch_line base.now.bytes first last words.now.bytes) result }
+    ensures cause { HasCause (S.seen out.old).faults (S.seen out.new).faults result }
+{
+    push_line(&stretch_line(first, last, words, base), out)
+}
+
+/// A stretch of arrival times with one outcome that is under way.
+#[derive(Drop)]
+pub(crate) struct Stretch {
+    pub(crate) first: u32,
+    pub(crate) words: Outcome,
+}
+
+impl Stretch {
+    /// It ends before this arrival time.
+    pub(crate) fn end<S: Sink>(&self, time: u32, base: &Outcome, out: &mut S) -> Result<(), Failed>
+        requires { self.now.first < time }
+        ensures bytes { Pushes (S.seen out.old).written (S.seen out.new).written (stretch_line base.now.bytes self.now.first (time - 1) self.now.words.bytes) result }
+        ensures cause { HasCause (S.seen out.old).faults (S.seen out.new).faults result }
+    {
+        push_stretch(self.first, time - 1, &self.words, base, out)
+    }
+
+    /// On to the next arrival time, with its outcome: where that is another one, the stretch ends before it, and one begins there.
+    pub(crate) fn go_on<S: Sink>(
+        &mut self,
+        time: u32,
+        words: Outcome,
+        base: &Outcome,
+        out: &mut S,
+    ) -> Result<(), Failed>
+        requires { self.old.first < time }
+        ensures bytes { Pushes (S.seen out.old).written (S.seen out.new).written (ended base.now.bytes self.old.first self.old.words.bytes time words.bytes) result }
+        ensures first { IfOk result (λ _. self.new.first ≡ (if bytes_eq words.bytes self.old.words.bytes then self.old.first else time)) }
+        ensures words { IfOk result (λ _. self.new.words.bytes ≡ words.bytes) }
+        ensures cause { HasCause (S.seen out.old).faults (S.seen out.new).faults result }
+    {
+        if words.as_str() != self.words.as_str() {
+            self.end(time, base, out)?;
+            self.first = time;
+            self.words = words;
+        }
+        Ok(())
+    }
+}

@@ -1,0 +1,65 @@
+//! A run to its end, as a sweep tells it.
+ghost use Rattle.std.specs.Prelude.{◌≡◌, ◌≤◌, ◌-◌};
+ghost use Rattle.task_table.specs.State.{State};
+ghost use Rattle.board_model.specs.declared.outcomes.Level.TheVariants.{Calls};
+ghost use Rattle.board_model.specs.Run.{run};
+ghost use Rattle.board_model.specs.Script.{Scenario};
+ghost use Rattle.board_core.specs.Data.{boxed};
+ghost use Rattle.board_core.specs.Stands.{Stands, Stood, turns_of};
+ghost use Rattle.sweep_core.specs.Swept.{is_supervisors};
+ghost use Rattle.sweep_core.specs.Told.{IsToldFrom, IsToldAt, is_worse_told};
+
+use crate::outcome::{Outcome, outcome_of};
+use crate::tally::Tally;
+use board_core::{Board, End, Level};
+use board_run::play;
+
+/// What a sweep tells of a run, and what it compares.
+#[derive(Drop)]
+pub(crate) struct Told {
+    pub(crate) words: Outcome,
+    pub(crate) faults: u64,
+    pub(crate) by_supervisor: bool,
+}
+
+fn is_supervisors(end: End) -> bool
+    ensures { result ≡ is_supervisors end }
+{
+    match end {
+        End::Supervisor => true,
+        End::Bound | End::Still => false,
+    }
+}
+
+/// Of a run that ended so, on a board that stands at its end, and of which this was heard.
+fn told_at(end: End, tally: &Tally, board: &Board, mem: bool) -> Told
+    ensures { (x : Scenario) (s : State) → Stands (boxed shown) x board.now s → IsToldAt mem end tally.now s result }
+{
+    Told {
+        words: outcome_of(end, tally, board, mem),
+        faults: tally.faults,
+        by_supervisor: is_supervisors(end),
+    }
+}
+
+/// Of the run that goes on from where the board stands, and of which this was heard up to there. The board goes on to its end.
+pub(crate) fn told_from(board: &mut Board, front: &Tally, limit: u32, mem: bool) -> Told
+    requires stood { Stood (boxed shown) board.old }
+    requires from { turns_of board.old ≤ limit }
+    requires few { limit ≤ 1000000000 }
+    ensures told { (x : Scenario) (s : State) → Stands (boxed shown) x board.old s → IsToldFrom mem front.now (run Calls x (limit - s.turn) s) result }
+    ensures last { (x : Scenario) (s : State) → Stands (boxed shown) x board.old s → Stands (boxed shown) x board.new (run Calls x (limit - s.turn) s).last }
+{
+    let mut tally = *front;
+    match play(board, limit, Level::Calls, &mut tally) {
+        Ok(end) => told_at(end, &tally, board, mem),
+        Err(_) => unreachable!(),
+    }
+}
+
+/// More faults, or an end by the supervisor where there was none.
+pub(crate) fn is_worse(base: &Told, told: &Told) -> bool
+    ensures { result ≡ is_worse_told base.now told.now }
+{
+    base.faults < told.faults || (told.by_supervisor && !base.by_supervisor)
+}
