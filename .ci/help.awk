@@ -53,7 +53,7 @@ function tell_causes(constant, of, place, from,    k, words_of, number) {
 BEGIN { statuses = 0 }
 END {
     print "//! What `help` says, made of the tables of docs/FORMATS.md by .ci/help.awk: not to be changed by hand."
-    for (k = 1; k <= commands; k++) say("", "", sprintf("%-51s  %s", words[k], short[k]))
+    for (k = 1; k <= commands; k++) say("", "", sprintf("%-52s  %s", words[k], short[k]))
     say("", "", "")
     say("", "", "hubris help COMMAND says what one of them takes and answers. docs/FORMATS.md has the formats, docs/GUIDE.md a first application.")
     tell("COMMANDS", "The commands.")
@@ -78,4 +78,5 @@ END {
     tell_causes("TRACE_CAUSES", "TRACE", "a line of it, from 1 on", "Audit")
     tell_causes("STATE_CAUSES", "STATE", "a byte of it", "Saved state")
     tell_causes("COMMANDS_CAUSES", "COMMANDS", "a line of it, from 1 on", "Commands")
+    tell_causes("ARRIVAL_CAUSES", "ARRIVAL", "a line of it, from 1 on, or 0", "Sweep")
 }

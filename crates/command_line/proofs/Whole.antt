@@ -257,21 +257,61 @@ debug_whole words e =
       },
     ))))))))))
 
+cover_sure : Each (Sure (shape_at 10).rules) (shape_at 10).rules
+cover_sure = (record { known = refl; sure = refl }, (record { known = refl; sure = refl }, (record { known = refl; sure = refl }, (record { known = refl; sure = refl }, tt))))
+
+cover_whole : (words : List Text) → entered_fault app (Some (codes "cover", words)) ≡ [] → IsWhole (entered app (Some (codes "cover", words)))
+cover_whole words e =
+    let s = shape_at 10 in
+    let rows = rows_after s.rules [] words in
+    let d = leaf s words cover_sure refl e in
+    inr (inr (inr (inr (inr (inr (inr (inr (inr (inr (inl (
+      refl,
+      record {
+        image = text (rule_at s 0) rows (has_given s.rules (rule_at s 0) rows d.good refl (d.given.0 refl));
+        script = text (rule_at s 1) rows (has_given s.rules (rule_at s 1) rows d.good refl (d.given.1.0 refl));
+        steps = number most_steps (rule_at s 2) rows (omega arith) refl (has_given s.rules (rule_at s 2) rows d.good refl (d.given.1.1.0 refl));
+      },
+    )))))))))))
+
+sweep_sure : Each (Sure (shape_at 11).rules) (shape_at 11).rules
+sweep_sure = (record { known = refl; sure = refl }, (record { known = refl; sure = refl }, (record { known = refl; sure = refl }, (record { known = refl; sure = refl }, (record { known = refl; sure = refl }, (record { known = refl; sure = refl }, (record { known = refl; sure = refl }, (record { known = refl; sure = refl }, tt))))))))
+
+sweep_whole : (words : List Text) → entered_fault app (Some (codes "sweep", words)) ≡ [] → IsWhole (entered app (Some (codes "sweep", words)))
+sweep_whole words e =
+    let s = shape_at 11 in
+    let rows = rows_after s.rules [] words in
+    let d = leaf s words sweep_sure refl e in
+    inr (inr (inr (inr (inr (inr (inr (inr (inr (inr (inr (inl (
+      refl,
+      record {
+        image = text (rule_at s 0) rows (has_given s.rules (rule_at s 0) rows d.good refl (d.given.0 refl));
+        script = text (rule_at s 1) rows (has_given s.rules (rule_at s 1) rows d.good refl (d.given.1.0 refl));
+        arrival = text (rule_at s 2) rows (has_given s.rules (rule_at s 2) rows d.good refl (d.given.1.1.0 refl));
+        turns = record {
+          from = number most_steps (rule_at s 3) rows (omega arith) refl (has_given s.rules (rule_at s 3) rows d.good refl (d.given.1.1.1.0 refl));
+          to = number most_steps (rule_at s 4) rows (omega arith) refl (has_given s.rules (rule_at s 4) rows d.good refl (d.given.1.1.1.1.0 refl));
+          steps = number most_steps (rule_at s 5) rows (omega arith) refl (has_given s.rules (rule_at s 5) rows d.good refl (d.given.1.1.1.1.1.0 refl));
+        };
+        mem = switch (rule_at s 6) rows refl (has_default s.rules (rule_at s 6) rows d.good refl (d.filled.1.1.1.1.1.1.0 (omega arith)));
+      },
+    ))))))))))))
+
 -- `help` wants nothing
 help_whole : (words : List Text) → entered_fault app (Some (codes "help", words)) ≡ [] → IsWhole (entered app (Some (codes "help", words)))
-help_whole words e = inr (inr (inr (inr (inr (inr (inr (inr (inr (inr refl)))))))))
+help_whole words e = inr (inr (inr (inr (inr (inr (inr (inr (inr (inr (inr (inr refl)))))))))))
 
 -- ---- the program
 
 -- the name of one of its commands
 abbrev IsCommand : Text → Type 0
-IsCommand name = (name ≡ codes "build") ⊎ ((name ≡ codes "run") ⊎ ((name ≡ codes "go") ⊎ ((name ≡ codes "list") ⊎ ((name ≡ codes "sample") ⊎ ((name ≡ codes "migrate") ⊎ ((name ≡ codes "audit") ⊎ ((name ≡ codes "save") ⊎ ((name ≡ codes "resume") ⊎ ((name ≡ codes "debug") ⊎ (name ≡ codes "help"))))))))))
+IsCommand name = (name ≡ codes "build") ⊎ ((name ≡ codes "run") ⊎ ((name ≡ codes "go") ⊎ ((name ≡ codes "list") ⊎ ((name ≡ codes "sample") ⊎ ((name ≡ codes "migrate") ⊎ ((name ≡ codes "audit") ⊎ ((name ≡ codes "save") ⊎ ((name ≡ codes "resume") ⊎ ((name ≡ codes "debug") ⊎ ((name ≡ codes "cover") ⊎ ((name ≡ codes "sweep") ⊎ (name ≡ codes "help"))))))))))))
 
 top_sure : Each (Sure app.top.rules) app.top.rules
 top_sure = (record { known = refl; sure = refl }, tt)
 
 own : Each (λ n. asks_for_help app.top n.0 ≡ false → IsCommand n.0) (names_of app)
-own = ((λ _. inl refl), ((λ _. inr (inl refl)), ((λ _. inr (inr (inl refl))), ((λ _. inr (inr (inr (inl refl)))), ((λ _. inr (inr (inr (inr (inl refl))))), ((λ _. inr (inr (inr (inr (inr (inl refl)))))), ((λ _. inr (inr (inr (inr (inr (inr (inl refl))))))), ((λ _. inr (inr (inr (inr (inr (inr (inr (inl refl)))))))), ((λ _. inr (inr (inr (inr (inr (inr (inr (inr (inl refl))))))))), ((λ _. inr (inr (inr (inr (inr (inr (inr (inr (inr (inl refl)))))))))), ((λ _. inr (inr (inr (inr (inr (inr (inr (inr (inr (inr refl)))))))))), tt)))))))))))
+own = ((λ _. inl refl), ((λ _. inr (inl refl)), ((λ _. inr (inr (inl refl))), ((λ _. inr (inr (inr (inl refl)))), ((λ _. inr (inr (inr (inr (inl refl))))), ((λ _. inr (inr (inr (inr (inr (inl refl)))))), ((λ _. inr (inr (inr (inr (inr (inr (inl refl))))))), ((λ _. inr (inr (inr (inr (inr (inr (inr (inl refl)))))))), ((λ _. inr (inr (inr (inr (inr (inr (inr (inr (inl refl))))))))), ((λ _. inr (inr (inr (inr (inr (inr (inr (inr (inr (inl refl)))))))))), ((λ _. inr (inr (inr (inr (inr (inr (inr (inr (inr (inr (inl refl))))))))))), ((λ _. inr (inr (inr (inr (inr (inr (inr (inr (inr (inr (inr (inl refl)))))))))))), ((λ _. inr (inr (inr (inr (inr (inr (inr (inr (inr (inr (inr (inr refl)))))))))))), tt)))))))))))))
 
 command_whole : (name : Text) (words : List Text) → IsCommand name → entered_fault app (Some (name, words)) ≡ [] → IsWhole (entered app (Some (name, words)))
 command_whole name words (inl is) = subst (λ n. entered_fault app (Some (n, words)) ≡ [] → IsWhole (entered app (Some (n, words)))) (sym is) (build_whole words)
@@ -284,7 +324,9 @@ command_whole name words (inr (inr (inr (inr (inr (inr (inl is))))))) = subst (�
 command_whole name words (inr (inr (inr (inr (inr (inr (inr (inl is)))))))) = subst (λ n. entered_fault app (Some (n, words)) ≡ [] → IsWhole (entered app (Some (n, words)))) (sym is) (save_whole words)
 command_whole name words (inr (inr (inr (inr (inr (inr (inr (inr (inl is))))))))) = subst (λ n. entered_fault app (Some (n, words)) ≡ [] → IsWhole (entered app (Some (n, words)))) (sym is) (resume_whole words)
 command_whole name words (inr (inr (inr (inr (inr (inr (inr (inr (inr (inl is)))))))))) = subst (λ n. entered_fault app (Some (n, words)) ≡ [] → IsWhole (entered app (Some (n, words)))) (sym is) (debug_whole words)
-command_whole name words (inr (inr (inr (inr (inr (inr (inr (inr (inr (inr is)))))))))) = subst (λ n. entered_fault app (Some (n, words)) ≡ [] → IsWhole (entered app (Some (n, words)))) (sym is) (help_whole words)
+command_whole name words (inr (inr (inr (inr (inr (inr (inr (inr (inr (inr (inl is))))))))))) = subst (λ n. entered_fault app (Some (n, words)) ≡ [] → IsWhole (entered app (Some (n, words)))) (sym is) (cover_whole words)
+command_whole name words (inr (inr (inr (inr (inr (inr (inr (inr (inr (inr (inr (inl is)))))))))))) = subst (λ n. entered_fault app (Some (n, words)) ≡ [] → IsWhole (entered app (Some (n, words)))) (sym is) (sweep_whole words)
+command_whole name words (inr (inr (inr (inr (inr (inr (inr (inr (inr (inr (inr (inr is)))))))))))) = subst (λ n. entered_fault app (Some (n, words)) ≡ [] → IsWhole (entered app (Some (n, words)))) (sym is) (help_whole words)
 
 stopped : (stop : Option (Text × List Text)) → IfSome stop (λ p. IsCommand p.0) → entered_fault app stop ≡ [] → is_some (entered app stop) ≡ true
     → IsWhole (entered app stop)

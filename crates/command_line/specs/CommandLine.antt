@@ -38,6 +38,10 @@ positional_rule name = record (new_rule name) { required = true }
 abbrev pub number_rule : Text → ℕ → Rule
 number_rule name most = record (positional_rule name) { parser = Some (number_parser most) }
 
+-- a word that must be there, and is the number of a turn
+abbrev pub turn_rule : Text → Rule
+turn_rule name = number_rule name most_steps
+
 -- `--steps N`, which must be there too
 abbrev pub steps_rule : Rule
 steps_rule = record (new_rule (codes "steps")) {
@@ -73,8 +77,9 @@ number_in id rows = number_of (unwrap_or (one_of id rows) [])
 -- notes are counted; to write an image in the form of today, and the name of that file; whether a trace
 -- holds together; the state of a run of an image with a script after so many turns at most, and the name of that
 -- file; the run of an image with a script from the state in a file, up to so many turns, and in which detail it is
--- told; the commands in a file, carried out over the run of an image with a script; what the commands are, or what
--- one of them takes and answers.
+-- told; the commands in a file, carried out over the run of an image with a script; how often such a run executes each
+-- instruction; how such runs end into which the events of a further script come, from each turn of a range on, and whether with the
+-- memory; what the commands are, or what one of them takes and answers.
 pub data Asked : Type 0 where
   build : Text → Text → Asked
   run : Text → Text → ℕ → Detail → Asked
@@ -86,6 +91,8 @@ pub data Asked : Type 0 where
   save : Text → Text → Text → ℕ → Asked
   resume : Text → Text → Text → ℕ → Detail → Asked
   debug : Text → Text → Text → Asked
+  cover : Text → Text → ℕ → Asked
+  sweep : Text → Text → Text → ℕ → ℕ → ℕ → Bool → Asked
   help : Option CommandName → Asked
 
 -- `--all` and `--mem`
@@ -183,11 +190,27 @@ debug_form = record {
   asks = λ rows. Some (debug (text_in (codes "image") rows) (text_in (codes "script") rows) (text_in (codes "commands") rows));
 }
 
+-- `cover IMAGE SCRIPT --steps N`
+abbrev pub cover_form : Form
+cover_form = record {
+  name = codes "cover";
+  rules = positional_rule (codes "image") ∷ positional_rule (codes "script") ∷ steps_rule ∷ [];
+  asks = λ rows. Some (cover (text_in (codes "image") rows) (text_in (codes "script") rows) (number_in (codes "steps") rows));
+}
+
+-- `sweep IMAGE SCRIPT ARRIVAL FROM TO --steps N [--mem]`
+abbrev pub sweep_form : Form
+sweep_form = record {
+  name = codes "sweep";
+  rules = positional_rule (codes "image") ∷ positional_rule (codes "script") ∷ positional_rule (codes "arrival") ∷ turn_rule (codes "from") ∷ turn_rule (codes "to") ∷ steps_rule ∷ flag_rule (codes "mem") ∷ [];
+  asks = λ rows. Some (sweep (text_in (codes "image") rows) (text_in (codes "script") rows) (text_in (codes "arrival") rows) (number_in (codes "from") rows) (number_in (codes "to") rows) (number_in (codes "steps") rows) (is_set (codes "mem") rows));
+}
+
 -- the commands by their names
 abbrev pub commands : List (Text × CommandName)
 commands = (codes "build", command.Build) ∷ (codes "run", command.Run) ∷ (codes "go", command.Go) ∷ (codes "list", command.List)
     ∷ (codes "sample", command.Sample) ∷ (codes "migrate", command.Migrate) ∷ (codes "audit", command.Audit) ∷ (codes "save", command.Save)
-    ∷ (codes "resume", command.Resume) ∷ (codes "debug", command.Debug) ∷ (codes "help", command.Help) ∷ []
+    ∷ (codes "resume", command.Resume) ∷ (codes "debug", command.Debug) ∷ (codes "cover", command.Cover) ∷ (codes "sweep", command.Sweep) ∷ (codes "help", command.Help) ∷ []
 
 -- the command that a word names
 abbrev pub command_by : Text → Option CommandName
@@ -207,7 +230,7 @@ help_form = record {
 }
 
 abbrev pub forms : List Form
-forms = build_form ∷ run_form ∷ go_form ∷ list_form ∷ sample_form ∷ migrate_form ∷ audit_form ∷ save_form ∷ resume_form ∷ debug_form ∷ help_form ∷ []
+forms = build_form ∷ run_form ∷ go_form ∷ list_form ∷ sample_form ∷ migrate_form ∷ audit_form ∷ save_form ∷ resume_form ∷ debug_form ∷ cover_form ∷ sweep_form ∷ help_form ∷ []
 
 -- ---- the program
 

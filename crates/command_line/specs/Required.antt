@@ -17,13 +17,16 @@ abbrev pub IsNumber : ℕ → Option Text → Type 0
 IsNumber most None = ⊥
 IsNumber most (Some text) = is_number most text ≡ true
 
--- a number of turns: 0 to 1,000,000,000
-abbrev pub IsSteps : Option Text → Type 0
-IsSteps text = IsNumber most_steps text
+-- and one for the id that is a number of turns: 0 to 1,000,000,000
+abbrev pub HasTurns : Text → List Row → Type 0
+HasTurns id rows = IsNumber most_steps (one_of id rows)
 
--- a seed: a number of 32 bits
-abbrev pub IsSeed : Option Text → Type 0
-IsSeed text = IsNumber most_seed text
+abbrev pub HasSteps : List Row → Type 0
+HasSteps rows = HasTurns (codes "steps") rows
+
+-- and a seed: a number of 32 bits
+abbrev pub HasSeed : List Row → Type 0
+HasSeed rows = IsNumber most_seed (one_of (codes "seed") rows)
 
 -- `true` or `false`, which clap finds for an option without a value
 abbrev pub IsSwitch : Option Text → Type 0
@@ -37,14 +40,14 @@ pub record IsWholeBuild (rows : List Row) : Type 0 where
 pub record IsWholeRun (rows : List Row) : Type 0 where
   pub image : HasText (codes "image") rows
   pub script : HasText (codes "script") rows
-  pub steps : IsSteps (one_of (codes "steps") rows)
+  pub steps : HasSteps rows
   pub all : IsSwitch (first_of (codes "all") rows)
   pub mem : IsSwitch (first_of (codes "mem") rows)
 
 pub record IsWholeGo (rows : List Row) : Type 0 where
   pub app : HasText (codes "app") rows
   pub script : HasText (codes "script") rows
-  pub steps : IsSteps (one_of (codes "steps") rows)
+  pub steps : HasSteps rows
   pub all : IsSwitch (first_of (codes "all") rows)
   pub mem : IsSwitch (first_of (codes "mem") rows)
 
@@ -52,8 +55,8 @@ pub record IsWholeList (rows : List Row) : Type 0 where
   pub image : HasText (codes "image") rows
 
 pub record IsWholeSample (rows : List Row) : Type 0 where
-  pub seed : IsSeed (one_of (codes "seed") rows)
-  pub steps : IsSteps (one_of (codes "steps") rows)
+  pub seed : HasSeed rows
+  pub steps : HasSteps rows
 
 pub record IsWholeMigrate (rows : List Row) : Type 0 where
   pub image : HasText (codes "image") rows
@@ -66,13 +69,13 @@ pub record IsWholeSave (rows : List Row) : Type 0 where
   pub image : HasText (codes "image") rows
   pub script : HasText (codes "script") rows
   pub out : HasText (codes "out") rows
-  pub steps : IsSteps (one_of (codes "steps") rows)
+  pub steps : HasSteps rows
 
 pub record IsWholeResume (rows : List Row) : Type 0 where
   pub image : HasText (codes "image") rows
   pub script : HasText (codes "script") rows
   pub state : HasText (codes "state") rows
-  pub steps : IsSteps (one_of (codes "steps") rows)
+  pub steps : HasSteps rows
   pub all : IsSwitch (first_of (codes "all") rows)
   pub mem : IsSwitch (first_of (codes "mem") rows)
 
@@ -80,6 +83,24 @@ pub record IsWholeDebug (rows : List Row) : Type 0 where
   pub image : HasText (codes "image") rows
   pub script : HasText (codes "script") rows
   pub commands : HasText (codes "commands") rows
+
+pub record IsWholeCover (rows : List Row) : Type 0 where
+  pub image : HasText (codes "image") rows
+  pub script : HasText (codes "script") rows
+  pub steps : HasSteps rows
+
+-- the three numbers of a sweep
+pub record AreTurns (rows : List Row) : Type 0 where
+  pub from : HasTurns (codes "from") rows
+  pub to : HasTurns (codes "to") rows
+  pub steps : HasSteps rows
+
+pub record IsWholeSweep (rows : List Row) : Type 0 where
+  pub image : HasText (codes "image") rows
+  pub script : HasText (codes "script") rows
+  pub arrival : HasText (codes "arrival") rows
+  pub turns : AreTurns rows
+  pub mem : IsSwitch (first_of (codes "mem") rows)
 
 -- a command of the program, with all that it wants
 abbrev pub IsWhole : Option (Text × List Row) → Type 0
@@ -94,4 +115,6 @@ IsWhole (Some p) = ((p.0 ≡ codes "build") × IsWholeBuild p.1)
     ⊎ (((p.0 ≡ codes "save") × IsWholeSave p.1)
     ⊎ (((p.0 ≡ codes "resume") × IsWholeResume p.1)
     ⊎ (((p.0 ≡ codes "debug") × IsWholeDebug p.1)
-    ⊎ (p.0 ≡ codes "help"))))))))))
+    ⊎ (((p.0 ≡ codes "cover") × IsWholeCover p.1)
+    ⊎ (((p.0 ≡ codes "sweep") × IsWholeSweep p.1)
+    ⊎ (p.0 ≡ codes "help"))))))))))))

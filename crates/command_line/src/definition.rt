@@ -4,7 +4,7 @@ ghost use Rattle.clap.specs.Words.{app_of, rule_of};
 ghost use Rattle.clap.specs.Simple.{new_rule};
 ghost use Rattle.clap.specs.declared.builder.command.Command.TheViews.{out-Command as fields_of};
 ghost use Rattle.command_line.specs.Adding.{AddsForm};
-ghost use Rattle.command_line.specs.CommandLine.{bare_app, hubris_app, most_seed, most_steps, positional_rule, number_parser, number_rule, steps_rule, flag_rule, app_of_form, build_form, run, running_form, run_form, go_form, list_form, sample_form, migrate_form, audit_form, save_form, resume_form, debug_form, help_form};
+ghost use Rattle.command_line.specs.CommandLine.{bare_app, hubris_app, most_seed, most_steps, positional_rule, number_parser, number_rule, turn_rule, steps_rule, flag_rule, app_of_form, build_form, run, running_form, run_form, go_form, list_form, sample_form, migrate_form, audit_form, save_form, resume_form, debug_form, cover_form, sweep_form, help_form};
 
 use clap::builder::ValueParser;
 use clap::{Arg, ArgAction, Command};
@@ -46,11 +46,11 @@ fn seed_word<'a>(alloc: Global) -> Arg<'a>
     positional(alloc, "seed").value_parser(seed_parser())
 }
 
-fn steps_word<'a>(alloc: Global) -> Arg<'a>
-    ensures rule { rule_of result ≡ number_rule (codes "steps") most_steps }
+fn turn_word<'a>(alloc: Global, name: &'a str) -> Arg<'a>
+    ensures rule { rule_of result ≡ turn_rule name.entry.now }
     ensures local { result.global ≡ false }
 {
-    positional(alloc, "steps").value_parser(steps_parser())
+    positional(alloc, name).value_parser(steps_parser())
 }
 
 fn flag<'a>(alloc: Global, name: &'a str) -> Arg<'a>
@@ -114,7 +114,7 @@ fn sample_command<'a>(alloc: Global) -> Result<Command<'a>, AllocError>
 {
     Command::new(alloc, "sample")
         .arg(seed_word(alloc))?
-        .arg(steps_word(alloc))
+        .arg(turn_word(alloc, "steps"))
 }
 
 fn migrate_command<'a>(alloc: Global) -> Result<Command<'a>, AllocError>
@@ -167,6 +167,30 @@ fn debug_command<'a>(alloc: Global) -> Result<Command<'a>, AllocError>
         .arg(positional(alloc, "commands"))
 }
 
+fn cover_command<'a>(alloc: Global) -> Result<Command<'a>, AllocError>
+    ensures shape { IfOk result (λ c. app_of c ≡ app_of_form cover_form) }
+    ensures local { IfOk result (λ c. (fields_of c).has_globals ≡ false) }
+{
+    Command::new(alloc, "cover")
+        .arg(positional(alloc, "image"))?
+        .arg(positional(alloc, "script"))?
+        .arg(steps(alloc))
+}
+
+fn sweep_command<'a>(alloc: Global) -> Result<Command<'a>, AllocError>
+    ensures shape { IfOk result (λ c. app_of c ≡ app_of_form sweep_form) }
+    ensures local { IfOk result (λ c. (fields_of c).has_globals ≡ false) }
+{
+    Command::new(alloc, "sweep")
+        .arg(positional(alloc, "image"))?
+        .arg(positional(alloc, "script"))?
+        .arg(positional(alloc, "arrival"))?
+        .arg(turn_word(alloc, "from"))?
+        .arg(turn_word(alloc, "to"))?
+        .arg(steps(alloc))?
+        .arg(flag(alloc, "mem"))
+}
+
 // The word behind `help`: any, or none. Which command it names is looked up where the job is made.
 fn help_command<'a>(alloc: Global) -> Result<Command<'a>, AllocError>
     ensures shape { IfOk result (λ c. app_of c ≡ app_of_form help_form) }
@@ -209,5 +233,7 @@ pub fn hubris_command<'a>(alloc: Global) -> Result<Command<'a>, AllocError>
     let hubris = with_command(hubris, save_command(alloc))?;
     let hubris = with_command(hubris, resume_command(alloc))?;
     let hubris = with_command(hubris, debug_command(alloc))?;
+    let hubris = with_command(hubris, cover_command(alloc))?;
+    let hubris = with_command(hubris, sweep_command(alloc))?;
     with_command(hubris, help_command(alloc))
 }

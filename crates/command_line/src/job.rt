@@ -1,8 +1,8 @@
 //! What the matches of a command ask for.
 ghost use Rattle.std.specs.Prelude.{◌≡◌, ◌≤◌, ◌<◌, ◌^◌, ℕ, Some, IfSome, option_map, codes};
 ghost use Rattle.clap.specs.Words.{rows_of, found_of, one_of};
-ghost use Rattle.command_line.specs.CommandLine.{asked_by, build_form, run_form, go_form, list_form, sample_form, migrate_form, audit_form, save_form, resume_form, debug_form, help_form, command_by, text_in, is_set, detail_in, number_in, most_steps};
-ghost use Rattle.command_line.specs.Required.{IsNumber, IsSeed, IsSteps, IsWhole};
+ghost use Rattle.command_line.specs.CommandLine.{asked_by, build_form, run_form, go_form, list_form, sample_form, migrate_form, audit_form, save_form, resume_form, debug_form, cover_form, sweep_form, help_form, command_by, text_in, is_set, detail_in, number_in, most_steps};
+ghost use Rattle.command_line.specs.Required.{IsNumber, HasSeed, HasSteps, HasTurns, AreTurns, IsWhole};
 ghost use Rattle.command_line.specs.Asking.{asked, steps_of};
 
 use clap::ArgMatches;
@@ -28,6 +28,8 @@ pub enum CommandName {
     Save,
     Resume,
     Debug,
+    Cover,
+    Sweep,
     Help,
 }
 
@@ -92,6 +94,23 @@ pub enum Job<'a> {
         script: &'a str,
         commands: &'a str,
     },
+    /// How often the run of IMAGE with SCRIPT executes each instruction, in at most `steps` turns.
+    Cover {
+        image: &'a str,
+        script: &'a str,
+        steps: u32,
+    },
+    /// How the run of IMAGE with SCRIPT ends in at most `steps` turns where the events of ARRIVAL come besides, from each turn on
+    /// that is not below `from` and below `to`; and whether with its memory.
+    Sweep {
+        image: &'a str,
+        script: &'a str,
+        arrival: &'a str,
+        from: u32,
+        to: u32,
+        steps: u32,
+        memory: bool,
+    },
     /// Say what the commands are, or what one of them takes and answers.
     Help {
         about: Option<CommandName>,
@@ -132,16 +151,24 @@ fn number_of(matches: &ArgMatches<'_>, id: &str) -> u32
     }
 }
 
+// The number of turns that is found for an id.
+fn turns_in(matches: &ArgMatches<'_>, id: &str) -> u32
+    ensures number { HasTurns id.now (rows_of (found_of matches.now)) → result ≡ number_in id.now (rows_of (found_of matches.now)) }
+    ensures few { HasTurns id.now (rows_of (found_of matches.now)) → result ≤ most_steps }
+{
+    number_of(matches, id)
+}
+
 // The number of turns that is asked for.
 fn steps_in(matches: &ArgMatches<'_>) -> u32
-    ensures number { IsSteps (one_of (codes "steps") (rows_of (found_of matches.now))) → result ≡ number_in (codes "steps") (rows_of (found_of matches.now)) }
-    ensures few { IsSteps (one_of (codes "steps") (rows_of (found_of matches.now))) → result ≤ most_steps }
+    ensures number { HasSteps (rows_of (found_of matches.now)) → result ≡ number_in (codes "steps") (rows_of (found_of matches.now)) }
+    ensures few { HasSteps (rows_of (found_of matches.now)) → result ≤ most_steps }
 {
-    number_of(matches, "steps")
+    turns_in(matches, "steps")
 }
 
 fn seed_in(matches: &ArgMatches<'_>) -> u32
-    ensures { IsSeed (one_of (codes "seed") (rows_of (found_of matches.now))) → result ≡ number_in (codes "seed") (rows_of (found_of matches.now)) }
+    ensures { HasSeed (rows_of (found_of matches.now)) → result ≡ number_in (codes "seed") (rows_of (found_of matches.now)) }
 {
     number_of(matches, "seed")
 }
@@ -157,8 +184,8 @@ fn build_by<'a>(matches: &ArgMatches<'a>) -> Job<'a>
 }
 
 fn run_by<'a>(matches: &ArgMatches<'a>) -> Job<'a>
-    ensures job { IsSteps (one_of (codes "steps") (rows_of (found_of matches.now))) → Some (asked result) ≡ run_form.asks (rows_of (found_of matches.now)) }
-    ensures few { IsSteps (one_of (codes "steps") (rows_of (found_of matches.now))) → steps_of result ≤ most_steps }
+    ensures job { HasSteps (rows_of (found_of matches.now)) → Some (asked result) ≡ run_form.asks (rows_of (found_of matches.now)) }
+    ensures few { HasSteps (rows_of (found_of matches.now)) → steps_of result ≤ most_steps }
 {
     Job::Run {
         image: text_of(matches, "image"),
@@ -169,8 +196,8 @@ fn run_by<'a>(matches: &ArgMatches<'a>) -> Job<'a>
 }
 
 fn go_by<'a>(matches: &ArgMatches<'a>) -> Job<'a>
-    ensures job { IsSteps (one_of (codes "steps") (rows_of (found_of matches.now))) → Some (asked result) ≡ go_form.asks (rows_of (found_of matches.now)) }
-    ensures few { IsSteps (one_of (codes "steps") (rows_of (found_of matches.now))) → steps_of result ≤ most_steps }
+    ensures job { HasSteps (rows_of (found_of matches.now)) → Some (asked result) ≡ go_form.asks (rows_of (found_of matches.now)) }
+    ensures few { HasSteps (rows_of (found_of matches.now)) → steps_of result ≤ most_steps }
 {
     Job::Go {
         app: text_of(matches, "app"),
@@ -190,8 +217,8 @@ fn list_by<'a>(matches: &ArgMatches<'a>) -> Job<'a>
 }
 
 fn sample_by<'a>(matches: &ArgMatches<'a>) -> Job<'a>
-    ensures job { IsSeed (one_of (codes "seed") (rows_of (found_of matches.now))) → IsSteps (one_of (codes "steps") (rows_of (found_of matches.now))) → Some (asked result) ≡ sample_form.asks (rows_of (found_of matches.now)) }
-    ensures few { IsSteps (one_of (codes "steps") (rows_of (found_of matches.now))) → steps_of result ≤ most_steps }
+    ensures job { HasSeed (rows_of (found_of matches.now)) → HasSteps (rows_of (found_of matches.now)) → Some (asked result) ≡ sample_form.asks (rows_of (found_of matches.now)) }
+    ensures few { HasSteps (rows_of (found_of matches.now)) → steps_of result ≤ most_steps }
 {
     Job::Sample {
         seed: seed_in(matches),
@@ -219,8 +246,8 @@ fn audit_by<'a>(matches: &ArgMatches<'a>) -> Job<'a>
 }
 
 fn save_by<'a>(matches: &ArgMatches<'a>) -> Job<'a>
-    ensures job { IsSteps (one_of (codes "steps") (rows_of (found_of matches.now))) → Some (asked result) ≡ save_form.asks (rows_of (found_of matches.now)) }
-    ensures few { IsSteps (one_of (codes "steps") (rows_of (found_of matches.now))) → steps_of result ≤ most_steps }
+    ensures job { HasSteps (rows_of (found_of matches.now)) → Some (asked result) ≡ save_form.asks (rows_of (found_of matches.now)) }
+    ensures few { HasSteps (rows_of (found_of matches.now)) → steps_of result ≤ most_steps }
 {
     Job::Save {
         image: text_of(matches, "image"),
@@ -231,8 +258,8 @@ fn save_by<'a>(matches: &ArgMatches<'a>) -> Job<'a>
 }
 
 fn resume_by<'a>(matches: &ArgMatches<'a>) -> Job<'a>
-    ensures job { IsSteps (one_of (codes "steps") (rows_of (found_of matches.now))) → Some (asked result) ≡ resume_form.asks (rows_of (found_of matches.now)) }
-    ensures few { IsSteps (one_of (codes "steps") (rows_of (found_of matches.now))) → steps_of result ≤ most_steps }
+    ensures job { HasSteps (rows_of (found_of matches.now)) → Some (asked result) ≡ resume_form.asks (rows_of (found_of matches.now)) }
+    ensures few { HasSteps (rows_of (found_of matches.now)) → steps_of result ≤ most_steps }
 {
     Job::Resume {
         image: text_of(matches, "image"),
@@ -251,6 +278,32 @@ fn debug_by<'a>(matches: &ArgMatches<'a>) -> Job<'a>
         image: text_of(matches, "image"),
         script: text_of(matches, "script"),
         commands: text_of(matches, "commands"),
+    }
+}
+
+fn cover_by<'a>(matches: &ArgMatches<'a>) -> Job<'a>
+    ensures job { HasSteps (rows_of (found_of matches.now)) → Some (asked result) ≡ cover_form.asks (rows_of (found_of matches.now)) }
+    ensures few { HasSteps (rows_of (found_of matches.now)) → steps_of result ≤ most_steps }
+{
+    Job::Cover {
+        image: text_of(matches, "image"),
+        script: text_of(matches, "script"),
+        steps: steps_in(matches),
+    }
+}
+
+fn sweep_by<'a>(matches: &ArgMatches<'a>) -> Job<'a>
+    ensures job { AreTurns (rows_of (found_of matches.now)) → Some (asked result) ≡ sweep_form.asks (rows_of (found_of matches.now)) }
+    ensures few { AreTurns (rows_of (found_of matches.now)) → steps_of result ≤ most_steps }
+{
+    Job::Sweep {
+        image: text_of(matches, "image"),
+        script: text_of(matches, "script"),
+        arrival: text_of(matches, "arrival"),
+        from: turns_in(matches, "from"),
+        to: turns_in(matches, "to"),
+        steps: steps_in(matches),
+        memory: flag_of(matches, "mem"),
     }
 }
 
@@ -278,6 +331,10 @@ fn command_named(word: &str) -> Option<CommandName>
         Some(CommandName::Resume)
     } else if word == "debug" {
         Some(CommandName::Debug)
+    } else if word == "cover" {
+        Some(CommandName::Cover)
+    } else if word == "sweep" {
+        Some(CommandName::Sweep)
     } else if word == "help" {
         Some(CommandName::Help)
     } else {
@@ -323,6 +380,10 @@ pub fn job_by<'a>(name: &str, matches: &ArgMatches<'a>) -> Option<Job<'a>>
         Some(resume_by(matches))
     } else if name == "debug" {
         Some(debug_by(matches))
+    } else if name == "cover" {
+        Some(cover_by(matches))
+    } else if name == "sweep" {
+        Some(sweep_by(matches))
     } else {
         help_by(matches)
     }

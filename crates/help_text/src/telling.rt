@@ -4,9 +4,9 @@ ghost use Rattle.outside_io.specs.Outside.{HasCause, Pushes};
 ghost use Rattle.help_text.specs.Help.{help_text, parts_of, parts_on};
 
 use crate::texts::{
-    APPLICATION_CAUSES, AUDIT, BUILD, COMMANDS, COMMANDS_CAUSES, DEBUG, GO, HELP, IMAGE_CAUSES,
-    LIMITS, LIST, MIGRATE, RESUME, RUN, SAMPLE, SAVE, SCRIPT_CAUSES, SOURCE_CAUSES, STATE_CAUSES,
-    STATUSES, TRACE_CAUSES,
+    APPLICATION_CAUSES, ARRIVAL_CAUSES, AUDIT, BUILD, COMMANDS, COMMANDS_CAUSES, COVER, DEBUG, GO,
+    HELP, IMAGE_CAUSES, LIMITS, LIST, MIGRATE, RESUME, RUN, SAMPLE, SAVE, SCRIPT_CAUSES,
+    SOURCE_CAUSES, STATE_CAUSES, STATUSES, SWEEP, TRACE_CAUSES,
 };
 use command_line::CommandName;
 use outside_io::{Failed, Sink, push_lines};
@@ -46,6 +46,15 @@ fn parts_on(command: CommandName) -> &'static [&'static [&'static str]]
             IMAGE_CAUSES,
             SCRIPT_CAUSES,
             COMMANDS_CAUSES,
+        ],
+        CommandName::Cover => &[COVER, LIMITS, STATUSES, IMAGE_CAUSES, SCRIPT_CAUSES],
+        CommandName::Sweep => &[
+            SWEEP,
+            LIMITS,
+            STATUSES,
+            IMAGE_CAUSES,
+            SCRIPT_CAUSES,
+            ARRIVAL_CAUSES,
         ],
         CommandName::Help => &[HELP, STATUSES],
     }

@@ -2,17 +2,19 @@
 
 /// The commands.
 pub(crate) const COMMANDS: &[&str] = &[
-    "build APP OUT                                        builds an application into an image\n",
-    "run IMAGE SCRIPT --steps N [--all] [--mem]           runs an image with a script, and writes its trace\n",
-    "go APP SCRIPT --steps N [--all] [--mem]              builds an application and runs it\n",
-    "list IMAGE                                           says what an image holds, as JSON\n",
-    "sample SEED STEPS                                    runs a large sample, made of a number\n",
-    "migrate IMAGE OUT                                    writes an image of the older form in the present one\n",
-    "audit TRACE                                          says whether a text can be the trace of a run\n",
-    "save IMAGE SCRIPT OUT --steps N                      puts the state that a run comes to into a file\n",
-    "resume IMAGE SCRIPT STATE --steps N [--all] [--mem]  goes on from such a state\n",
-    "debug IMAGE SCRIPT COMMANDS                          goes over a run forwards and back, by commands\n",
-    "help [COMMAND]                                       says this, or what one command takes and answers\n",
+    "build APP OUT                                         builds an application into an image\n",
+    "run IMAGE SCRIPT --steps N [--all] [--mem]            runs an image with a script, and writes its trace\n",
+    "go APP SCRIPT --steps N [--all] [--mem]               builds an application and runs it\n",
+    "list IMAGE                                            says what an image holds, as JSON\n",
+    "sample SEED STEPS                                     runs a large sample, made of a number\n",
+    "migrate IMAGE OUT                                     writes an image of the older form in the present one\n",
+    "audit TRACE                                           says whether a text can be the trace of a run\n",
+    "save IMAGE SCRIPT OUT --steps N                       puts the state that a run comes to into a file\n",
+    "resume IMAGE SCRIPT STATE --steps N [--all] [--mem]   goes on from such a state\n",
+    "debug IMAGE SCRIPT COMMANDS                           goes over a run forwards and back, by commands\n",
+    "cover IMAGE SCRIPT --steps N                          counts how often a run executed each instruction\n",
+    "sweep IMAGE SCRIPT ARRIVAL FROM TO --steps N [--mem]  tries every arrival time of some events\n",
+    "help [COMMAND]                                        says this, or what one command takes and answers\n",
     "\n",
     "hubris help COMMAND says what one of them takes and answers. docs/FORMATS.md has the formats, docs/GUIDE.md a\n",
     "first application.\n",
@@ -102,6 +104,24 @@ pub(crate) const DEBUG: &[&str] = &[
     "writes  the answer to each command (Commands)\n",
 ];
 
+/// The command `cover`.
+pub(crate) const COVER: &[&str] = &[
+    "hubris cover IMAGE SCRIPT --steps N\n",
+    "    plays SCRIPT on IMAGE for at most N turns, of which nothing is told, and lists the code with how often\n",
+    "    each instruction was executed (Cover)\n",
+    "takes   IMAGE, then SCRIPT\n",
+    "writes  the listing of the code (Cover)\n",
+];
+
+/// The command `sweep`.
+pub(crate) const SWEEP: &[&str] = &[
+    "hubris sweep IMAGE SCRIPT ARRIVAL FROM TO --steps N [--mem]\n",
+    "    plays SCRIPT on IMAGE for at most N turns, and then once more for each turn T from FROM on and below TO,\n",
+    "    with the events of ARRIVAL besides, which begin in turn T; and tells how each of these runs ends (Sweep)\n",
+    "takes   IMAGE, then SCRIPT, then ARRIVAL\n",
+    "writes  the lines of the sweep (Sweep)\n",
+];
+
 /// The command `help`.
 pub(crate) const HELP: &[&str] = &[
     "hubris help [COMMAND]\n",
@@ -114,7 +134,7 @@ pub(crate) const HELP: &[&str] = &[
 /// The limits.
 pub(crate) const LIMITS: &[&str] = &[
     "limits\n",
-    "    N and STEPS, in turns                0 to 1000000000\n",
+    "    N and STEPS, in turns; FROM and TO   0 to 1000000000\n",
     "    SEED                                 0 to 4294967295\n",
     "    TRACE                                16777216 bytes\n",
     "    every other file                     2097152 bytes\n",
@@ -123,6 +143,7 @@ pub(crate) const LIMITS: &[&str] = &[
     "    regions, notifications of a task     8, 32\n",
     "    events of SCRIPT, of one turn        65536, 8 and a tick of `every`\n",
     "    COMMANDS, breakpoints                1024, 16\n",
+    "    events of ARRIVAL                    256\n",
 ];
 
 /// The statuses.
@@ -132,13 +153,14 @@ pub(crate) const STATUSES: &[&str] = &[
     "        by the supervisor\n",
     "    1   a file was read and is refused; writes `refused <name> <cause> <place>`\n",
     "    2   the words are not taken; writes `usage: hubris build, run, go, list, sample, migrate, audit, save,\n",
-    "        resume, debug or help`\n",
+    "        resume, debug, cover, sweep or help`\n",
     "    3   a file cannot be read; writes `cannot read <name>`\n",
     "    4   the output failed, and what is put is under OUT; or its put failed, and there are the old contents or\n",
     "        the beginning of the new ones\n",
     "    5   memory is short, always before the first byte is pushed or put; writes nothing\n",
     "    6   as 0, and the run ended because the supervisor faulted\n",
     "    7   the trace does not hold together; writes `no <line>` (Audit)\n",
+    "    8   some arrival time makes a difference (Sweep)\n",
 ];
 
 /// The causes of IMAGE.
@@ -257,4 +279,13 @@ pub(crate) const COMMANDS_CAUSES: &[&str] = &[
     "    2   its first word is no command, or there are more or fewer words behind it\n",
     "    3   a number is none of the form, or out of its range\n",
     "    4   it is the 1,025th command\n",
+];
+
+/// The causes of ARRIVAL.
+pub(crate) const ARRIVAL_CAUSES: &[&str] = &[
+    "causes of ARRIVAL, the place is a line of it, from 1 on, or 0\n",
+    "    0   more than 2097152 bytes; the place is that number\n",
+    "    1   to 5: a line of it is refused, as in a script\n",
+    "    5   has more than 256 events; the place is 0\n",
+    "    6   has an `every`; the place is 0\n",
 ];

@@ -1,11 +1,9 @@
 -- What is told from the state that is saved of a run: what is left of that run.
 use Rattle.std.proofs.Common.{◌≡◌, ℕ, ◌+◌, ◌-◌, ◌≤◌, ◌⊎◌, Bool, true, false, List, [], ◌∷◌, ◌++◌, length, Some, None, refl, sym, ap, ◌∙◌, inl, inr, arith}
-use Rattle.kernel_abi.specs.declared.Note.{Note}
 use Rattle.kernel_abi.specs.Devices.{DeviceData}
 use Rattle.outside_io.specs.Seen.{FilesSeen, SinkSeen}
 use Rattle.task_table.specs.State.{Setup, State}
 use Rattle.task_table.specs.Sane.{Sane}
-use Rattle.board_model.specs.declared.outcomes.End.{End}
 use Rattle.board_model.specs.declared.outcomes.Level.TheVariants.{Calls}
 use Rattle.board_model.specs.Alike.{reduced}
 use Rattle.board_model.specs.Cut.{from_turn, left_of}
@@ -17,8 +15,9 @@ use Rattle.board_model.proofs.RunKeeps.{sane_run}
 use Rattle.board_model.proofs.RunCuts.{rest_of_run as rest_at_cut, sane-cut}
 use Rattle.board_model.proofs.SaneReduced.{sane-reduced}
 use Rattle.board_core.proofs.Running.{turn_started}
-use Rattle.board_run.specs.Text.{end_text, notes_text, trace_text}
-use Rattle.board_run.proofs.GenerationsTold.{end_reduced, memory_reduced}
+use Rattle.board_run.specs.Text.{trace_text}
+use Rattle.board_run.specs.MemoryText.{memory_text}
+use Rattle.board_run.proofs.GenerationsTold.{memory_alike, text_alike}
 use Rattle.command_line.specs.CommandLine.{Asked, resume}
 use Rattle.command_line.specs.declared.job.Detail.{Detail}
 use Rattle.snapshot.specs.declared.records.Header.{Header}
@@ -37,9 +36,10 @@ use Rattle.trace_cli.specs.Answer.{Answered, GoesOn, IsFromSpelled, IsShort, Tel
 use Rattle.trace_cli.proofs.Lists.{takes_first, takes_none}
 use Rattle.trace_cli.proofs.Refusals.{state_taken}
 
-memory_if_reduced : (mem : Bool) (g : Setup) (s : State) → memory_if mem g (reduced s) ≡ memory_if mem g s
-memory_if_reduced true g s = memory_reduced g s
-memory_if_reduced false g s = refl
+-- the memory of two runs, where it is asked for
+memory_if_alike : (mem : Bool) (g : Setup) (r q : Run) → memory_text g r.last ≡ memory_text g q.last → memory_if mem g r.last ≡ memory_if mem g q.last
+memory_if_alike true g r q same = same
+memory_if_alike false g r q same = refl
 
 -- what is told of a run
 abbrev told : Detail → Setup → Run → Verdict
@@ -48,14 +48,9 @@ told detail g r = line_alone (status_of r.end) (trace_text r ++ memory_if detail
 -- two runs are told alike that have the same notes and the same end, and the same last state but for births
 told_alike : (detail : Detail) (g : Setup) (r q : Run) → r.notes ≡ q.notes → r.end ≡ q.end → reduced r.last ≡ reduced q.last → told detail g r ≡ told detail g q
 told_alike detail g r q notes end last =
-    let ending : end_text r.end r.last ≡ end_text q.end q.last =
-    sym (end_reduced r.end r.last) ∙ ap (λ (s : State). end_text r.end s) last ∙ end_reduced r.end q.last ∙ ap (λ (e : End). end_text e q.last) end in
-    let memory : memory_if detail.memory g r.last ≡ memory_if detail.memory g q.last =
-    sym (memory_if_reduced detail.memory g r.last) ∙ ap (memory_if detail.memory g) last ∙ memory_if_reduced detail.memory g q.last in
-    ap (λ (e : End). line_alone (status_of e) (trace_text r ++ memory_if detail.memory g r.last)) end
-    ∙ ap (λ (ns : List (ℕ × Note)). line_alone (status_of q.end) ((notes_text ns ++ end_text r.end r.last) ++ memory_if detail.memory g r.last)) notes
-    ∙ ap (λ (t : List ℕ). line_alone (status_of q.end) ((notes_text q.notes ++ t) ++ memory_if detail.memory g r.last)) ending
-    ∙ ap (λ (t : List ℕ). line_alone (status_of q.end) (trace_text q ++ t)) memory
+    let text : trace_text r ≡ trace_text q = text_alike r q end last notes in
+    let memory : memory_if detail.memory g r.last ≡ memory_if detail.memory g q.last = memory_if_alike detail.memory g r q (memory_alike r q end last g) in
+    λ j. line_alone (status_of (end j)) (text j ++ memory j)
 
 -- from the state of turn k, up to turn m
 pub told_rest : (n m : ℕ) (detail : Detail) (x : Scenario) → Sane x.setup (start_of x) → (run_of Calls n x).last.turn ≤ m

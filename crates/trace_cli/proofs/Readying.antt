@@ -1,5 +1,5 @@
 -- From the files of a job to its answer.
-use Rattle.std.proofs.Common.{◌≡◌, ℕ, suc, ◌≤◌, Result, Ok, IfOk, List, [], ◌∷◌, ◌++◌, length, take, get_or, Option, Some, None, refl, sym, ap, subst, ◌∙◌, arith, inl, inr, string_bytes}
+use Rattle.std.proofs.Common.{◌≡◌, ℕ, suc, ◌≤◌, Bool, Result, Ok, IfOk, List, [], ◌∷◌, ◌++◌, length, take, get_or, Option, Some, None, refl, sym, ap, subst, ◌∙◌, arith, inl, inr, string_bytes}
 use Rattle.std.specs.Prelude.{slice_get}
 use Rattle.kernel_abi.specs.Devices.{DeviceData}
 use Rattle.image_format.specs.Picture.{Picture}
@@ -8,26 +8,28 @@ use Rattle.board_core.specs.Data.{Shows}
 use Rattle.board_core.specs.declared.board.Board.{Board}
 use Rattle.board_model.specs.Script.{Scenario, start_of}
 use Rattle.board_core.specs.Opened as opened
-use Rattle.run_script.specs.Scripts.{ScriptData}
+use Rattle.run_script.specs.Scripts.{Listed, ScriptData}
+use Rattle.sweep_core.specs.declared.sweeper.Sweeper.{Sweeper}
+use Rattle.sweep_core.specs.Sweeping.{IsReady as IsReadyToSweep, asked}
 use Rattle.task_table.specs.State.{State}
 use Rattle.board_core.specs.Stands.{Stands, Stood, turns_of}
 use Rattle.outside_io.specs.Outside.{Rose}
 use Rattle.audit_runs.specs.Last.{IsGoodText}
 use Rattle.trace_audit.specs.declared.verdict.Verdict as trace
 use Rattle.trace_audit.specs.declared.verdict.Verdict.TheVariants.{Yes, No}
-use Rattle.command_line.specs.CommandLine.{Asked, build, run, go, list, sample, migrate, audit, save, resume, debug, help}
+use Rattle.command_line.specs.CommandLine.{Asked, build, run, go, list, sample, migrate, audit, save, resume, debug, cover, sweep, help}
 use Rattle.command_line.specs.declared.job.Detail.{Detail}
 use Rattle.debug_core.specs.declared.command.Command.{Command}
 use Rattle.trace_cli.specs.declared.file_faults.NamedFault.{NamedFault}
 use Rattle.trace_cli.specs.declared.file_faults.NamedFault.TheVariants as named_faults
 use Rattle.trace_cli.specs.Contents.{Why, picture_of, scenario_of, script_of, state_refusal, application_of}
 use Rattle.outside_io.specs.Seen.{FilesSeen, SinkSeen}
-use Rattle.trace_cli.specs.Sources.{File, image_file, script_file, state_file, trace_file, commands_file, files_of, files_by, files_to_build, first_of, MayBe, Takes, IsBuilt, script_in, scenario_in, state_by}
+use Rattle.trace_cli.specs.Sources.{File, image_file, script_file, state_file, trace_file, commands_file, arrival_file, files_of, files_by, files_to_build, first_of, MayBe, Takes, IsBuilt, script_in, scenario_in, state_by}
 use Rattle.trace_cli.specs.FileFaults.{IsNamedFaultOf}
 use Rattle.trace_cli.specs.Building.{IsImage, IsNamedFaultInApp}
-use Rattle.trace_cli.specs.Ready.{StartsWell, StartsSeen, IsImageFile, IsScriptFile, IsSet, IsReady, IsSaveReady, IsLoaded, IsStateSet, IsResumable, IsCommandsFile, IsDebugReady, IsAuditOf, IsNamedFaultIn}
+use Rattle.trace_cli.specs.Ready.{StartsWell, StartsSeen, IsImageFile, IsScriptFile, IsSet, RunsImage, IsReady, IsLoaded, IsStateSet, IsResumable, IsCommandsFile, IsDebugReady, IsArrivalFile, IsSweepReady, IsAuditOf, IsNamedFaultIn}
 use Rattle.trace_cli.specs.Pushed.{Pushed, whole, cut, Says, pushed, silent, IsSilent, SaysNamedFault}
-use Rattle.trace_cli.specs.Verdict.{Verdict, refused, unread, ran, listed, built, saved, resumed, debugged, audited}
+use Rattle.trace_cli.specs.Verdict.{Verdict, Does, refused, unread, ran, listed, built, saved, resumed, debugged, covered, swept, audited}
 use Rattle.trace_cli.specs.Answer as answer
 use Rattle.trace_cli.specs.Answer.{JobReason, cannot_read, refuses, does, IsShort, HasPut, HasSpoiled, Tells, IsOfRun, TellsGood, AnswersJob}
 use Rattle.trace_cli.proofs.Lists.{at_end, longer, takes_none, takes_first, takes_wider, takes_last, get_more, get_last}
@@ -36,8 +38,8 @@ use Rattle.trace_cli.proofs.Starting.{told_from_start}
 use Rattle.trace_cli.proofs.Taking.{as_many_sources}
 
 -- a board that is ready, where there is one
-pub ready_there : {X : Type 0} {H : X → Type 0} {shown : Shows X H} {devices : List DeviceData} {job : Asked} {seen : List ℕ → Option (List ℕ)} {n : ℕ} {detail : Detail} {r : Result (Board X H) NamedFault} {b : Board X H} → r ≡ Ok b → IfOk r (IsReady shown devices job seen n detail) → IsReady shown devices job seen n detail b
-ready_there {X} {H} {shown} {devices} {job} {seen} {n} {detail} {r} {b} is h = subst (λ (p : Result (Board X H) NamedFault). IfOk p (IsReady shown devices job seen n detail)) is h
+pub ready_there : {X : Type 0} {H : X → Type 0} {shown : Shows X H} {devices : List DeviceData} {job : Asked} {seen : List ℕ → Option (List ℕ)} {verdict : Scenario → Verdict} {r : Result (Board X H) NamedFault} {b : Board X H} → r ≡ Ok b → IfOk r (IsReady shown devices job seen verdict) → IsReady shown devices job seen verdict b
+ready_there {X} {H} {shown} {devices} {job} {seen} {verdict} {r} {b} is h = subst (λ (p : Result (Board X H) NamedFault). IfOk p (IsReady shown devices job seen verdict)) is h
 
 -- what is set up by the same contents elsewhere
 pub set_there : {X : Type 0} {H : X → Type 0} {shown : Shows X H} {devices : List DeviceData} {seen seen' : List ℕ → Option (List ℕ)} {picture : Picture} {script : List ℕ} {b : Board X H} → seen ≡ seen' → IsSet shown devices seen picture script b → IsSet shown devices seen' picture script b
@@ -60,34 +62,39 @@ faults_at job contents f a b c h takes next seen later fault = record {
   at = record { takes = takes; file = f; next = next; fault = faults_earlier a b c f h seen later fault };
 }
 
--- ## `run`
+-- ## an image and a script
 
 one_file : (seen : List ℕ → Option (List ℕ)) (name : List ℕ) (image : Picture) (more : List File) (h : IsImageFile seen name image) → Takes (MayBe seen) (image_file name ∷ more) (h.bytes ∷ [])
 one_file seen name image more h = takes_first (MayBe seen) (image_file name) more h.bytes [] h.held h.accepted (takes_none (MayBe seen) more)
 
-pub run_ready : {X : Type 0} {H : X → Type 0} {shown : Shows X H} {devices : List DeviceData} (seen : List ℕ → Option (List ℕ)) (image script : List ℕ) (n : ℕ) (detail : Detail) (picture : Picture) (b : Board X H) → IsImageFile seen image picture → IsSet shown devices seen picture script b
-    → IsReady shown devices (run image script n detail) seen n detail b
-run_ready {X} {H} {shown} {devices} seen image script n detail picture b i s = record {
-  contents = i.bytes ∷ s.script ∷ [];
-  accepted = record {
-    takes = takes_first (MayBe seen) (image_file image) (script_file script ∷ []) i.bytes (s.script ∷ []) i.held i.accepted
-        (takes_first (MayBe seen) (script_file script) [] s.script [] s.held s.accepted (takes_none (MayBe seen) []));
-    all = refl;
-  };
-  scenario = scenario_of picture s.script devices;
-  done = ap (λ (p : Picture). ran n detail (scenario_of p s.script devices)) i.is;
-  stands = s.stands;
-  turns = s.turns;
-}
+pub image_ready : {X : Type 0} {H : X → Type 0} {shown : Shows X H} {devices : List DeviceData} (seen : List ℕ → Option (List ℕ)) (job : Asked) (verdict : Scenario → Verdict) (image script : List ℕ) (picture : Picture) (b : Board X H) → RunsImage devices job image script verdict
+    → IsImageFile seen image picture → IsSet shown devices seen picture script b → IsReady shown devices job seen verdict b
+image_ready {X} {H} {shown} {devices} seen job verdict image script picture b runs i s =
+    let contents = i.bytes ∷ s.script ∷ [] in
+    let takes : Takes (MayBe seen) (image_file image ∷ script_file script ∷ []) contents =
+    takes_first (MayBe seen) (image_file image) (script_file script ∷ []) i.bytes (s.script ∷ []) i.held i.accepted
+    (takes_first (MayBe seen) (script_file script) [] s.script [] s.held s.accepted (takes_none (MayBe seen) [])) in
+    record {
+      contents = contents;
+      accepted = record {
+        takes = subst (λ (fs : List File). Takes (MayBe seen) fs contents) (sym (runs.files i.bytes)) takes;
+        all = ap length (runs.files i.bytes);
+      };
+      scenario = scenario_of picture s.script devices;
+      done = subst (λ (p : Picture). Does devices job contents (verdict (scenario_of p s.script devices))) (sym i.is) (runs.does contents);
+      stands = s.stands;
+      turns = s.turns;
+    }
 
-pub run_image_faults : {devices : List DeviceData} (a c : FilesSeen) (image script : List ℕ) (n : ℕ) (detail : Detail) (h : NamedFault) → IsNamedFaultOf a c (image_file image) h → IsNamedFaultIn devices (run image script n detail) a c h
-run_image_faults a c image script n detail h fault = faults_first (run image script n detail) (image_file image) a c h refl fault
+pub image_faults : {devices : List DeviceData} (a c : FilesSeen) (job : Asked) (verdict : Scenario → Verdict) (image script : List ℕ) (h : NamedFault) → RunsImage devices job image script verdict → IsNamedFaultOf a c (image_file image) h → IsNamedFaultIn devices job a c h
+image_faults a c job verdict image script h runs fault = faults_first job (image_file image) a c h (ap (λ (fs : List File). slice_get fs 0) (runs.files [])) fault
 
-pub run_script_faults : {devices : List DeviceData} (a b c : FilesSeen) (image script : List ℕ) (n : ℕ) (detail : Detail) (picture : Picture) (h : NamedFault) → IsImageFile a.contents image picture → b.contents ≡ a.contents
-    → a.read_faults ≤ b.read_faults → IsNamedFaultOf b c (script_file script) h → IsNamedFaultIn devices (run image script n detail) a c h
-run_script_faults a b c image script n detail picture h i seen later fault = faults_at (run image script n detail) (i.bytes ∷ []) (script_file script) a b c h (one_file a.contents image picture (script_file script ∷ []) i) refl seen later fault
-
--- ## `save`
+pub script_faults : {devices : List DeviceData} (a b c : FilesSeen) (job : Asked) (verdict : Scenario → Verdict) (image script : List ℕ) (picture : Picture) (h : NamedFault) → RunsImage devices job image script verdict → IsImageFile a.contents image picture → b.contents ≡ a.contents
+    → a.read_faults ≤ b.read_faults → IsNamedFaultOf b c (script_file script) h → IsNamedFaultIn devices job a c h
+script_faults a b c job verdict image script picture h runs i seen later fault =
+    faults_at job (i.bytes ∷ []) (script_file script) a b c h
+    (subst (λ (fs : List File). Takes (MayBe a.contents) fs (i.bytes ∷ [])) (sym (runs.files i.bytes)) (one_file a.contents image picture (script_file script ∷ []) i))
+    (ap (λ (fs : List File). slice_get fs 1) (runs.files i.bytes)) seen later fault
 
 pub set_by_script : {X : Type 0} {H : X → Type 0} {shown : Shows X H} {devices : List DeviceData} (seen : List ℕ → Option (List ℕ)) (image : Picture) (name : List ℕ) (script : ScriptData) (b : Board X H) → IsScriptFile seen name script
     → Stands shown (opened.scenario_of image script devices) b (start_of (opened.scenario_of image script devices)) → turns_of b ≡ 0 → IsSet shown devices seen image name b
@@ -98,28 +105,6 @@ set_by_script {X} {H} {shown} {devices} seen image name script b i stands turns 
   stands = subst (λ (d : ScriptData). Stands shown (opened.scenario_of image d devices) b (start_of (opened.scenario_of image d devices))) i.is stands;
   turns = turns;
 }
-
-pub save_ready : {X : Type 0} {H : X → Type 0} {shown : Shows X H} {devices : List DeviceData} (seen : List ℕ → Option (List ℕ)) (image script out : List ℕ) (n : ℕ) (picture : Picture) (b : Board X H) → IsImageFile seen image picture → IsSet shown devices seen picture script b
-    → IsSaveReady shown devices (save image script out n) seen out n b
-save_ready {X} {H} {shown} {devices} seen image script out n picture b i s = record {
-  contents = i.bytes ∷ s.script ∷ [];
-  accepted = record {
-    takes = takes_first (MayBe seen) (image_file image) (script_file script ∷ []) i.bytes (s.script ∷ []) i.held i.accepted
-        (takes_first (MayBe seen) (script_file script) [] s.script [] s.held s.accepted (takes_none (MayBe seen) []));
-    all = refl;
-  };
-  scenario = scenario_of picture s.script devices;
-  done = ap (λ (p : Picture). saved out n (scenario_of p s.script devices)) i.is;
-  stands = s.stands;
-  turns = s.turns;
-}
-
-pub save_image_faults : {devices : List DeviceData} (a c : FilesSeen) (image script out : List ℕ) (n : ℕ) (h : NamedFault) → IsNamedFaultOf a c (image_file image) h → IsNamedFaultIn devices (save image script out n) a c h
-save_image_faults a c image script out n h fault = faults_first (save image script out n) (image_file image) a c h refl fault
-
-pub save_script_faults : {devices : List DeviceData} (a b c : FilesSeen) (image script out : List ℕ) (n : ℕ) (picture : Picture) (h : NamedFault) → IsImageFile a.contents image picture → b.contents ≡ a.contents
-    → a.read_faults ≤ b.read_faults → IsNamedFaultOf b c (script_file script) h → IsNamedFaultIn devices (save image script out n) a c h
-save_script_faults a b c image script out n picture h i seen later fault = faults_at (save image script out n) (i.bytes ∷ []) (script_file script) a b c h (one_file a.contents image picture (script_file script ∷ []) i) refl seen later fault
 
 -- ## `resume`
 
@@ -222,6 +207,45 @@ pub debug_commands_faults : {devices : List DeviceData} (a b c : FilesSeen) (ima
     → b.contents ≡ a.contents → a.read_faults ≤ b.read_faults → IsNamedFaultOf b c (commands_file name) h → IsNamedFaultIn devices (debug image script name) a c h
 debug_commands_faults a b c image script name picture events h i s seen later fault = faults_at (debug image script name) (i.bytes ∷ s.bytes ∷ []) (commands_file name) a b c h (two_files a.contents image script picture events (commands_file name ∷ []) i s) refl seen later fault
 
+-- ## `sweep`
+
+pub arrival_there : {seen seen' : List ℕ → Option (List ℕ)} {name : List ℕ} {arrival : ScriptData} → seen ≡ seen' → IsArrivalFile seen name arrival → IsArrivalFile seen' name arrival
+arrival_there {seen} {seen'} {name} {arrival} same h = subst (λ (t : List ℕ → Option (List ℕ)). IsArrivalFile t name arrival) same h
+
+pub sweep_ready : {X : Type 0} {H : X → Type 0} {shown : Shows X H} {devices : List DeviceData} (seen : List ℕ → Option (List ℕ)) (image script name : List ℕ) (from to limit : ℕ) (mem : Bool) (picture : Picture) (events arrival : ScriptData) (w : Sweeper X H) → IsImageFile seen image picture
+    → IsScriptFile seen script events → IsArrivalFile seen name arrival → IsReadyToSweep shown (opened.scenario_of picture events devices) arrival.events w → IsSweepReady shown devices (sweep image script name from to limit mem) seen from to limit mem w
+sweep_ready {X} {H} {shown} {devices} seen image script name from to limit mem picture events arrival w i s c ready =
+    let of_image : IsReadyToSweep shown (opened.scenario_of (picture_of i.bytes) events devices) arrival.events w =
+    subst (λ (p : Picture). IsReadyToSweep shown (opened.scenario_of p events devices) arrival.events w) i.is ready in
+    let of_script : IsReadyToSweep shown (scenario_of (picture_of i.bytes) s.bytes devices) arrival.events w =
+    subst (λ (d : ScriptData). IsReadyToSweep shown (opened.scenario_of (picture_of i.bytes) d devices) arrival.events w) s.is of_image in
+    record {
+      contents = i.bytes ∷ s.bytes ∷ c.bytes ∷ [];
+      accepted = record {
+        takes = takes_first (MayBe seen) (image_file image) (script_file script ∷ arrival_file name ∷ []) i.bytes (s.bytes ∷ c.bytes ∷ []) i.held i.accepted
+            (takes_first (MayBe seen) (script_file script) (arrival_file name ∷ []) s.bytes (c.bytes ∷ []) s.held s.accepted
+            (takes_first (MayBe seen) (arrival_file name) [] c.bytes [] c.held c.accepted (takes_none (MayBe seen) [])));
+        all = refl;
+      };
+      scenario = scenario_of (picture_of i.bytes) s.bytes devices;
+      arrival = (script_of c.bytes).events;
+      done = refl;
+      ready = subst (λ (d : ScriptData). IsReadyToSweep shown (scenario_of (picture_of i.bytes) s.bytes devices) d.events w) c.is of_script;
+    }
+
+pub sweep_image_faults : {devices : List DeviceData} (a c : FilesSeen) (image script name : List ℕ) (from to limit : ℕ) (mem : Bool) (h : NamedFault) → IsNamedFaultOf a c (image_file image) h → IsNamedFaultIn devices (sweep image script name from to limit mem) a c h
+sweep_image_faults a c image script name from to limit mem h fault = faults_first (sweep image script name from to limit mem) (image_file image) a c h refl fault
+
+pub sweep_script_faults : {devices : List DeviceData} (a b c : FilesSeen) (image script name : List ℕ) (from to limit : ℕ) (mem : Bool) (picture : Picture) (h : NamedFault) → IsImageFile a.contents image picture → b.contents ≡ a.contents
+    → a.read_faults ≤ b.read_faults → IsNamedFaultOf b c (script_file script) h → IsNamedFaultIn devices (sweep image script name from to limit mem) a c h
+sweep_script_faults a b c image script name from to limit mem picture h i seen later fault =
+    faults_at (sweep image script name from to limit mem) (i.bytes ∷ []) (script_file script) a b c h (one_file a.contents image picture (script_file script ∷ arrival_file name ∷ []) i) refl seen later fault
+
+pub sweep_arrival_faults : {devices : List DeviceData} (a b c : FilesSeen) (image script name : List ℕ) (from to limit : ℕ) (mem : Bool) (picture : Picture) (events : ScriptData) (h : NamedFault) → IsImageFile a.contents image picture → IsScriptFile a.contents script events
+    → b.contents ≡ a.contents → a.read_faults ≤ b.read_faults → IsNamedFaultOf b c (arrival_file name) h → IsNamedFaultIn devices (sweep image script name from to limit mem) a c h
+sweep_arrival_faults a b c image script name from to limit mem picture events h i s seen later fault =
+    faults_at (sweep image script name from to limit mem) (i.bytes ∷ s.bytes ∷ []) (arrival_file name) a b c h (two_files a.contents image script picture events (arrival_file name ∷ []) i s) refl seen later fault
+
 -- ## `list`
 
 pub list_faults : {devices : List DeviceData} (a c : FilesSeen) (image : List ℕ) (h : NamedFault) → IsNamedFaultOf a c (image_file image) h → IsNamedFaultIn devices (list image) a c h
@@ -283,7 +307,7 @@ pub go_script : (bytes : List ℕ) (sources : List (List ℕ)) (script : List �
 go_script bytes sources script count = ap (λ n. get_or (sources ++ script ∷ []) n []) count ∙ at_end sources script []
 
 pub go_ready : {X : Type 0} {H : X → Type 0} {shown : Shows X H} {devices : List DeviceData} (seen : List ℕ → Option (List ℕ)) (app script : List ℕ) (n : ℕ) (detail : Detail) (picture : Picture) (b : Board X H) → IsImage seen app picture → IsSet shown devices seen picture script b
-    → IsReady shown devices (go app script n detail) seen n detail b
+    → IsReady shown devices (go app script n detail) seen (ran n detail) b
 go_ready {X} {H} {shown} {devices} seen app script n detail picture b i s =
     let files = files_to_build app i.bytes in
     let count : length (application_of i.bytes).tasks ≡ length i.sources = (let all = i.each.all in let many = as_many_sources (application_of i.bytes) in omega arith) in
@@ -341,6 +365,8 @@ tells_good (audit trace) v r h = tt
 tells_good (save image script out steps) v r h = tt
 tells_good (resume image script state steps detail) v r h = tt
 tells_good (debug image script commands) v r h = tt
+tells_good (cover image script steps) v r h = tt
+tells_good (sweep image script arrival from to steps memory) v r h = tt
 tells_good (help about) v r h = tt
 
 no_run : (r : ℕ) → 1 ≤ r → r ≤ 5 → IsOfRun r → ⊥
@@ -386,7 +412,7 @@ answers_named_fault job a b w w' (named_faults.Refused name cause place) r same 
     let why = refuses file reason (record { contents = h.contents; reached = record { takes = h.at.takes; next = h.at.next }; refused = at.1 }) (ap (λ (n : List ℕ). refused n reason) at.0) in
     answers_said job a b w w' (refused (string_bytes name) reason) r same refl why (fault_good job w w' (refused (string_bytes name) reason) r (omega arith) (omega arith) s) s
 
-pub answers_run : {X : Type 0} {H : X → Type 0} {shown : Shows X H} {devices : List DeviceData} (job : Asked) (a b : FilesSeen) (w w' : SinkSeen) (n : ℕ) (detail : Detail) (bd : Board X H) (r : ℕ) → b.contents ≡ a.contents → IsReady shown devices job a.contents n detail bd
+pub answers_run : {X : Type 0} {H : X → Type 0} {shown : Shows X H} {devices : List DeviceData} (job : Asked) (a b : FilesSeen) (w w' : SinkSeen) (n : ℕ) (detail : Detail) (bd : Board X H) (r : ℕ) → b.contents ≡ a.contents → IsReady shown devices job a.contents (ran n detail) bd
     → ((x : Scenario) (s : State) → Stands shown x bd s → Pushed w w' (resumed n detail x s) r) → ((x : Scenario) → Stands shown x bd (start_of x) → IsOfRun r → IsGoodText (resumed n detail x (start_of x)).text)
     → AnswersJob devices job a b w w' r
 answers_run job a b w w' n detail bd r same ready tells good =
@@ -409,14 +435,24 @@ answers_debugged image script name a b w w' commands bd r same h says =
     answers_said (debug image script name) a b w w' (debugged h.scenario commands) r same refl
     (does h.contents h.accepted h.done) tt (says h.scenario h.stands)
 
+pub answers_swept : {X : Type 0} {H : X → Type 0} {shown : Shows X H} {devices : List DeviceData} (image script name : List ℕ) (a b : FilesSeen) (w w' : SinkSeen) (from to limit : ℕ) (mem : Bool) (sweeper : Sweeper X H) (r : ℕ) → b.contents ≡ a.contents
+    → IsSweepReady shown devices (sweep image script name from to limit mem) a.contents from to limit mem sweeper
+    → ((x : Scenario) (arrival : List Listed) → IsReadyToSweep shown x arrival sweeper → Pushed w w' (swept x (asked arrival from to limit mem)) r)
+    → AnswersJob devices (sweep image script name from to limit mem) a b w w' r
+answers_swept image script name a b w w' from to limit mem sweeper r same h pushes =
+    answers_pushed (sweep image script name from to limit mem) a b w w' (swept h.scenario (asked h.arrival from to limit mem)) r same refl
+    (does h.contents h.accepted h.done) tt (pushes h.scenario h.arrival h.ready)
+
 pub resumable_stood : {X : Type 0} {H : X → Type 0} {shown : Shows X H} {devices : List DeviceData} (job : Asked) (seen : List ℕ → Option (List ℕ)) (m : ℕ) (detail : Detail) (bd : Board X H) → IsResumable shown devices job seen m detail bd → Stood shown bd × (turns_of bd ≤ m)
 resumable_stood {devices = devices} job seen m detail bd h = ((scenario_in devices h.contents, state_by devices h.contents, h.stands), h.turns)
 
-pub save_stood : {X : Type 0} {H : X → Type 0} {shown : Shows X H} {devices : List DeviceData} (job : Asked) (seen : List ℕ → Option (List ℕ)) (out : List ℕ) (n : ℕ) (bd : Board X H) → IsSaveReady shown devices job seen out n bd → Stood shown bd × (turns_of bd ≡ 0)
-save_stood job seen out n bd h = ((h.scenario, start_of h.scenario, h.stands), h.turns)
+pub ready_stood : {X : Type 0} {H : X → Type 0} {shown : Shows X H} {devices : List DeviceData} (job : Asked) (seen : List ℕ → Option (List ℕ)) (verdict : Scenario → Verdict) (bd : Board X H) → IsReady shown devices job seen verdict bd → Stood shown bd × (turns_of bd ≡ 0)
+ready_stood job seen verdict bd h = ((h.scenario, start_of h.scenario, h.stands), h.turns)
 
-pub ready_stood : {X : Type 0} {H : X → Type 0} {shown : Shows X H} {devices : List DeviceData} (job : Asked) (seen : List ℕ → Option (List ℕ)) (n : ℕ) (detail : Detail) (bd : Board X H) → IsReady shown devices job seen n detail bd → Stood shown bd × (turns_of bd ≡ 0)
-ready_stood job seen n detail bd h = ((h.scenario, start_of h.scenario, h.stands), h.turns)
+pub answers_covered : {X : Type 0} {H : X → Type 0} {shown : Shows X H} {devices : List DeviceData} (image script : List ℕ) (a b : FilesSeen) (w w' : SinkSeen) (n : ℕ) (bd : Board X H) (r : ℕ) → b.contents ≡ a.contents → IsReady shown devices (cover image script n) a.contents (covered n) bd
+    → ((x : Scenario) → Stands shown x bd (start_of x) → Says w w' (covered n x) r) → AnswersJob devices (cover image script n) a b w w' r
+answers_covered image script a b w w' n bd r same h says =
+    answers_said (cover image script n) a b w w' (covered n h.scenario) r same refl (does h.contents h.accepted h.done) tt (says h.scenario h.stands)
 
 -- ## what an image is put under
 
@@ -444,7 +480,7 @@ pub answers_migrated : {devices : List DeviceData} (a b c : FilesSeen) (w w' : S
 answers_migrated a b c w w' file out image r same puts i t = answers_put (migrate file out) a b c w w' out image r same puts (migrate_reason a c file out image i) tt t
 
 pub answers_saved : {X : Type 0} {H : X → Type 0} {shown : Shows X H} {devices : List DeviceData} (image script out : List ℕ) (a b c : FilesSeen) (w w' : SinkSeen) (n : ℕ) (bd : Board X H) (r : ℕ) → b.contents ≡ a.contents → b.put_faults ≡ a.put_faults
-    → IsSaveReady shown devices (save image script out n) a.contents out n bd → ((x : Scenario) → Stands shown x bd (start_of x) → Tells b c w w' (saved out n x) r) → AnswersJob devices (save image script out n) a c w w' r
+    → IsReady shown devices (save image script out n) a.contents (saved out n) bd → ((x : Scenario) → Stands shown x bd (start_of x) → Tells b c w w' (saved out n x) r) → AnswersJob devices (save image script out n) a c w w' r
 answers_saved image script out a b c w w' n bd r same puts h tells =
     let x = h.scenario in
     inr (saved out n x, does h.contents h.accepted h.done, tells_earlier a b c w w' (saved out n x) r same puts (tells x h.stands), tt)

@@ -1,6 +1,6 @@
 -- Why an application or a source is refused, by what its builder says.
 use Rattle.std.proofs.Common.{◌≡◌, ℕ, ◌<◌, ◌≤◌, ◌↔◌, ◌++◌, true, false, List, length, Option, Some, None, refl, sym, ap, ◌∙◌, arith, ltb, cond, nat_lt, codes}
-use Rattle.std.specs.Prelude.{decimal, option_map, Ok, Err}
+use Rattle.std.specs.Prelude.{decimal, is_some, option_map, Ok, Err}
 use Rattle.std.proofs.lemmas.Bool.Decides.{nat_tests}
 use Rattle.app_toml.specs.Apps.{AppData}
 use Rattle.app_toml.specs.Reading.{read_app}
@@ -19,7 +19,7 @@ use Rattle.kernel_abi.specs.Devices.{DeviceData}
 use Rattle.snapshot.specs.Records.{header_at}
 use Rattle.snapshot.specs.Saved.{expected_of}
 use Rattle.snapshot.specs.Waits.{state_fault}
-use Rattle.trace_cli.specs.Contents.{Why, file_limit, trace_limit, trace_refusal, setup_of_image, state_refusal, turn_refusal, or_later, at_number, commands_refusal, script_in, script_refusal, script_of, at_line, fault_in, app_in, image_in, image_refusal, picture_of, application_of, app_refusal, room_refusal, source_refusal, code_refusal, code_length}
+use Rattle.trace_cli.specs.Contents.{Why, file_limit, trace_limit, trace_refusal, setup_of_image, state_refusal, turn_refusal, or_later, at_number, commands_refusal, script_in, script_refusal, script_of, arrival_fault, arrival_refusal, at_line, fault_in, app_in, image_in, image_refusal, picture_of, application_of, app_refusal, room_refusal, source_refusal, code_refusal, code_length}
 use Rattle.trace_audit.specs.declared.verdict.Verdict.{Verdict}
 use Rattle.trace_audit.specs.declared.verdict.Verdict.TheVariants.{Yes, No}
 use Rattle.trace_audit.specs.Texts as trace
@@ -46,6 +46,25 @@ script_taken bytes x le is = (short file_limit bytes _ le ∙ ap (λ r. option_m
 pub script_refused : (bytes : List ℕ) (why : ℕ × ℕ) → length bytes ≤ file_limit → script_or_fault bytes ≡ Err why → script_refusal bytes ≡ Some (at_number why)
 unfolding script_refusal
 script_refused bytes why le is = short file_limit bytes _ le ∙ ap (λ r. option_map at_number (fault_in r)) is
+
+-- ## an arrival
+
+arrives : (bytes : List ℕ) (x : ScriptData) (o : Option Why) → length bytes ≤ file_limit → script_refusal bytes ≡ None → x ≡ script_of bytes → arrival_fault x ≡ o → arrival_refusal bytes ≡ o
+unfolding arrival_refusal
+arrives bytes x o le none is fault = ap (λ (r : Option Why). or_later r (arrival_fault (script_of bytes))) none ∙ ap arrival_fault (sym is) ∙ fault
+
+pub arrival_unread : (bytes : List ℕ) (why : Why) → script_refusal bytes ≡ Some why → arrival_refusal bytes ≡ Some why
+unfolding arrival_refusal
+arrival_unread bytes why is = ap (λ (r : Option Why). or_later r (arrival_fault (script_of bytes))) is
+
+pub arrival_long : (bytes : List ℕ) (x : ScriptData) → length bytes ≤ file_limit → script_refusal bytes ≡ None → x ≡ script_of bytes → 256 < length x.events → arrival_refusal bytes ≡ Some (at_number (5, 0))
+arrival_long bytes x le none is more = arrives bytes x (Some (at_number (5, 0))) le none is (let t : ltb 256 (length x.events) ≡ true = grind (arith, nat_tests) in rw t refl)
+
+pub arrival_ticks : (bytes : List ℕ) (x : ScriptData) → length bytes ≤ file_limit → script_refusal bytes ≡ None → x ≡ script_of bytes → length x.events ≤ 256 → is_some x.every ≡ true → arrival_refusal bytes ≡ Some (at_number (6, 0))
+arrival_ticks bytes x le none is few every = arrives bytes x (Some (at_number (6, 0))) le none is (let t : ltb 256 (length x.events) ≡ false = grind (arith, nat_tests) in rw (t, every) refl)
+
+pub arrival_taken : (bytes : List ℕ) (x : ScriptData) → length bytes ≤ file_limit → script_refusal bytes ≡ None → x ≡ script_of bytes → length x.events ≤ 256 → is_some x.every ≡ false → arrival_refusal bytes ≡ None
+arrival_taken bytes x le none is few every = arrives bytes x None le none is (let t : ltb 256 (length x.events) ≡ false = grind (arith, nat_tests) in rw (t, every) refl)
 
 -- ## commands
 

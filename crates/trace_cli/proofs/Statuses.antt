@@ -5,7 +5,7 @@ use Rattle.kernel_abi.specs.Devices.{DeviceData}
 use Rattle.outside_io.specs.Outside.{Rose}
 use Rattle.board_model.specs.declared.outcomes.End.{End}
 use Rattle.board_model.specs.declared.outcomes.End.TheVariants.{Bound, Still, Supervisor}
-use Rattle.command_line.specs.CommandLine.{Asked, build, run, go, list, sample, migrate, audit, save, resume, debug, help, is_accepted, job_of}
+use Rattle.command_line.specs.CommandLine.{Asked, build, run, go, list, sample, migrate, audit, save, resume, debug, cover, sweep, help, is_accepted, job_of}
 use Rattle.trace_audit.specs.declared.verdict.Verdict as trace
 use Rattle.trace_audit.specs.declared.verdict.Verdict.TheVariants.{Yes, No}
 use Rattle.outside_io.specs.Seen.{FilesSeen, SinkSeen}
@@ -75,7 +75,12 @@ of_run status (inr s) = inr (inl s)
 
 of_audit : (status status' : ℕ) → status ≡ status' → (status' ≡ 0) ⊎ (status' ≡ 7) → IsDone status
 of_audit status status' same (inl z) = inl (same ∙ z)
-of_audit status status' same (inr s) = inr (inr (same ∙ s))
+of_audit status status' same (inr s) = inr (inr (inl (same ∙ s)))
+
+-- of a sweep
+of_sweep : (status : ℕ) (differs : Bool) → status ≡ cond differs 8 0 → IsDone status
+of_sweep status true is = inr (inr (inr is))
+of_sweep status false is = inl is
 
 status_as : (v u : Verdict) → v ≡ u → v.status ≡ u.status
 status_as v u e = ap (λ (x : Verdict). x.status) e
@@ -95,16 +100,19 @@ done_status devices (audit name) cs v p = of_audit v.status (audited p.0).status
 done_status devices (save image script out steps) cs v p = inl (status_as v _ p)
 done_status devices (resume image script state steps detail) cs v p = ran_as v _ _ p
 done_status devices (debug image script name) cs v p = inl (status_as v _ p.2)
+done_status devices (cover image script steps) cs v p = ran_as v _ _ p
+done_status devices (sweep image script arrival from to steps memory) cs v p = of_sweep v.status _ (status_as v _ p)
 done_status devices (help about) cs v p = inl (status_as v _ p)
 
 not_done : (v : Verdict) (n : ℕ) → IsDone v.status → v.status ≡ n → (n ≡ 0 → ⊥) → (6 ≤ n → ⊥) → ⊥
 not_done v n (inl z) e not0 not6 = not0 (sym e ∙ z)
 not_done v n (inr (inl s)) e not0 not6 = not6 (omega arith)
-not_done v n (inr (inr s)) e not0 not6 = not6 (omega arith)
+not_done v n (inr (inr (inl s))) e not0 not6 = not6 (omega arith)
+not_done v n (inr (inr (inr s))) e not0 not6 = not6 (omega arith)
 
--- of a verdict on a job: at most 3, or 6, or 7
+-- of a verdict on a job: at most 3, or 6 to 8
 abbrev IsOfJob : ℕ → Type 0
-IsOfJob status = (status ≤ 3) ⊎ ((6 ≤ status) × (status ≤ 7))
+IsOfJob status = (status ≤ 3) ⊎ ((6 ≤ status) × (status ≤ 8))
 
 job_status : {devices : List DeviceData} (job : Asked) (a b : FilesSeen) (v : Verdict) → JobReason devices job a b v → IsOfJob v.status
 job_status job a b v (cannot_read f h is) = let s : v.status ≡ 3 = ap (λ (u : Verdict). u.status) is in inl (omega arith)
@@ -113,7 +121,8 @@ job_status job a b v (does cs all p) = by (done_status _ job cs v p) where
   by : IsDone v.status → IsOfJob v.status
   by (inl z) = inl (omega arith)
   by (inr (inl s)) = inr (omega arith, omega arith)
-  by (inr (inr s)) = inr (omega arith, omega arith)
+  by (inr (inr (inl s))) = inr (omega arith, omega arith)
+  by (inr (inr (inr s))) = inr (omega arith, omega arith)
 
 reason_status : {devices : List DeviceData} (words : List (List ℕ)) (a b : FilesSeen) (v : Verdict) → Reason devices words a b v → IsOfJob v.status
 reason_status words a b v (no_job none is) = let s : v.status ≡ 2 = ap (λ (u : Verdict). u.status) is in inl (omega arith)
@@ -123,19 +132,19 @@ not_four_or_five : (v : Verdict) → IsOfJob v.status → 4 ≤ v.status → v.s
 not_four_or_five v (inl few) low high = omega arith
 not_four_or_five v (inr many) low high = let six = many.0 in omega arith
 
-at_most_seven : (v : Verdict) → IsOfJob v.status → v.status ≤ 7
-at_most_seven v (inl few) = omega arith
-at_most_seven v (inr many) = many.1
+at_most_eight : (v : Verdict) → IsOfJob v.status → v.status ≤ 8
+at_most_eight v (inl few) = omega arith
+at_most_eight v (inr many) = many.1
 
 -- ## by status
 
-known_by : {devices : List DeviceData} (words : List (List ℕ)) (a b : FilesSeen) (w w' : SinkSeen) (v : Verdict) (r : ℕ) → Reason devices words a b v → Tells a b w w' v r → r ≤ 7
-known_by words a b w w' v r g (whole is put text) = let most = at_most_seven v (reason_status words a b v g) in omega arith
+known_by : {devices : List DeviceData} (words : List (List ℕ)) (a b : FilesSeen) (w w' : SinkSeen) (v : Verdict) (r : ℕ) → Reason devices words a b v → Tells a b w w' v r → r ≤ 8
+known_by words a b w w' v r g (whole is put text) = let most = at_most_eight v (reason_status words a b v g) in omega arith
 known_by words a b w w' v r g (cut is rose put front) = omega arith
 known_by words a b w w' v r g (spoiled is rose left same) = omega arith
 known_by words a b w w' v r g (short s) = let is = s.status in omega arith
 
-pub known : {devices : List DeviceData} (words : List (List ℕ)) (a b : FilesSeen) (w w' : SinkSeen) (r : ℕ) → Answers devices words a b w w' r → r ≤ 7
+pub known : {devices : List DeviceData} (words : List (List ℕ)) (a b : FilesSeen) (w w' : SinkSeen) (r : ℕ) → Answers devices words a b w w' r → r ≤ 8
 known words a b w w' r (inl s) = let is = s.status in omega arith
 known words a b w w' r (inr h) = known_by words a b w w' h.0 r h.1 h.2
 
@@ -224,7 +233,8 @@ was_unread words a b w w' r h e =
 no_line_of_done : (v : Verdict) (r n : ℕ) → IsDone r → v.status ≡ r → v.status ≡ n → 1 ≤ n → n ≤ 3 → ⊥
 no_line_of_done v r n (inl z) e is low high = omega arith
 no_line_of_done v r n (inr (inl s)) e is low high = omega arith
-no_line_of_done v r n (inr (inr s)) e is low high = omega arith
+no_line_of_done v r n (inr (inr (inl s))) e is low high = omega arith
+no_line_of_done v r n (inr (inr (inr s))) e is low high = omega arith
 
 done_by : {devices : List DeviceData} (words : List (List ℕ)) (a b : FilesSeen) (w w' : SinkSeen) (v : Verdict) (r : ℕ) → IsDone r → v.status ≡ r → HasPut a.contents b.contents v.put → Appends w.written w'.written v.text → TellsGoodIn (job_in words) v r → Reason devices words a b v
     → HasDone devices words a b w w' r
@@ -247,7 +257,8 @@ done_by words a b w w' v r done e put text good (of_job job at (does cs all p)) 
 not_cut_or_short : (r n : ℕ) → IsDone r → 4 ≤ n → n ≤ 5 → r ≡ n → ⊥
 not_cut_or_short r n (inl z) low high e = omega arith
 not_cut_or_short r n (inr (inl s)) low high e = omega arith
-not_cut_or_short r n (inr (inr s)) low high e = omega arith
+not_cut_or_short r n (inr (inr (inl s))) low high e = omega arith
+not_cut_or_short r n (inr (inr (inr s))) low high e = omega arith
 
 pub was_done : {devices : List DeviceData} (words : List (List ℕ)) (a b : FilesSeen) (w w' : SinkSeen) (r : ℕ) → Answers devices words a b w w' r → IsDone r → HasDone devices words a b w w' r
 was_done words a b w w' r h done =
@@ -281,6 +292,8 @@ done_puts devices words (audit name) cs v at p = alone words v (audited p.0) p.2
 done_puts devices words (save image script out steps) cs v at p = under words v out _ _ p (ap out_of at)
 done_puts devices words (resume image script state steps detail) cs v at p = alone words v _ p refl
 done_puts devices words (debug image script name) cs v at p = alone words v _ p.2 refl
+done_puts devices words (cover image script steps) cs v at p = alone words v _ p refl
+done_puts devices words (sweep image script arrival from to steps memory) cs v at p = alone words v _ p refl
 done_puts devices words (help about) cs v at p = alone words v _ p refl
 
 reason_puts : {devices : List DeviceData} (words : List (List ℕ)) (a b : FilesSeen) (v : Verdict) → Reason devices words a b v → Puts words v

@@ -8,13 +8,13 @@ use Rattle.board_model.specs.Script.{Scenario, start_of}
 use Rattle.task_table.specs.State.{State}
 use Rattle.task_table.specs.Sane.{Sane}
 use Rattle.audit_runs.specs.Last.{IsGoodText}
-use Rattle.command_line.specs.CommandLine.{Asked, build, run, go, list, sample, migrate, audit, save, resume, debug, help, is_accepted}
+use Rattle.command_line.specs.CommandLine.{Asked, build, run, go, list, sample, migrate, audit, save, resume, debug, cover, sweep, help, is_accepted}
 use Rattle.command_line.specs.declared.job.Detail.{Detail}
 use Rattle.trace_cli.specs.Contents.{Why, image_refusal, script_refusal, picture_of, scenario_of}
 use Rattle.outside_io.specs.Seen.{FilesSeen, SinkSeen}
 use Rattle.trace_cli.specs.Words.{job_in}
 use Rattle.trace_cli.specs.Sources.{File, MayBe, Are, MayBeRefused, Reaches, TakesAll, scenario_in}
-use Rattle.trace_cli.specs.Verdict.{Verdict, usage, refused, refused_line, unread, unread_line, resumed, saved_bytes, run_of, rest_of_run, Does}
+use Rattle.trace_cli.specs.Verdict.{Verdict, usage, refused, refused_line, unread, unread_line, resumed, saved_bytes, run_of, rest_of_run, Does, IsVerdict}
 use Rattle.trace_cli.specs.Ready.{StartsWell, IsSpelled}
 
 -- ## why a verdict was given on a job (the files: before and after the call; the devices: those of a run)
@@ -96,6 +96,8 @@ TellsGood (audit trace) v r = Unit {0}
 TellsGood (save image script out steps) v r = Unit {0}
 TellsGood (resume image script state steps detail) v r = Unit {0}
 TellsGood (debug image script commands) v r = Unit {0}
+TellsGood (cover image script steps) v r = Unit {0}
+TellsGood (sweep image script arrival from to steps memory) v r = Unit {0}
 TellsGood (help about) v r = Unit {0}
 
 -- where the words ask for a job
@@ -113,7 +115,7 @@ Answers devices words before after w w' r = IsShort before after w w' r ⊎ ((v 
 
 -- ## by status
 
--- 0, 6 and 7: the job was done, its file put and its text pushed whole, under the status of its verdict; an audit finds the
+-- 0, 6, 7 and 8: the job was done, its file put and its text pushed whole, under the status of its verdict; an audit finds the
 -- text of a run good
 pub record HasDone (devices : List DeviceData) (words : List (List ℕ)) (before after : FilesSeen) (w w' : SinkSeen) (r : ℕ) : Type 0 where
   pub job : Asked
@@ -128,7 +130,7 @@ pub record HasDone (devices : List DeviceData) (words : List (List ℕ)) (before
   pub good : TellsGood job verdict r
 
 abbrev pub IsDone : ℕ → Type 0
-IsDone r = (r ≡ 0) ⊎ ((r ≡ 6) ⊎ (r ≡ 7))
+IsDone r = (r ≡ 0) ⊎ ((r ≡ 6) ⊎ ((r ≡ 7) ⊎ (r ≡ 8)))
 
 -- 1: the line of the file that is refused
 pub record HasRefused (devices : List DeviceData) (words : List (List ℕ)) (seen : List ℕ → Option (List ℕ)) (w w' : SinkSeen) : Type 0 where
@@ -171,6 +173,10 @@ pub record HasUnreadSeen (devices : List DeviceData) (words : List (List ℕ)) (
 
 abbrev pub Answered : List DeviceData → List (List ℕ) → FilesSeen → FilesSeen → SinkSeen → SinkSeen → Verdict → ℕ → Type 0
 Answered devices words before after w w' v r = Tells before after w w' v r ⊎ HasUnreadSeen devices words before after w w' r
+
+-- for each verdict on the words and the contents that are seen
+abbrev pub AnswersEach : List DeviceData → List (List ℕ) → FilesSeen → FilesSeen → SinkSeen → SinkSeen → ℕ → Type 0
+AnswersEach devices words before after w w' r = (v : Verdict) → IsVerdict devices words before.contents v → Answered devices words before after w w' v r
 
 -- where no count of faults rose: the file was put and the whole text pushed under its status, or memory is short
 abbrev pub IsComplete : FilesSeen → FilesSeen → SinkSeen → SinkSeen → Verdict → ℕ → Type 0

@@ -1,5 +1,5 @@
 -- The contents of a file: why they are refused, and what they say.
-use Rattle.std.specs.Prelude.{ℕ, ◌^◌, ◌-◌, min, nat_lt, if◌then◌else◌, List, [], ◌++◌, length, codes, decimal, Option, Some, None, option_map, Result, Ok, Err}
+use Rattle.std.specs.Prelude.{ℕ, ◌^◌, ◌-◌, min, nat_lt, if◌then◌else◌, List, [], ◌++◌, length, codes, decimal, Option, Some, None, is_some, option_map, Result, Ok, Err}
 use Rattle.kernel_abi.specs.Devices.{DeviceData}
 use Rattle.app_toml.specs.Apps.{AppData}
 use Rattle.app_toml.specs.Reading.{read_app}
@@ -159,6 +159,22 @@ state_refusal devices image bound bytes =
 -- why a text of commands is refused, if it is (docs/FORMATS.md, Commands)
 unfoldable pub commands_refusal : List ℕ → Option Why
 commands_refusal bytes = unless_long file_limit bytes (option_map at_number (fault_in (commands_or_fault bytes)))
+
+-- ## an arrival
+
+-- the most events of an arrival
+abbrev pub most_arriving : ℕ
+most_arriving = 256
+
+-- a script is no arrival that has more events, or an `every`
+abbrev pub arrival_fault : ScriptData → Option Why
+arrival_fault script = if nat_lt most_arriving (length script.events) then Some (at_number (5, 0))
+    else if is_some script.every then Some (at_number (6, 0))
+    else None
+
+-- why an arrival is refused, if it is (docs/FORMATS.md, Sweep)
+unfoldable pub arrival_refusal : List ℕ → Option Why
+arrival_refusal bytes = or_later (script_refusal bytes) (arrival_fault (script_of bytes))
 
 -- the run of an image with a script and devices
 abbrev pub scenario_of : Picture → List ℕ → List DeviceData → Scenario

@@ -1,5 +1,5 @@
 -- A board at the start of a job's run, or the file that is not accepted.
-use Rattle.std.specs.Prelude.{◌≡◌, ◌⊎◌, ◌≤◌, ℕ, List, [], Option, Some, None, Ok, length, slice_index_or}
+use Rattle.std.specs.Prelude.{◌≡◌, ◌⊎◌, ◌≤◌, ℕ, List, [], ◌∷◌, Bool, Option, Some, None, Ok, length, slice_index_or}
 use Rattle.kernel_abi.specs.Devices.{DeviceData}
 use Rattle.image_format.specs.Picture.{Picture}
 use Rattle.image_build.specs.Built.{Built}
@@ -9,7 +9,9 @@ use Rattle.board_core.specs.declared.board.Board.{Board}
 use Rattle.board_model.specs.Script.{Scenario, start_of}
 use Rattle.board_core.specs.Stands.{Stands, turns_of}
 use Rattle.board_core.specs.Opened as opened
-use Rattle.run_script.specs.Scripts.{ScriptData, events_of}
+use Rattle.run_script.specs.Scripts.{Listed, ScriptData, events_of}
+use Rattle.sweep_core.specs.declared.sweeper.Sweeper.{Sweeper}
+use Rattle.sweep_core.specs.Sweeping.{IsReady as IsReadyToSweep, asked}
 use Rattle.task_table.specs.State.{State}
 use Rattle.task_table.specs.Sane.{Sane, IsCounted}
 use Rattle.snapshot.specs.Saved.{SpellsState}
@@ -22,10 +24,10 @@ use Rattle.command_line.specs.declared.job.Detail.{Detail}
 use Rattle.debug_core.specs.declared.command.Command.{Command}
 use Rattle.debug_core.specs.Reading.{commands_or_fault}
 use Rattle.trace_cli.specs.declared.file_faults.NamedFault.{NamedFault}
-use Rattle.trace_cli.specs.Contents.{image_refusal, script_refusal, state_refusal, commands_refusal, trace_refusal, picture_of, script_of, scenario_of, sample_scenario}
+use Rattle.trace_cli.specs.Contents.{image_refusal, script_refusal, state_refusal, commands_refusal, arrival_refusal, trace_refusal, picture_of, script_of, scenario_of, sample_scenario}
 use Rattle.outside_io.specs.Seen.{FilesSeen}
-use Rattle.trace_cli.specs.Sources.{MayBe, TakesAll, files_by, image_file, script_file, scenario_in, state_by}
-use Rattle.trace_cli.specs.Verdict.{Does, ran, saved, resumed, debugged}
+use Rattle.trace_cli.specs.Sources.{MayBe, TakesAll, files_of, files_by, image_file, script_file, scenario_in, state_by}
+use Rattle.trace_cli.specs.Verdict.{Verdict, Does, resumed, debugged, swept}
 use Rattle.trace_cli.specs.FileFaults.{IsNamedFaultOf}
 use Rattle.trace_cli.specs.Building.{IsNamedFaultAfter}
 
@@ -51,21 +53,17 @@ pub record IsSet {X : Type 0} {H : X → Type 0} (shown : Shows X H) (devices : 
   pub stands : Stands shown (scenario_of image script devices) b (start_of (scenario_of image script devices))
   pub turns : turns_of b ≡ 0
 
--- each file of the job is accepted, and the board stands for the start of its run
-pub record IsReady {X : Type 0} {H : X → Type 0} (shown : Shows X H) (devices : List DeviceData) (job : Asked) (seen : List ℕ → Option (List ℕ)) (n : ℕ) (detail : Detail) (b : Board X H) : Type 0 where
-  pub contents : List (List ℕ)
-  pub accepted : TakesAll (MayBe seen) devices job contents
-  pub scenario : Scenario
-  pub done : Does devices job contents (ran n detail scenario)
-  pub stands : Stands shown scenario b (start_of scenario)
-  pub turns : turns_of b ≡ 0
+-- the job takes this image and then this script, and answers their run by this verdict
+pub record RunsImage (devices : List DeviceData) (job : Asked) (image script : List ℕ) (verdict : Scenario → Verdict) : Type 0 where
+  pub files : (first : List ℕ) → files_of devices job first ≡ image_file image ∷ script_file script ∷ []
+  pub does : (contents : List (List ℕ)) → Does devices job contents (verdict (scenario_in devices contents))
 
--- each file of the job is accepted, and the board stands for the start of the run of which the last state is to be put under a name
-pub record IsSaveReady {X : Type 0} {H : X → Type 0} (shown : Shows X H) (devices : List DeviceData) (job : Asked) (seen : List ℕ → Option (List ℕ)) (name : List ℕ) (n : ℕ) (b : Board X H) : Type 0 where
+-- each file of the job is accepted, and the board stands for the start of the run that it answers by this verdict
+pub record IsReady {X : Type 0} {H : X → Type 0} (shown : Shows X H) (devices : List DeviceData) (job : Asked) (seen : List ℕ → Option (List ℕ)) (verdict : Scenario → Verdict) (b : Board X H) : Type 0 where
   pub contents : List (List ℕ)
   pub accepted : TakesAll (MayBe seen) devices job contents
   pub scenario : Scenario
-  pub done : Does devices job contents (saved name n scenario)
+  pub done : Does devices job contents (verdict scenario)
   pub stands : Stands shown scenario b (start_of scenario)
   pub turns : turns_of b ≡ 0
 
@@ -132,6 +130,22 @@ pub record IsDebugReady {X : Type 0} {H : X → Type 0} (shown : Shows X H) (dev
   pub scenario : Scenario
   pub done : Does devices job contents (debugged scenario commands)
   pub stands : Stands shown scenario b (start_of scenario)
+
+-- the events of an arrival are those of the file of this name
+pub record IsArrivalFile (seen : List ℕ → Option (List ℕ)) (name : List ℕ) (arrival : ScriptData) : Type 0 where
+  pub bytes : List ℕ
+  pub held : MayBe seen name bytes
+  pub accepted : arrival_refusal bytes ≡ None
+  pub is : arrival ≡ script_of bytes
+
+-- each file of the job is accepted, and the sweeper is at the start of the run over which these events are to be laid
+pub record IsSweepReady {X : Type 0} {H : X → Type 0} (shown : Shows X H) (devices : List DeviceData) (job : Asked) (seen : List ℕ → Option (List ℕ)) (from to limit : ℕ) (mem : Bool) (w : Sweeper X H) : Type 0 where
+  pub contents : List (List ℕ)
+  pub accepted : TakesAll (MayBe seen) devices job contents
+  pub scenario : Scenario
+  pub arrival : List Listed
+  pub done : Does devices job contents (swept scenario (asked arrival from to limit mem))
+  pub ready : IsReadyToSweep shown scenario arrival w
 
 -- the board stands for the start of the run of the sample of a seed
 pub record IsSampleReady {X : Type 0} {H : X → Type 0} (shown : Shows X H) (seed : ℕ) (b : Board X H) : Type 0 where

@@ -19,17 +19,20 @@ use Rattle.snapshot.specs.Saved.{spelling as spelling_of_state}
 use Rattle.board_run.specs.Text.{trace_text}
 use Rattle.board_run.specs.Counts.{summary_text}
 use Rattle.board_run.specs.MemoryText.{memory_text}
+use Rattle.run_cover.specs.Text.{cover_text}
+use Rattle.sweep_core.specs.Swept.{Asking, makes_difference, sweep_text}
+use Rattle.sweep_core.specs.Sweeping.{asked}
 use Rattle.debug_core.specs.declared.command.Command.{Command}
 use Rattle.debug_core.specs.Answers.{text as answers_text}
 use Rattle.debug_core.specs.Reading.{commands_or_fault}
 use Rattle.trace_audit.specs.declared.verdict.Verdict as trace
 use Rattle.trace_audit.specs.declared.verdict.Verdict.TheVariants.{Yes, No}
 use Rattle.trace_audit.specs.Verdicts as trace_audit
-use Rattle.command_line.specs.CommandLine.{Asked, build, run, go, list, sample, migrate, audit, save, resume, debug, help, is_accepted}
+use Rattle.command_line.specs.CommandLine.{Asked, build, run, go, list, sample, migrate, audit, save, resume, debug, cover, sweep, help, is_accepted}
 use Rattle.command_line.specs.declared.job.CommandName.{CommandName}
 use Rattle.command_line.specs.declared.job.Detail.{Detail}
 use Rattle.help_text.specs.Help.{help_text}
-use Rattle.trace_cli.specs.Contents.{Why, picture_of, scenario_of, sample_scenario}
+use Rattle.trace_cli.specs.Contents.{Why, picture_of, script_of, scenario_of, sample_scenario}
 use Rattle.trace_cli.specs.Words.{job_in}
 use Rattle.trace_cli.specs.Sources.{File, Are, Reaches, TakesAll, IsBuilt, first_of, script_in, scenario_in, state_by}
 
@@ -44,7 +47,7 @@ abbrev pub line_alone : ℕ → List ℕ → Verdict
 line_alone status line = record { status = status; text = line; put = None }
 
 abbrev pub usage_line : List ℕ
-usage_line = codes "usage: hubris build, run, go, list, sample, migrate, audit, save, resume, debug or help\n"
+usage_line = codes "usage: hubris build, run, go, list, sample, migrate, audit, save, resume, debug, cover, sweep or help\n"
 
 -- `refused <name> <cause> <place>`
 unfoldable pub refused_front : List ℕ → ℕ → List ℕ
@@ -158,6 +161,20 @@ audited (No line) = line_alone 7 (no_line line)
 abbrev pub debugged : Scenario → List Command → Verdict
 debugged x commands = line_alone 0 (answers_text x commands)
 
+-- how often a run executed each instruction
+abbrev pub covered : ℕ → Scenario → Verdict
+covered n x =
+    let r = run_of All n x in
+    line_alone (status_of r.end) (cover_text x.setup r)
+
+-- what is asked of a sweep by the events of an arrival with these bytes
+abbrev pub asking : List ℕ → ℕ → ℕ → ℕ → Bool → Asking
+asking arrival from to limit mem = asked (script_of arrival).events from to limit mem
+
+-- runs were made for each arrival time
+abbrev pub swept : Scenario → Asking → Verdict
+swept x a = line_alone (if makes_difference x a then 8 else 0) (sweep_text x a)
+
 -- what the commands are, or what one of them takes and answers
 abbrev pub helped : Option CommandName → Verdict
 helped about = line_alone 0 (help_text about)
@@ -176,6 +193,8 @@ Does devices (save image script out steps) contents v = v ≡ saved out steps (s
 Does devices (resume image script state steps detail) contents v = v ≡ resumed steps detail (scenario_in devices contents) (state_by devices contents)
 Does devices (debug image script name) contents v =
     (commands : List Command) × (commands_or_fault (slice_index_or contents 2 []) ≡ Ok commands) × (v ≡ debugged (scenario_in devices contents) commands)
+Does devices (cover image script steps) contents v = v ≡ covered steps (scenario_in devices contents)
+Does devices (sweep image script arrival from to steps memory) contents v = v ≡ swept (scenario_in devices contents) (asking (slice_index_or contents 2 []) from to steps memory)
 Does devices (help about) contents v = v ≡ helped about
 
 -- ## the verdict on words and contents, where they are seen as far as they count and a run has these devices

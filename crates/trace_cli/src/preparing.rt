@@ -1,13 +1,15 @@
 //! From the files of a job to the board of its run.
-ghost use Rattle.std.specs.Prelude.{ℕ, List, map, IfOk, IfErr};
+ghost use Rattle.std.specs.Prelude.{ℕ, map, IfOk, IfErr};
 ghost use Rattle.kernel_abi.specs.Devices.{AreFresh};
 ghost use Rattle.image_format.specs.Images.{picture};
+ghost use Rattle.board_model.specs.Script.{Scenario};
 ghost use Rattle.run_script.specs.Events.{script_data};
-ghost use Rattle.command_line.specs.CommandLine.{run as run_job, go as go_job, save as save_job};
+ghost use Rattle.command_line.specs.CommandLine.{Asked, go as go_job};
 ghost use Rattle.command_line.specs.declared.job.Detail.{Detail};
 ghost use Rattle.trace_cli.specs.Sources.{image_file, script_file, OnlyReads};
 ghost use Rattle.trace_cli.specs.FileFaults.{IsNamedFaultOf};
-ghost use Rattle.trace_cli.specs.Ready.{IsImageFile, IsScriptFile, IsSet, IsReady, IsSaveReady, IsNamedFaultIn};
+ghost use Rattle.trace_cli.specs.Verdict.{Verdict, ran};
+ghost use Rattle.trace_cli.specs.Ready.{IsImageFile, IsScriptFile, IsSet, RunsImage, IsReady, IsNamedFaultIn};
 
 use crate::building::built_image;
 use crate::file_faults::{NamedFault, fault_named};
@@ -74,8 +76,8 @@ fn set_up<F: Files>(
     }
 }
 
-/// The board at the start of the run of the image and the script under these names, with devices. It is the run of `run`, and that
-/// of `save`.
+/// The board at the start of the run of the image and the script under these names, with devices. It is the run of each job that
+/// takes these two files.
 pub fn prepare_run<F: Files>(
     alloc: Global,
     files: &mut F,
@@ -84,10 +86,8 @@ pub fn prepare_run<F: Files>(
     devices: Vec<Box<dyn Device>>,
 ) -> Result<Board, NamedFault>
     requires fresh { AreFresh (map shown devices.items) }
-    ensures ready { (n : ℕ) (detail : Detail) → IfOk result (IsReady shown (map shown devices.items) (run_job image.now script.now n detail) (F.seen files.old).contents n detail) }
-    ensures named_fault { (n : ℕ) (detail : Detail) → IfErr result (IsNamedFaultIn (map shown devices.items) (run_job image.now script.now n detail) (F.seen files.old) (F.seen files.new)) }
-    ensures ready_to_save { (out : List ℕ) (n : ℕ) → IfOk result (IsSaveReady shown (map shown devices.items) (save_job image.now script.now out n) (F.seen files.old).contents out n) }
-    ensures save_fault { (out : List ℕ) (n : ℕ) → IfErr result (IsNamedFaultIn (map shown devices.items) (save_job image.now script.now out n) (F.seen files.old) (F.seen files.new)) }
+    ensures ready { (job : Asked) (verdict : Scenario → Verdict) → RunsImage (map shown devices.items) job image.now script.now verdict → IfOk result (IsReady shown (map shown devices.items) job (F.seen files.old).contents verdict) }
+    ensures named_fault { (job : Asked) (verdict : Scenario → Verdict) → RunsImage (map shown devices.items) job image.now script.now verdict → IfErr result (IsNamedFaultIn (map shown devices.items) job (F.seen files.old) (F.seen files.new)) }
     ensures only_reads { OnlyReads (F.seen files.old) (F.seen files.new) }
 {
     match read_image(alloc, files, image) {
@@ -105,7 +105,7 @@ pub fn prepare_go<F: Files>(
     devices: Vec<Box<dyn Device>>,
 ) -> Result<Board, NamedFault>
     requires fresh { AreFresh (map shown devices.items) }
-    ensures ready { (n : ℕ) (detail : Detail) → IfOk result (IsReady shown (map shown devices.items) (go_job app.now script.now n detail) (F.seen files.old).contents n detail) }
+    ensures ready { (n : ℕ) (detail : Detail) → IfOk result (IsReady shown (map shown devices.items) (go_job app.now script.now n detail) (F.seen files.old).contents (ran n detail)) }
     ensures named_fault { (n : ℕ) (detail : Detail) → IfErr result (IsNamedFaultIn (map shown devices.items) (go_job app.now script.now n detail) (F.seen files.old) (F.seen files.new)) }
     ensures only_reads { OnlyReads (F.seen files.old) (F.seen files.new) }
 {

@@ -6,10 +6,11 @@ ghost use Rattle.kernel_abi.specs.Devices.{AreFresh};
 ghost use Rattle.command_line.specs.CommandLine.{Asked, is_accepted};
 ghost use Rattle.trace_cli.specs.Words.{texts_of, job_in, out_of};
 ghost use Rattle.trace_cli.specs.Verdict.{Verdict, IsVerdict, usage_line};
-ghost use Rattle.trace_cli.specs.Answer.{Answers, Answered, IsComplete, TellsEach, GoesOn, IsDone, HasDone, HasRefused, HasUnread, HasFront};
+ghost use Rattle.trace_cli.specs.Answer.{Answers, AnswersEach, IsComplete, TellsEach, GoesOn, IsDone, HasDone, HasRefused, HasUnread, HasFront};
 
 use crate::auditing::audit_file;
 use crate::building::build_file;
+use crate::covering::cover_files;
 use crate::debugging::debug_files;
 use crate::helping::help;
 use crate::listing::list_file;
@@ -18,6 +19,7 @@ use crate::resuming::resume_files;
 use crate::running::{go_files, run_files};
 use crate::sampling::run_sample;
 use crate::saving::save_file;
+use crate::sweeping::sweep_files;
 use crate::telling::tell_usage;
 use command_line::{Job, Refusal, read_words};
 use devices::Device;
@@ -87,6 +89,26 @@ fn answer<F: Files, S: Sink>(
                 commands,
             },
         ) => debug_files(alloc, image, script, commands, files, out, devices),
+        Ok(
+            Job::Cover {
+                image,
+                script,
+                steps,
+            },
+        ) => cover_files(alloc, image, script, steps, files, out, devices),
+        Ok(
+            Job::Sweep {
+                image,
+                script,
+                arrival,
+                from,
+                to,
+                steps,
+                memory,
+            },
+        ) => sweep_files(
+            alloc, image, script, arrival, from, to, steps, memory, files, out, devices,
+        ),
         Ok(Job::Help { about }) => help(about, out),
         Err(Refusal::NotAccepted) => tell_usage(out),
         Err(Refusal::Memory) => 5,
@@ -95,7 +117,7 @@ fn answer<F: Files, S: Sink>(
 
 /// All that the program does. The words, the program's name first, and the files are handed in, and
 /// the lines go to the sink, one push each; the answer is the program's exit status. The devices are those of a run of `run`,
-/// `go`, `save`, `resume` or `debug`, as they are handed in: at most eight, to which nothing has come as yet, each at a place of its own.
+/// `go`, `save`, `resume`, `debug`, `cover` or `sweep`, as they are handed in: at most eight, to which nothing has come as yet, each at a place of its own.
 /// `sample` runs without a device.
 ///
 /// - 0: the trace of the run (docs/FORMATS.md, Trace), with `--all` each of its instructions, with `--mem` its last
@@ -103,8 +125,9 @@ fn answer<F: Files, S: Sink>(
 ///   or the last state of the run (docs/FORMATS.md, Saved state) is under OUT, and its line was written; or the sample was run, and its
 ///   end and the numbers of its notes were written; or the trace holds together (docs/FORMATS.md, Audit), and `yes <calls> <left>`
 ///   was written: so many calls were offered in it, and so many of them no line closes; or the commands were carried out
-///   (docs/FORMATS.md, Commands), and the answer to each was written; or what the commands are, or what one of them takes and answers,
-///   was written.
+///   (docs/FORMATS.md, Commands), and the answer to each was written; or how often the run executed each instruction was written
+///   (docs/FORMATS.md, Cover); or how the runs end into which the events of an arrival come was written (docs/FORMATS.md, Sweep), and
+///   no arrival time makes a difference; or what the commands are, or what one of them takes and answers, was written.
 /// - 1: a file is refused, and `refused <name> <cause> <place>` was written.
 /// - 2: the words are not accepted (docs/FORMATS.md, Command line), and the usage line was written.
 /// - 3: a file cannot be read, and `cannot read <name>` was written.
@@ -113,6 +136,7 @@ fn answer<F: Files, S: Sink>(
 /// - 5: memory is short, and nothing was written or put.
 /// - 6: as 0, and the run ended because the supervisor faulted; a run that is only saved, or gone over by commands, has 0 then too.
 /// - 7: a trace does not hold together, and `no <line>` was written: its first line, from 1 on, that does not follow.
+/// - 8: as 0, of a sweep in which some arrival time makes a difference.
 pub fn hubris_main_with<F: Files, S: Sink>(
     alloc: Global,
     words: &[String],
@@ -124,11 +148,11 @@ pub fn hubris_main_with<F: Files, S: Sink>(
 
     // Where the words and the seen contents give a verdict (of accepted words and files: the trace of
     // their run, the listing, the image that is built or migrated, the state that is saved, the trace from a saved state, the two lines of
-    // a sample, what an audit found, the answers to commands, or what `help` says), its file was put, its whole text was pushed under its status; or the sink's count of faults rose, the status is 4, and a front of the text was
+    // a sample, what an audit found, the answers to commands, how often each instruction was executed, the lines of a sweep, or what `help` says), its file was put, its whole text was pushed under its status; or the sink's count of faults rose, the status is 4, and a front of the text was
     // pushed; or the count of failed puts rose, the status is 4, and nothing was pushed; or memory is
     // short, the status is 5, and nothing was pushed or put; or the count of failed reads rose, and the
     // same holds of the line of a file that cannot be read.
-    ensures seen { (v : Verdict) → IsVerdict (map shown devices.items) (texts_of words.now) (F.seen files.old).contents v → Answered (map shown devices.items) (texts_of words.now) (F.seen files.old) (F.seen files.new) (S.seen out.old) (S.seen out.new) v result }
+    ensures seen { AnswersEach (map shown devices.items) (texts_of words.now) (F.seen files.old) (F.seen files.new) (S.seen out.old) (S.seen out.new) result }
     ensures complete { ¬ Rose (F.seen files.old).read_faults (F.seen files.new).read_faults → ¬ Rose (F.seen files.old).put_faults (F.seen files.new).put_faults → ¬ Rose (S.seen out.old).faults (S.seen out.new).faults →
         (v : Verdict) → IsVerdict (map shown devices.items) (texts_of words.now) (F.seen files.old).contents v → IsComplete (F.seen files.old) (F.seen files.new) (S.seen out.old) (S.seen out.new) v result }
 
@@ -143,7 +167,7 @@ pub fn hubris_main_with<F: Files, S: Sink>(
     ensures unread { result ≡ 3 → HasUnread (map shown devices.items) (texts_of words.now) (F.seen files.old) (F.seen files.new) (S.seen out.old) (S.seen out.new) }
     ensures cut { result ≡ 4 → HasFront (map shown devices.items) (texts_of words.now) (F.seen files.old) (F.seen files.new) (S.seen out.old) (S.seen out.new) }
     ensures short { result ≡ 5 → ((S.seen out.new).written ≡ (S.seen out.old).written) × ((S.seen out.new).faults ≡ (S.seen out.old).faults) × ((F.seen files.new).contents ≡ (F.seen files.old).contents) }
-    ensures known { result ≤ 7 }
+    ensures known { result ≤ 8 }
 
     // Only the file under OUT is changed, and only under the statuses 0 and 4.
     ensures others { (name : List ℕ) → out_of (job_in (texts_of words.now)) ≢ Some name → (F.seen files.new).contents name ≡ (F.seen files.old).contents name }
@@ -163,11 +187,11 @@ pub fn hubris_main<F: Files, S: Sink>(
 ) -> u8
     // Where the words and the seen contents give a verdict (of accepted words and files: the trace of
     // their run, the listing, the image that is built or migrated, the state that is saved, the trace from a saved state, the two lines of
-    // a sample, what an audit found, the answers to commands, or what `help` says), its file was put, its whole text was pushed under its status; or the sink's count of faults rose, the status is 4, and a front of the text was
+    // a sample, what an audit found, the answers to commands, how often each instruction was executed, the lines of a sweep, or what `help` says), its file was put, its whole text was pushed under its status; or the sink's count of faults rose, the status is 4, and a front of the text was
     // pushed; or the count of failed puts rose, the status is 4, and nothing was pushed; or memory is
     // short, the status is 5, and nothing was pushed or put; or the count of failed reads rose, and the
     // same holds of the line of a file that cannot be read.
-    ensures seen { (v : Verdict) → IsVerdict [] (texts_of words.now) (F.seen files.old).contents v → Answered [] (texts_of words.now) (F.seen files.old) (F.seen files.new) (S.seen out.old) (S.seen out.new) v result }
+    ensures seen { AnswersEach [] (texts_of words.now) (F.seen files.old) (F.seen files.new) (S.seen out.old) (S.seen out.new) result }
     ensures complete { ¬ Rose (F.seen files.old).read_faults (F.seen files.new).read_faults → ¬ Rose (F.seen files.old).put_faults (F.seen files.new).put_faults → ¬ Rose (S.seen out.old).faults (S.seen out.new).faults →
         (v : Verdict) → IsVerdict [] (texts_of words.now) (F.seen files.old).contents v → IsComplete (F.seen files.old) (F.seen files.new) (S.seen out.old) (S.seen out.new) v result }
 
@@ -182,7 +206,7 @@ pub fn hubris_main<F: Files, S: Sink>(
     ensures unread { result ≡ 3 → HasUnread [] (texts_of words.now) (F.seen files.old) (F.seen files.new) (S.seen out.old) (S.seen out.new) }
     ensures cut { result ≡ 4 → HasFront [] (texts_of words.now) (F.seen files.old) (F.seen files.new) (S.seen out.old) (S.seen out.new) }
     ensures short { result ≡ 5 → ((S.seen out.new).written ≡ (S.seen out.old).written) × ((S.seen out.new).faults ≡ (S.seen out.old).faults) × ((F.seen files.new).contents ≡ (F.seen files.old).contents) }
-    ensures known { result ≤ 7 }
+    ensures known { result ≤ 8 }
 
     // Only the file under OUT is changed, and only under the statuses 0 and 4.
     ensures others { (name : List ℕ) → out_of (job_in (texts_of words.now)) ≢ Some name → (F.seen files.new).contents name ≡ (F.seen files.old).contents name }

@@ -10,7 +10,7 @@ ghost use Rattle.audit_runs.specs.Last.{IsGoodText};
 ghost use Rattle.command_line.specs.CommandLine.{Asked, run as run_job, go as go_job};
 ghost use Rattle.outside_io.specs.Seen.{FilesSeen};
 ghost use Rattle.trace_cli.specs.Sources.{OnlyReads};
-ghost use Rattle.trace_cli.specs.Verdict.{level_of, resumed, run_from};
+ghost use Rattle.trace_cli.specs.Verdict.{level_of, ran, resumed, run_from};
 ghost use Rattle.trace_cli.specs.Ready.{IsReady, IsNamedFaultIn};
 ghost use Rattle.trace_cli.specs.Pushed.{Pushed};
 ghost use Rattle.trace_cli.specs.Answer.{AnswersJob, IsOfRun};
@@ -85,7 +85,7 @@ fn run_prepared<S: Sink>(
     requires few { steps ≤ 1000000000 }
     requires ready { IfOk prepared (λ b. Stood (boxed shown) b × (turns_of b ≡ 0)) }
     ensures { (devices : List DeviceData) (job : Asked) (before after : FilesSeen) → after.contents ≡ before.contents
-        → IfOk prepared (IsReady (boxed shown) devices job before.contents steps detail) → IfErr prepared (IsNamedFaultIn devices job before after)
+        → IfOk prepared (IsReady (boxed shown) devices job before.contents (ran steps detail)) → IfErr prepared (IsNamedFaultIn devices job before after)
         → AnswersJob devices job before after (S.seen out.old) (S.seen out.new) result }
 {
     match prepared {

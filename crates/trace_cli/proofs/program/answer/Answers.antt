@@ -1,4 +1,5 @@
-use Rattle.std.proofs.Common.{refl}
+use Rattle.std.proofs.Common.{◌≤◌, refl, max, arith}
+use Rattle.std.proofs.Math.Nat.{le-max_left, le-max_right}
 use Rattle.trace_cli.specs.Words.{texts_of}
 use Rattle.trace_cli.proofs.Deciding.{no_job_of}
 use Rattle.trace_cli.proofs.EachState.{each_of_words}
@@ -65,6 +66,26 @@ returns-in-Ok-Debug-clause-each g c =
     let job = rw c.in-Ok-Debug.field-0-is at c.in-Ok-Debug.ensures.job in
     each_of_words _ (texts_of c.args.words.now) _ _ _ _ _ _ c.in-Ok-Debug.ensures.accepted job tt
 
+pub returns-in-Ok-Cover-clause-answer : goal.returns-in-Ok-Cover-clause-answer
+returns-in-Ok-Cover-clause-answer g c =
+    let job = rw c.in-Ok-Cover.field-0-is at c.in-Ok-Cover.ensures.job in
+    by_job _ _ _ _ _ _ _ c.in-Ok-Cover.ensures.accepted job c.cover_files.ensures.answer
+
+pub returns-in-Ok-Cover-clause-each : goal.returns-in-Ok-Cover-clause-each
+returns-in-Ok-Cover-clause-each g c =
+    let job = rw c.in-Ok-Cover.field-0-is at c.in-Ok-Cover.ensures.job in
+    each_of_words _ (texts_of c.args.words.now) _ _ _ _ _ _ c.in-Ok-Cover.ensures.accepted job tt
+
+pub returns-in-Ok-Sweep-clause-answer : goal.returns-in-Ok-Sweep-clause-answer
+returns-in-Ok-Sweep-clause-answer g c =
+    let job = rw c.in-Ok-Sweep.field-0-is at c.in-Ok-Sweep.ensures.job in
+    by_job _ _ _ _ _ _ _ c.in-Ok-Sweep.ensures.accepted job c.sweep_files.ensures.answer
+
+pub returns-in-Ok-Sweep-clause-each : goal.returns-in-Ok-Sweep-clause-each
+returns-in-Ok-Sweep-clause-each g c =
+    let job = rw c.in-Ok-Sweep.field-0-is at c.in-Ok-Sweep.ensures.job in
+    each_of_words _ (texts_of c.args.words.now) _ _ _ _ _ _ c.in-Ok-Sweep.ensures.accepted job tt
+
 pub returns-in-Ok-Help-clause-answer : goal.returns-in-Ok-Help-clause-answer
 returns-in-Ok-Help-clause-answer g c =
     let job = rw c.in-Ok-Help.field-0-is at c.in-Ok-Help.ensures.job in
@@ -123,6 +144,17 @@ save_file-requires g c = record { fresh = c.requires.fresh; few = rw c.in-Ok-Sav
 
 pub resume_files-requires : goal.resume_files-requires
 resume_files-requires g c = record { fresh = c.requires.fresh; few = rw c.in-Ok-Resume.field-0-is at c.in-Ok-Resume.ensures.few }
+
+pub cover_files-requires : goal.cover_files-requires
+cover_files-requires g c = record { fresh = c.requires.fresh; few = rw c.in-Ok-Cover.field-0-is at c.in-Ok-Cover.ensures.few }
+
+pub sweep_files-requires : goal.sweep_files-requires
+sweep_files-requires g c =
+    let most : max (max c.in-Ok-Sweep.from c.in-Ok-Sweep.to) c.in-Ok-Sweep.steps ≤ 1000000000 = rw c.in-Ok-Sweep.field-0-is at c.in-Ok-Sweep.ensures.few in
+    let range = le-max_left (max c.in-Ok-Sweep.from c.in-Ok-Sweep.to) c.in-Ok-Sweep.steps in
+    let to = le-max_right c.in-Ok-Sweep.from c.in-Ok-Sweep.to in
+    let steps = le-max_right (max c.in-Ok-Sweep.from c.in-Ok-Sweep.to) c.in-Ok-Sweep.steps in
+    record { fresh = c.requires.fresh; range = omega (arith, most, range, to); few = omega (arith, most, steps) }
 
 pub run_sample-requires : goal.run_sample-requires
 run_sample-requires g c = record { few = rw c.in-Ok-Sample.field-0-is at c.in-Ok-Sample.ensures.few }

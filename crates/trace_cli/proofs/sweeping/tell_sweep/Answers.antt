@@ -1,0 +1,7 @@
+use Rattle.std.proofs.Common.{refl, ap, sym, ◌∙◌, cond}
+use Rattle.sweep_core.specs.Sweeping.{asked}
+use Rattle.trace_cli.specs.Pushed.{whole, cut}
+use Rattle.trace_cli.proofs.sweeping.tell_sweep.Goals as goal
+
+pub returns-in-Err : goal.returns-in-Err
+returns-in-Err g c = λ x arrival ready. cut refl c.in-Err.ensures.cause.failed (c.in-Err.ensures.text x arrival ready)
