@@ -10,7 +10,7 @@ export HUBRIS=$program
 made=$(mktemp -d)
 trap 'rm -r "$made"' EXIT
 same() { cmp -s "$1" "$2" || { echo "$3: differs from $2"; exit 1; }; echo "$3: as expected"; }
-for example in one-task client-server blinker driver restart timers watch uart debugger from-c; do
+for example in one-task client-server blinker driver restart timers watch uart debugger lost-byte from-c; do
     "$program" build "examples/$example/app.toml" "$made/$example.img"
     "$program" list "$made/$example.img" > "$made/listing.txt"
     same "$made/listing.txt" "examples/$example/listing.txt" "$example, listing"
@@ -37,7 +37,7 @@ same "$made/mem.txt" "$light/expected-mem.txt" "blinker, go with its memory"
 grep -v -e ' insn ' -e ' low ' -e ' high ' -e ' idle$' "$made/all.txt" > "$made/calls.txt"
 same "$made/calls.txt" "$light/expected.txt" "blinker, go without what --all tells besides"
 # the folder, its script and how many turns
-for run in "driver script.txt 500" "restart empty.txt 300" "timers script.txt 500" "watch script.txt 500" "uart script.txt 500" "debugger script.txt 450" "from-c empty.txt 1000"; do
+for run in "driver script.txt 500" "restart empty.txt 300" "timers script.txt 500" "watch script.txt 500" "uart script.txt 500" "debugger script.txt 450" "lost-byte script.txt 500" "from-c empty.txt 1000"; do
     read -r example script steps <<< "$run"
     at=examples/$example
     "$program" go "$at/app.toml" "$at/$script" --steps "$steps" > "$made/go.txt"
@@ -48,8 +48,36 @@ done
 at=examples/debugger
 "$program" debug "$made/debugger.img" "$at/script.txt" "$at/commands.txt" > "$made/answers.txt"
 same "$made/answers.txt" "$at/answers.txt" "debugger, back from its fault"
+# every arrival time of a further byte, at once and in two ranges that are put together; and of the mended driver
+at=examples/lost-byte
+"$program" build "$at/mended.toml" "$made/mended.img"
+"$program" go "$at/mended.toml" "$at/script.txt" --steps 500 > "$made/go.txt"
+same "$made/go.txt" "$at/mended-expected.txt" "lost-byte, go of the mended driver"
+sweep() { "$program" sweep "$made/$1.img" "$at/script.txt" "$at/arrival.txt" "$2" "$3" --steps 500 > "$made/$4"; }
+sweep lost-byte 0 290 sweep.txt && status=0 || status=$?
+[ "$status" = 8 ] || { echo "lost-byte, sweep: status $status"; exit 1; }
+same "$made/sweep.txt" "$at/sweep.txt" "lost-byte, sweep"
+sweep mended 0 290 sweep.txt
+same "$made/sweep.txt" "$at/mended-sweep.txt" "lost-byte, sweep of the mended driver"
+sweep lost-byte 0 120 range.0 || [ $? = 8 ]
+sweep lost-byte 120 290 range.1 || [ $? = 8 ]
+{ grep -h without "$made/range.0"; cat "$made"/range.? | grep -v without | sort -n | awk '
+    { words = $0; sub(/^[^ ]+ [^ ]+ /, "", words) }
+    words != last { if (NR > 1) print first, end, last; first = $1; last = words }
+    { end = $2 }
+    END { print first, end, last }'; } > "$made/sweep.txt"
+same "$made/sweep.txt" "$at/sweep.txt" "lost-byte, a sweep in two ranges"
+tools/lay "$at/script.txt" "$at/arrival.txt" 114 > "$made/laid.txt"
+"$program" run "$made/lost-byte.img" "$made/laid.txt" --steps 500 > "$made/go.txt"
+[ "$(grep -c ' out ' "$made/go.txt")" = 1 ] || { echo "lost-byte, a byte in turn 114 is not lost"; exit 1; }
+"$program" cover "$made/restart.img" examples/restart/empty.txt --steps 300 > "$made/cover.txt"
+same "$made/cover.txt" examples/restart/cover.txt "restart, cover"
+# what it counts is what --all tells
+"$program" run "$made/restart.img" examples/restart/empty.txt --steps 300 --all | awk '$2 == "insn" { n[$4]++ } END { for (a in n) print a, n[a] }' | sort > "$made/counts.txt"
+awk '$1 ~ /^[0-9]/ { print $2, $1 }' "$made/cover.txt" | sort > "$made/covered.txt"
+same "$made/covered.txt" "$made/counts.txt" "restart, cover against --all"
 # each run holds together, its memory behind it too; a borrow of a call that nobody took does not
-for example in one-task client-server blinker driver restart timers watch uart debugger from-c; do
+for example in one-task client-server blinker driver restart timers watch uart debugger lost-byte from-c; do
     for text in expected expected-mem; do
         "$program" audit "examples/$example/$text.txt" > "$made/audit.txt"
         grep -q '^yes ' "$made/audit.txt" || { echo "$example, audit of $text: $(cat "$made/audit.txt")"; exit 1; }
@@ -110,6 +138,10 @@ done <<'END'
 2|cover $at/app.toml $at/expected.txt --all|usage: cover APP TRACE
 1|cover $at/app.toml $at/expected.txt|cover: $at/expected.txt has no instructions: it is to be of a run with --all
 2|labels|usage: labels APP
+2|lay $at/empty.txt|usage: lay SCRIPT ARRIVAL TURN
+2|lay examples/lost-byte/script.txt examples/lost-byte/arrival.txt x|usage: lay SCRIPT ARRIVAL TURN
+1|lay examples/lost-byte/script.txt examples/blinker/script.txt 7|lay: examples/blinker/script.txt: line 2 has an every, which no arrival may have
+1|lay $made/hello.txt $at/empty.txt 7|lay: $made/hello.txt: line 1 is no line of a script
 1|labels $at/empty.txt|labels: $at/empty.txt is no description: no line is [[task]]
 2|compare $at/expected.txt|usage: compare TRACE TRACE
 1|compare $at/expected.txt $at/empty.txt|compare: $at/empty.txt is no trace: it is empty

@@ -9,6 +9,8 @@ mod board;
 #[cfg(test)]
 mod choosing;
 #[cfg(test)]
+mod covers;
+#[cfg(test)]
 mod debugging;
 #[cfg(test)]
 mod eight_devices;
@@ -18,6 +20,8 @@ mod guide;
 mod memory;
 #[cfg(test)]
 mod saved_states;
+#[cfg(test)]
+mod sweeps;
 #[cfg(test)]
 mod tasks;
 #[cfg(test)]

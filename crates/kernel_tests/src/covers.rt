@@ -1,0 +1,79 @@
+//! Covers (docs/FORMATS.md, Cover): the text of short runs of one task.
+ghost use Rattle.std.specs.Prelude.{◌≤◌, length};
+
+use board_core::{Board, End};
+use image_format::Image;
+use outside_io::MemSink;
+use run_cover::{Cover, write_cover};
+use run_script::Script;
+use std::alloc::{AllocError, Global};
+use std::process::Abort;
+use std::test::Fail;
+
+// An image of one task with 256 bytes of flash, without these.
+const HEAD: [u8; 44] = [
+    0x48, 0x42, 0x49, 0x31, 1, 0, 1, 0, 0, 1, 0, 0, 0, 0, 0, 0, 1, 0, 0, 0, 0, 1, 1, 0, 1, 0, 0, 8,
+    0, 0, 0, 0x20, 0, 0, 0, 8, 0, 1, 0, 0, 5, 0, 0, 0,
+];
+
+/// The image of one task, whose flash begins with this code.
+pub(crate) fn image_of(rt: &impl Abort, alloc: Global, code: &[u8]) -> Image
+    requires { length code.now ≤ 256 }
+{
+    let mut bytes = [0; 300];
+    bytes[..44].copy_from_slice(&HEAD);
+    bytes[44..44 + code.len()].copy_from_slice(code);
+    Image::read(alloc, &bytes).expect(rt, "the image is sound")
+}
+
+/// How a run of at most so many turns ends in which nothing happens from outside, and its cover.
+fn cover_of(
+    rt: &impl Abort,
+    alloc: Global,
+    code: &[u8],
+    limit: u32,
+) -> Result<(End, MemSink), AllocError>
+    requires code { length code.now ≤ 256 }
+    requires limit { limit ≤ 100 }
+{
+    let image = image_of(rt, alloc, code);
+    let script = Script::read(alloc, b"").expect(rt, "the script is taken");
+    let mut board = Board::open(alloc, &image, &script, Vec::new(alloc))?;
+    let mut cover = Cover::open(alloc)?;
+    let mut out = MemSink::open(alloc, 4096, &[])?;
+    let end = write_cover(&mut board, limit, &mut cover, &mut out).expect(rt, "there is room");
+    Ok((end, out))
+}
+
+// `movs r0, #1`, and a branch to itself.
+#[test]
+fn how_often_two_instructions_are_executed(rt: HostRuntime) -> Result<(), Fail> {
+    let code = [0x01, 0x20, 0xfe, 0xe7];
+    let (end, out) = cover_of(&rt, rt.alloc(), &code, 3)?;
+    let expected = b"code 08000000 256\n1 08000000 movs r0, #1\n2 08000002 b 0x08000002\n";
+    assert!(rt; end == End::Bound);
+    assert!(rt; out.text() == expected.as_slice());
+    Ok(())
+}
+
+// An instruction of two halfwords, `movs r0, #1` and a branch to itself; behind them nothing is executed: a halfword of zeros,
+// `movs r0, #5`, one that is no instruction, and one of two halfwords.
+#[test]
+fn what_is_not_executed(rt: HostRuntime) -> Result<(), Fail> {
+    let code = [
+        0xbf, 0xf3, 0x4f, 0x8f, 0x01, 0x20, 0xfe, 0xe7, 0, 0, 0x05, 0x20, 0, 0xde, 0, 0xf0, 1, 0xf8,
+    ];
+    let (end, out) = cover_of(&rt, rt.alloc(), &code, 5)?;
+    let expected = b"\
+code 08000000 256
+1 08000000 dsb #15
+1 08000004 movs r0, #1
+3 08000006 b 0x08000006
+- 0800000a movs r0, #5
+- 0800000c 
+- 0800000e bl 0x08000014
+";
+    assert!(rt; end == End::Bound);
+    assert!(rt; out.text() == expected.as_slice());
+    Ok(())
+}
