@@ -1,5 +1,5 @@
 -- What the type keeps of its table and its banks.
-use Rattle.std.specs.Prelude.{ℕ, ◌+◌, ◌<◌, ◌≤◌, ◌≡◌, ◌-◌, ◌++◌, replicate, List, [], ◌∷◌, length, All}
+use Rattle.std.specs.Prelude.{ℕ, ◌+◌, ◌<◌, ◌≤◌, ◌≡◌, ◌-◌, ◌⊎◌, ◌++◌, replicate, List, [], ◌∷◌, length, All}
 use Rattle.mem_banks.specs.declared.bank.Bank.{Bank}
 use Rattle.mem_banks.specs.Memory.{Memory, with_bytes}
 use Rattle.mem_banks.specs.Banks.{flash_of, ram_of, AreLaid}
@@ -25,6 +25,13 @@ pub record IsDone (table : List ℕ) (banks after : List Bank) (a : ℕ) (new : 
   pub kept : AreKept table after
   pub spans : spans_of after ≡ spans_of banks
   pub value : seen after ≡ with_bytes (seen banks) a new
+
+-- one more bank, of so many zero bytes; one for those between two addresses, if there are any
+abbrev pub IsAdded : List Bank → ℕ → ℕ → List Bank → Type 0
+IsAdded old base size banks = (b : Bank) × (banks ≡ old ++ b ∷ []) × (b.base ≡ base) × (b.bytes.items ≡ replicate size 0)
+
+abbrev pub IsFilled : List Bank → ℕ → ℕ → List Bank → Type 0
+IsFilled old from to banks = ((to ≤ from) × (banks ≡ old)) ⊎ ((from < to) × IsAdded old from (to - from) banks)
 
 -- banks from a base on go on those before, below the RAM or in it
 pub record IsNext (banks : List Bank) (base end : ℕ) : Type 0 where

@@ -1,43 +1,23 @@
 //! The banks of a memory that opens: one for each different region, and one for each stretch between.
 
-ghost use Rattle.std.specs.Prelude.{◌≡◌, ◌+◌, ◌<◌, ◌≤◌, ◌⊎◌, length, IfOk, replicate, All, Any, Contains, ℕ};
+ghost use Rattle.std.specs.Prelude.{◌≡◌, ◌+◌, ◌<◌, ◌≤◌, ◌⊎◌, length, IfOk, replicate, All, Contains, ℕ};
+ghost use Rattle.std.specs.List.Sorted.{IsPermutation, IsNonDecreasingBy};
 ghost use Rattle.mem_banks.specs.Memory.{AreRegions};
-ghost use Rattle.mem_banks.specs.Kept.{IsNext, IsLaidOut, AreZeros, spans_of};
+ghost use Rattle.mem_banks.specs.Kept.{IsNext, IsAdded, IsFilled, IsLaidOut, AreZeros, spans_of};
 ghost use Rattle.mem_banks.specs.Parts.{AreParts, AreSoFar};
 
 use crate::bank::{Bank, PAGES, page};
 use crate::{FLASH, RAM};
 use std::alloc::{AllocError, Global};
 
-/// The least base of a region from an address on, or the end.
-fn next_base(regions: &[(u32, u32)], at: u32, end: u32) -> u32
-    requires { at < end }
-    ensures range { (at ≤ result) × (result ≤ end) }
-    ensures found { result < end → Any (λ r. r.0 ≡ result) regions.now }
-    ensures least { All (λ r. at ≤ r.0 → result ≤ r.0) regions.now }
+/// The regions in the order of their bases, so that one pass over them lays their banks.
+fn in_order(alloc: Global, regions: &[(u32, u32)]) -> Result<Vec<(u32, u32)>, AllocError>
+    ensures same { IfOk result (λ v. IsPermutation regions.now v.items) }
+    ensures order { IfOk result (λ v. IsNonDecreasingBy (λ r. r.0) v.items) }
 {
-    let mut next = end;
-    for i in 0..regions.len() {
-        let (base, _) = regions[i];
-        if base >= at && base < next {
-            next = base;
-        }
-    }
-    next
-}
-
-/// The size of the first region with this base.
-fn size_at(regions: &[(u32, u32)], at: u32) -> u32
-    requires { Any (λ r. r.0 ≡ at) regions.now }
-    ensures { Contains regions.now (at, result) }
-{
-    for i in 0..regions.len() {
-        let (base, size) = regions[i];
-        if base == at {
-            return size;
-        }
-    }
-    0
+    let mut sorted = regions.to_vec(alloc)?;
+    sorted.sort_unstable_by_key(|region| region.0);
+    Ok(sorted)
 }
 
 /// A bank of so many zero bytes.
@@ -48,7 +28,26 @@ fn zeros(alloc: Global, base: u32, size: u32) -> Result<Bank, AllocError>
     Ok(Bank { base, bytes })
 }
 
-/// Adds the banks from a base to an end.
+/// Adds a bank of so many zero bytes.
+fn add(alloc: Global, banks: &mut Vec<Bank>, base: u32, size: u32) -> Result<(), AllocError>
+    ensures { IfOk result (λ _. IsAdded banks.old.items base size banks.new.items) }
+{
+    banks.push(zeros(alloc, base, size)?)?;
+    Ok(())
+}
+
+/// Adds a bank of the zero bytes between two addresses, unless there are none.
+fn fill(alloc: Global, banks: &mut Vec<Bank>, from: u32, to: u32) -> Result<(), AllocError>
+    ensures { IfOk result (λ _. IsFilled banks.old.items from to banks.new.items) }
+{
+    if from < to {
+        add(alloc, banks, from, to - from)?;
+    }
+    Ok(())
+}
+
+/// Adds the banks from a base to an end: one for each different region there, and one for each
+/// stretch between. The regions come in the order of their bases.
 fn lay(
     alloc: Global,
     banks: &mut Vec<Bank>,
@@ -57,6 +56,7 @@ fn lay(
     end: u32,
 ) -> Result<(), AllocError>
     requires order { base ≤ end }
+    requires sorted { IsNonDecreasingBy (λ r. r.0) regions.now }
     requires inside { (r : ℕ × ℕ) → Contains regions.now r → base ≤ r.0 → r.0 < end → (0 < r.1) × (r.0 + r.1 ≤ end) }
     requires outside { (r : ℕ × ℕ) → Contains regions.now r → r.0 < base → r.0 + r.1 ≤ base }
     requires apart { (r s : ℕ × ℕ) → Contains regions.now r → Contains regions.now s → (r ≡ s) ⊎ ((r.0 + r.1 ≤ s.0) ⊎ (s.0 + s.1 ≤ r.0)) }
@@ -66,17 +66,15 @@ fn lay(
     ensures parts { IfOk result (λ _. AreSoFar regions.now (spans_of banks.old.items) (spans_of banks.new.items) base end end) }
 {
     let mut at = base;
-    while at < end {
-        let next = next_base(regions, at, end);
-        let len = if next == at {
-            size_at(regions, at)
-        } else {
-            next - at
-        };
-        banks.push(zeros(alloc, at, len)?)?;
-        at += len;
+    for &(start, size) in regions {
+        // Others have their bank already, since regions that overlap are the same, or lie elsewhere.
+        if at <= start && start < end {
+            fill(alloc, banks, at, start)?;
+            add(alloc, banks, start, size)?;
+            at = start + size;
+        }
     }
-    Ok(())
+    fill(alloc, banks, at, end)
 }
 
 /// The banks of so much flash and RAM, all of zero bytes. Where there is no memory at all there is one
@@ -93,11 +91,29 @@ pub fn all_banks(
     ensures zeros { IfOk result (λ b. AreZeros b.items flash ram) }
     ensures parts { IfOk result (λ b. AreParts regions.now (spans_of b.items)) }
 {
+    let sorted = in_order(alloc, regions)?;
+    banks_over(alloc, flash, ram, &sorted)
+}
+
+/// As `all_banks`, where the regions come in the order of their bases.
+fn banks_over(
+    alloc: Global,
+    flash: u32,
+    ram: u32,
+    regions: &[(u32, u32)],
+) -> Result<Vec<Bank>, AllocError>
+    requires flash { flash ≤ 1048576 }
+    requires ram { ram ≤ 262144 }
+    requires sorted { IsNonDecreasingBy (λ r. r.0) regions.now }
+    requires regions { AreRegions flash ram regions.now }
+    ensures zeros { IfOk result (λ b. AreZeros b.items flash ram) }
+    ensures parts { IfOk result (λ b. AreParts regions.now (spans_of b.items)) }
+{
     let mut banks = Vec::new(alloc);
     lay(alloc, &mut banks, regions, FLASH, FLASH + flash)?;
     lay(alloc, &mut banks, regions, RAM, RAM + ram)?;
     if banks.is_empty() {
-        banks.push(zeros(alloc, RAM, 0)?)?;
+        add(alloc, &mut banks, RAM, 0)?;
     }
     Ok(banks)
 }

@@ -1,36 +1,10 @@
-use Rattle.std.proofs.Common.{◌≡◌, ◌<◌, ℕ, length, rules, ap, sym, ◌∙◌}
-use Rattle.std.proofs.lemmas.List.{length-replicate}
+use Rattle.std.proofs.lemmas.Result.{IfOk-weaker}
 use Rattle.mem_banks.specs.Kept.{spans_of}
-use Rattle.mem_banks.specs.Parts.{flash_size, ram_size}
-use Rattle.mem_banks.proofs.Opens.{two_laid, zeros_one}
-use Rattle.mem_banks.proofs.Parting.{all_parts, empty_parts, flash_length, ram_length}
+use Rattle.mem_banks.proofs.Laying.{regions_ordered, parts_ordered}
 use Rattle.mem_banks.proofs.opening.all_banks.Goals as goal
-use Rattle.mem_banks.proofs.opening.all_banks.Goals.{then-is_empty+in_ok-zeros+in_ok-push, else-is_empty}
 
-pub returns-clause-zeros : goal.returns-clause-zeros
-returns-clause-zeros c =
-    let e = c.new-banks.ensures.items in
-    let t = two_laid _ _ c.args.flash c.args.ram c.requires.flash (rw e at c.in_ok-lay.ensures.laid) c.in_ok-lay-2.ensures.laid in
-    elim c.if-is_empty.branch [
-      | then-is_empty+in_ok-zeros+in_ok-push w ↦
-          let n : length c.lay-2.new.banks.items ≡ 0 = search rules in
-          rw (w.banks-is, w.in_ok-push.ensures.items) (zeros_one c.lay-2.new.banks.items w.in_ok-zeros.field-0 c.args.flash c.args.ram t.0 t.1 t.2 n w.in_ok-zeros.ensures.0 w.in_ok-zeros.ensures.1)
-      | else-is_empty w ↦
-          let n : 0 < length c.lay-2.new.banks.items = search rules in
-          rw w.banks-is record { some = n; laid = t.0; flash = t.1; ram = t.2 }
-    ]
+pub banks_over-requires-clause-regions : goal.banks_over-requires-clause-regions
+banks_over-requires-clause-regions c = rw c.deref.ensures.value (regions_ordered c.args.regions.now c.in_ok-sorted.sorted.items c.in_ok-sorted.ensures.same c.args.flash c.args.ram c.requires.regions)
 
 pub returns-clause-parts : goal.returns-clause-parts
-returns-clause-parts c =
-    let e = c.new-banks.ensures.items in
-    let t = two_laid _ _ c.args.flash c.args.ram c.requires.flash (rw e at c.in_ok-lay.ensures.laid) c.in_ok-lay-2.ensures.laid in
-    let f : c.args.flash ≡ flash_size (spans_of c.lay-2.new.banks.items) = sym (flash_length c.lay-2.new.banks.items ∙ (ap length t.1 ∙ length-replicate {A = ℕ} c.args.flash 0)) in
-    let r : c.args.ram ≡ ram_size (spans_of c.lay-2.new.banks.items) = sym (ram_length c.lay-2.new.banks.items ∙ (ap length t.2 ∙ length-replicate {A = ℕ} c.args.ram 0)) in
-    let p = all_parts c.args.regions.now _ _ c.args.flash c.args.ram c.requires.regions (rw e at c.in_ok-lay.ensures.parts) c.in_ok-lay-2.ensures.parts f r c.requires.flash in
-    elim c.if-is_empty.branch [
-      | then-is_empty+in_ok-zeros+in_ok-push w ↦
-          let n : length c.lay-2.new.banks.items ≡ 0 = search rules in
-          let z : length w.in_ok-zeros.field-0.bytes.items ≡ 0 = ap length w.in_ok-zeros.ensures.1 in
-          rw (w.banks-is, w.in_ok-push.ensures.items) (empty_parts c.args.regions.now c.lay-2.new.banks.items w.in_ok-zeros.field-0 p n z)
-      | else-is_empty w ↦ rw w.banks-is p
-    ]
+returns-clause-parts c = IfOk-weaker c.banks_over.result _ _ (λ b p. parts_ordered c.args.regions.now c.in_ok-sorted.sorted.items c.in_ok-sorted.ensures.same (spans_of b.items) (rw c.deref.ensures.value at p)) c.banks_over.ensures.parts

@@ -1,68 +1,54 @@
-use Rattle.std.proofs.Common.{◌⊎◌, inl, inr, ◌++◌, ◌∷◌, [], Contains, ◌≡◌, ◌+◌, ◌≤◌, ◌<◌, ℕ, length, arith}
-use Rattle.std.proofs.lemmas.Bool.{cases_lt}
-use Rattle.std.proofs.lemmas.List.{length-replicate}
-use Rattle.mem_banks.specs.Kept.{spans_of}
-use Rattle.mem_banks.specs.Parts.{AreSoFar}
-use Rattle.mem_banks.proofs.Opens.{laid_more, laid_none}
-use Rattle.mem_banks.proofs.Parting.{so_far_none, region_laid, stretch_laid, spans_push}
+use Rattle.std.proofs.Common.{ℕ, ◌≡◌, ◌+◌, ◌<◌, arith, length, get_or}
+use Rattle.std.proofs.lemmas.List.{get_or_default}
+use Rattle.std.proofs.lemmas.List.Elements.{Contains-get_or}
+use Rattle.std.proofs.lemmas.Result.{IfOk-weaker}
+use Rattle.mem_banks.specs.Kept.{IsFilled}
+use Rattle.mem_banks.proofs.Laying.{AreLaidTo, laid_start, laid_region, laid_last, passed_more}
 use Rattle.mem_banks.proofs.opening.lay.Goals as goal
-use Rattle.mem_banks.proofs.opening.lay.Goals.{then-next-at, else-next-at}
+use Rattle.mem_banks.proofs.opening.lay.Goals.{then-at-start+then-start-end+in_ok-fill+in_ok-add, else-at-start, else-at-start-via-then-at-start+else-start-end, else-at-start-via-else-at-start}
 
-pub loop-at-init : goal.loop-at-init
-loop-at-init c = record { low = omega arith; high = c.requires.order; out = laid_none c.args.banks.now.items c.args.base c.args.end c.requires.place; parts = so_far_none c.args.regions.now _ c.args.base c.args.end }
+pub loop-start-init : goal.loop-start-init
+loop-start-init c = record {
+  laid = laid_start c.args.regions.now c.args.banks.now.items c.args.base c.args.end c.requires.place c.requires.order;
+  passed = λ j d lt small. absurd (omega arith);
+}
 
 pub overflow_add-at : goal.overflow_add-at
 overflow_add-at c =
-    let low = c.loop-at.invariant.low in
-    let fit : (0 < c.if-next-at.len) × (c.loop-at.at + c.if-next-at.len ≤ c.args.end) = elim c.if-next-at.branch [
-      | then-next-at w ↦
-          let x = c.requires.inside (c.loop-at.at, w.size_at-len.result) w.size_at-len.ensures low (omega (arith, c.loop-at-test.true)) in
-          rw w.len-is (x.0, x.1)
-      | else-next-at w ↦ rw w.len-is (omega (arith, w.if-next-at.false, c.next_base-next.ensures.range), omega (arith, c.next_base-next.ensures.range))
-    ] in
+    let k = c.loop-start.start-index in
+    let r : ℕ × ℕ = get_or c.args.regions.now k (0, 0) in
+    let fit = c.requires.inside r (Contains-get_or c.args.regions.now k (0, 0) c.loop-start-test.true) (omega (arith, c.loop-start.invariant.laid.low, c.if-at-start.true)) c.if-start-end.true in
     omega (arith, fit.1, c.ranges.end.fits)
 
-pub loop-at-smaller : goal.loop-at-smaller
-loop-at-smaller c =
-    let low = c.loop-at.invariant.low in
-    let fit : (0 < c.if-next-at.len) × (c.loop-at.at + c.if-next-at.len ≤ c.args.end) = elim c.if-next-at.branch [
-      | then-next-at w ↦
-          let x = c.requires.inside (c.loop-at.at, w.size_at-len.result) w.size_at-len.ensures low (omega (arith, c.loop-at-test.true)) in
-          rw w.len-is (x.0, x.1)
-      | else-next-at w ↦ rw w.len-is (omega (arith, w.if-next-at.false, c.next_base-next.ensures.range), omega (arith, c.next_base-next.ensures.range))
-    ] in
-    omega (arith, fit.0, fit.1, c.loop-at-test.true)
+pub loop-start-preserved : goal.loop-start-preserved
+loop-start-preserved c =
+    let regions = c.args.regions.now in
+    let k = c.loop-start.start-index in
+    let there : k < length regions = c.loop-start-test.true in
+    let r : ℕ × ℕ = get_or regions k (0, 0) in
+    let here : get_or regions k r ≡ r = get_or_default regions k r (0, 0) there in
+    let laid = c.loop-start.invariant.laid in
+    let passed = c.loop-start.invariant.passed in
+    elim c.if-at-start.branch [
+      | then-at-start+then-start-end+in_ok-fill+in_ok-add w ↦
+          let some = c.requires.sizes r (Contains-get_or regions k (0, 0) there) in
+          rw (w.banks-is, w.at-is) record {
+            laid = laid_region regions c.args.banks.now.items c.args.base c.args.end c.requires.place c.loop-start.banks.items w.fill.new.banks.items w.add.new.banks.items c.loop-start.at k r c.requires.sorted c.requires.inside c.requires.outside c.requires.apart c.requires.sizes laid passed there here w.if-at-start.true w.if-start-end.true w.in_ok-fill.ensures w.in_ok-add.ensures;
+            passed = passed_more regions k c.loop-start.at (r.0 + r.1) c.args.end r passed there here (omega (arith, w.if-at-start.true)) (λ small. omega (arith, some));
+          }
+      | else-at-start w ↦
+          let late : r.0 < c.args.end → r.0 < c.loop-start.at = λ small. elim w.else-at-start.branch [
+            | else-at-start-via-then-at-start+else-start-end v ↦ absurd (omega (arith, v.if-start-end.false))
+            | else-at-start-via-else-at-start v ↦ omega (arith, v.if-at-start.false)
+          ] in
+          rw (w.banks-is, w.at-is) record { laid = laid; passed = passed_more regions k c.loop-start.at c.loop-start.at c.args.end r passed there here (omega arith) late }
+    ]
 
-pub loop-at-preserved : goal.loop-at-preserved
-loop-at-preserved c =
-    let low = c.loop-at.invariant.low in
-    let fit : (0 < c.if-next-at.len) × (c.loop-at.at + c.if-next-at.len ≤ c.args.end) = elim c.if-next-at.branch [
-      | then-next-at w ↦
-          let x = c.requires.inside (c.loop-at.at, w.size_at-len.result) w.size_at-len.ensures low (omega (arith, c.loop-at-test.true)) in
-          rw w.len-is (x.0, x.1)
-      | else-next-at w ↦ rw w.len-is (omega (arith, w.if-next-at.false, c.next_base-next.ensures.range), omega (arith, c.next_base-next.ensures.range))
-    ] in
-    let so_far = c.loop-at.invariant.parts in
-    let at_end = c.loop-at-test.true in
-    let least : (g : ℕ × ℕ) → Contains c.args.regions.now g → c.loop-at.at ≤ g.0 → c.next_base-next.result ≤ g.0 = λ g k le. (rw k.2 at (c.next_base-next.ensures.least k.0 g k.1)) le in
-    let reach : (c.next_base-next.result ≡ c.args.end) ⊎ ((g : ℕ × ℕ) × Contains c.args.regions.now g × (g.0 ≡ c.next_base-next.result)) = elim (cases_lt c.next_base-next.result c.args.end) [
-      | inl lt ↦ let x = c.next_base-next.ensures.found lt in inr (x.1, (x.0, x.2, x.3), x.4)
-      | inr le ↦ inl (omega (arith, c.next_base-next.ensures.range))
-    ] in
-    let more : AreSoFar c.args.regions.now (spans_of c.args.banks.now.items) (spans_of c.loop-at.banks.items ++ (c.loop-at.at, c.if-next-at.len) ∷ []) c.args.base (c.loop-at.at + c.if-next-at.len) c.args.end = elim c.if-next-at.branch [
-      | then-next-at w ↦ rw w.len-is (region_laid c.args.regions.now (spans_of c.args.banks.now.items) (spans_of c.loop-at.banks.items) c.args.base c.loop-at.at w.size_at-len.result c.args.end so_far w.size_at-len.ensures (c.requires.sizes (c.loop-at.at, w.size_at-len.result) w.size_at-len.ensures) c.requires.apart c.requires.sizes)
-      | else-next-at w ↦ rw w.len-is (stretch_laid c.args.regions.now (spans_of c.args.banks.now.items) (spans_of c.loop-at.banks.items) c.args.base c.loop-at.at c.next_base-next.result c.args.end so_far low (omega (arith, w.if-next-at.false, c.next_base-next.ensures.range)) (omega (arith, c.next_base-next.ensures.range)) least reach c.requires.outside)
-    ] in
-    let size : length c.in_ok-zeros.field-0.bytes.items ≡ c.if-next-at.len = rw c.in_ok-zeros.ensures.1 (length-replicate {A = ℕ} c.if-next-at.len 0) in
-    let parts : AreSoFar c.args.regions.now (spans_of c.args.banks.now.items) (spans_of c.push.new.self.items) c.args.base (c.loop-at.at + c.if-next-at.len) c.args.end = rw (c.in_ok-push.ensures.items, spans_push c.loop-at.banks.items c.in_ok-zeros.field-0, c.in_ok-zeros.ensures.0, size) more in
-    record {
-      low = omega (arith, low);
-      high = fit.1;
-      out = rw c.in_ok-push.ensures.items (laid_more c.args.banks.now.items c.loop-at.banks.items c.in_ok-zeros.field-0 c.args.base c.args.end c.loop-at.at c.if-next-at.len c.requires.place c.loop-at.invariant.out low c.loop-at-test.true fit.1 c.in_ok-zeros.ensures.0 c.in_ok-zeros.ensures.1);
-      parts = parts;
-    }
+ended : (c : goal.After-fill-2) → IsFilled c.loop-start.banks.items c.loop-start.at c.args.end c.fill-2.new.banks.items → AreLaidTo c.args.regions.now c.args.banks.now.items c.fill-2.new.banks.items c.args.base c.args.end c.args.end
+ended c filled = laid_last c.args.regions.now c.args.banks.now.items c.args.base c.args.end c.requires.place c.loop-start.banks.items c.fill-2.new.banks.items c.loop-start.at c.loop-start.start-index c.requires.outside c.loop-start.invariant.laid c.loop-start.invariant.passed c.loop-start-test.false filled
+
+pub returns-clause-laid : goal.returns-clause-laid
+returns-clause-laid c = IfOk-weaker c.fill-2.result _ _ (λ x filled. (ended c filled).out) c.fill-2.ensures
 
 pub returns-clause-parts : goal.returns-clause-parts
-returns-clause-parts c =
-    let e : c.loop-at.at ≡ c.args.end = omega (arith, c.loop-at.invariant.high, c.loop-at-test.false) in
-    rw e at c.loop-at.invariant.parts
+returns-clause-parts c = IfOk-weaker c.fill-2.result _ _ (λ x filled. (ended c filled).parts) c.fill-2.ensures
