@@ -1,5 +1,5 @@
 //! What a board shows of itself between turns.
-ghost use Rattle.std.specs.Prelude.{ℕ, ◌≡◌, ◌<◌, ◌≤◌, ◌-◌, ◌&&◌, ◌↔◌, not, Option, Some, None, is_none, length, IsSome, slice_get};
+ghost use Rattle.std.specs.Prelude.{ℕ, ◌≡◌, ◌<◌, ◌≤◌, ◌-◌, ◌&&◌, ◌↔◌, not, Option, Some, None, is_none, length, map, IsSome, slice_get};
 ghost use Rattle.std.specs.Option.{option_map};
 ghost use Rattle.task_table.specs.State.{Setup, State, Turn};
 ghost use Rattle.mem_banks.specs.Memory.{byte_at};
@@ -7,6 +7,7 @@ ghost use Rattle.task_table.specs.Reading.{setup_at, chosen};
 ghost use Rattle.task_table.specs.Start.{start};
 ghost use Rattle.task_table.specs.Holds.{Holds as KernelHolds, task_count};
 ghost use Rattle.task_table.specs.Limits.{most_tasks};
+ghost use Rattle.task_table.specs.Parts.{line_setup};
 ghost use Rattle.run_script.specs.Events.{script_data};
 ghost use Rattle.run_script.specs.Scripts.{IsNext, lasts};
 ghost use Rattle.board_model.specs.Script.{Scenario};
@@ -21,7 +22,7 @@ use crate::machine::Machine;
 use board_model::End;
 use kernel_abi::Health;
 use region_check::Region;
-use task_table::{Kernel, Wait};
+use task_table::{Kernel, LineStart, Wait};
 use words_core::Flags;
 
 /// A task between turns: the generation is how often it was born again modulo 64, the timer its deadline
@@ -143,6 +144,13 @@ impl Board {
             Some(line) => Some((line.enabled, line.pending)),
             None => None,
         }
+    }
+
+    /// The owners of the interrupt lines that have one, in the order of the image.
+    pub fn owners(&self) -> &[LineStart]
+        ensures { (x : Scenario) (s : State) → Stands shown x self.now s → map line_setup result.now ≡ x.setup.lines }
+    {
+        self.machine.reach.kernel.owners()
     }
 
     /// The regions of a task; none where there is no such task.

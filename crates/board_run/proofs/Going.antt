@@ -28,12 +28,12 @@ turns_seen shown x b s st = sym st.holds.turns
 
 -- ## a run by its first turn
 
-run_ends : (level : Level) (x : Scenario) (left : ℕ) (s : State) (e : End) → ending x left s ≡ Some e → run level x left s ≡ ended_at s e
+pub run_ends : (level : Level) (x : Scenario) (left : ℕ) (s : State) (e : End) → ending x left s ≡ Some e → run level x left s ≡ ended_at s e
 unfolding run
 run_ends level x zero s e is = ap (λ (o : Option End). unless s o (ended_at s Bound)) is
 run_ends level x (suc left) s e is = ap (λ (o : Option End). unless s o (with_front (at_turn s.turn (turn level x s).notes) (run level x left (turn level x s).state))) is
 
-run_goes : (level : Level) (x : Scenario) (left : ℕ) (s : State) → ending x (suc left) s ≡ None → run level x (suc left) s ≡ with_front (at_turn s.turn (turn level x s).notes) (run level x left (turn level x s).state)
+pub run_goes : (level : Level) (x : Scenario) (left : ℕ) (s : State) → ending x (suc left) s ≡ None → run level x (suc left) s ≡ with_front (at_turn s.turn (turn level x s).notes) (run level x left (turn level x s).state)
 unfolding run
 run_goes level x left s is = ap (λ (o : Option End). unless s o (with_front (at_turn s.turn (turn level x s).notes) (run level x left (turn level x s).state))) is
 
@@ -56,7 +56,7 @@ goes_by true still left more is = absurd (cc)
 goes_by false true left more is = absurd (never (left == 0) is)
 goes_by false false left more is = let some : (suc more == 0) ≡ false = grind (arith, nat_tests) in ap (λ (b : Bool). cond b (Some Bound) None) some
 
-goes_on : (x : Scenario) (s : State) (left more : ℕ) → ending x left s ≡ None → ending x (suc more) s ≡ None
+pub goes_on : (x : Scenario) (s : State) (left more : ℕ) → ending x left s ≡ None → ending x (suc more) s ≡ None
 unfolding ending
 goes_on x s left more is = goes_by (is_down s) (is_still x s) left more is
 

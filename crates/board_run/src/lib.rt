@@ -16,7 +16,7 @@ pub use counts::Counts;
 pub use laws::{generations_decide_what_is_told, memories_have_each_region_once};
 pub use line::end_name;
 pub use memory::{byte_at, write_memory};
-pub use pushing::{push_high, push_low};
+pub use pushing::{push_high, push_low, push_notes, push_task_line};
 pub use regions::{RegionTest, first_region};
 pub use running::{ending, play, run};
 pub use silence::Nobody;

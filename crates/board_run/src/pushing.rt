@@ -47,7 +47,8 @@ pub fn push_notes<S: Sink>(
     Ok(())
 }
 
-fn push_task_line<S: Sink>(i: u64, task: &TaskView, out: &mut S) -> Result<(), Failed>
+/// The line of a task, in one push.
+pub fn push_task_line<S: Sink>(i: u64, task: &TaskView, out: &mut S) -> Result<(), Failed>
     ensures bytes { Pushes (S.seen out.old).written (S.seen out.new).written
         (task_line i task.now.generation task.now.health (wait_words task.now.wait) task.now.posted (timer_of task.now.timer)) result }
     ensures fit { IsFitTimer (timer_of task.now.timer) }

@@ -3,7 +3,6 @@ pub mod Arrivals
 pub mod Differences
 pub mod Lined
 pub mod Going
-pub mod Few
 pub mod Sweeps
 pub mod Looking
 pub mod Whole

@@ -34,7 +34,7 @@ use Rattle.sweep_core.specs.Outcomes.{front_words, heard, memory_word, nothing_h
 use Rattle.sweep_core.specs.Swept.{is_supervisors}
 use Rattle.sweep_core.specs.Sweeping.{HasComeTo, HasScripts, HasTold, IsAsGood, IsAt, IsBefore, IsReady, own_script, run_of}
 use Rattle.sweep_core.specs.Told.{IsTold, IsToldFrom}
-use Rattle.sweep_core.proofs.Few.{few_tasks}
+use Rattle.snapshot.proofs.Few.{few_tasks}
 use Rattle.sweep_core.proofs.Going.{come_within, goes_on, good_itself, heard_on, one_before, same_ram, silent, stays}
 use Rattle.sweep_core.proofs.Letters.{letters_alike}
 
