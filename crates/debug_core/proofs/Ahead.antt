@@ -5,6 +5,7 @@ use Rattle.task_table.specs.Sane.{Sane}
 use Rattle.task_table.specs.Start.{start}
 use Rattle.board_model.specs.declared.outcomes.End.{End}
 use Rattle.board_model.specs.declared.outcomes.End.TheVariants.{Bound}
+use Rattle.board_model.specs.declared.outcomes.Level.{Level}
 use Rattle.board_model.specs.declared.outcomes.Level.TheVariants.{Calls}
 use Rattle.board_model.specs.Alike.{reduced, seen}
 use Rattle.board_model.specs.Cut.{cut_at, left_of}
@@ -18,8 +19,9 @@ use Rattle.board_model.proofs.Further.{last_turn}
 use Rattle.board_model.proofs.GenerationsSeen.{ending_reduced, turned_reduced}
 use Rattle.board_model.proofs.RunCuts.{cut, reached, sane-cut}
 use Rattle.board_model.proofs.TurnChains.{sane-after}
+use Rattle.board_model.proofs.Views.{reduced-turn}
 use Rattle.board_run.proofs.Going.{run_stays}
-use Rattle.debug_core.specs.Session.{state_at}
+use Rattle.debug_core.specs.Runs.{state_at}
 
 abbrev pub run_on : Scenario → ℕ → State → State
 run_on x n s = cut_at Calls x n s
@@ -79,6 +81,13 @@ ending_same x left s u e = sym (ending_reduced x left s) ∙ ap (ending x left) 
 pub turned_same : (x : Scenario) (s u : State) → reduced s ≡ reduced u → turned x s ≡ turned x u
 turned_same x s u e = sym (turned_reduced x s) ∙ ap (turned x) e ∙ turned_reduced x u
 
+-- their turns note the same, and come to states that are equal so
+pub same_notes : (level : Level) (x : Scenario) (s u : State) → Sane x.setup s → Sane x.setup u → reduced s ≡ reduced u → (turn level x s).notes ≡ (turn level x u).notes
+same_notes level x s u sane good e = sym (reduced-turn level x s sane).notes ∙ ap (λ (v : State). (turn level x v).notes) e ∙ (reduced-turn level x u good).notes
+
+pub same_next : (x : Scenario) (s u : State) → Sane x.setup s → Sane x.setup u → reduced s ≡ reduced u → reduced (next x s) ≡ reduced (next x u)
+same_next x s u sane good e = sym (reduced-turn Calls x s sane).state ∙ ap (λ (v : State). reduced (next x v)) e ∙ (reduced-turn Calls x u good).state
+
 -- a sane state that is equal to the run's at a turn that it reaches
 pub record Follows (x : Scenario) (turn : ℕ) (u : State) : Type 0 where
   pub sane : Sane x.setup u
@@ -137,6 +146,19 @@ module _ (x : Scenario) (sane : Sane x.setup (start_of x)) where
   -- where it ends, with turns up to another one left, it has come to by that one
   pub ends_at : (c to : ℕ) (e : End) → (state_at x c).turn ≡ c → c ≤ to → ending x (to - c) (state_at x c) ≡ Some e → state_at x to ≡ state_at x c
   ends_at c to e there le is = from_there c to there le ∙ ends x (to - c) (state_at x c) e is
+
+  -- where it comes to a later turn it goes on
+  pub goes_at : (c to : ℕ) → (state_at x to).turn ≡ to → c < to → ending x 1 (state_at x c) ≡ None
+  goes_at c to there lt = by (ending x 1 (state_at x c)) refl
+    where
+      by : (o : Option End) → ending x 1 (state_at x c) ≡ o → ending x 1 (state_at x c) ≡ None
+      by None is = is
+      by (Some e) is =
+          let n : ℕ = to - c - 1 in
+          let left : to - c ≡ suc n = omega arith in
+          let here = reaches to c there (omega arith) in
+          let ended = ends_at c to e here (omega arith) (ap (λ k. ending x k (state_at x c)) left ∙ same_end x n (state_at x c) ∙ is) in
+          absurd (omega (arith, ap (λ (s : State). s.turn) ended, here, there))
 
   -- ---- a state that follows it
 

@@ -7,7 +7,8 @@ use Rattle.debug_core.specs.declared.answer.Answer.TheVariants.{Hit}
 use Rattle.debug_core.specs.declared.timeline.Timeline.{Timeline}
 use Rattle.debug_core.specs.Answers.{gone_to, hit_at}
 use Rattle.debug_core.specs.Hits.{CameTo, first_hit}
-use Rattle.debug_core.specs.Session.{Session, forward, gone, hit_from, hit_in, most_turns, state_at}
+use Rattle.debug_core.specs.Runs.{forward, most_turns, state_at}
+use Rattle.debug_core.specs.Session.{Session, gone, hit_from, hit_in}
 use Rattle.debug_core.specs.Times.{IsAt}
 
 module _ {X : Type 0} {H : X → Type 0} (shown : Shows X H) (x : Scenario) (s : Session) (n to : ℕ) (breakpoints : List ℕ) (limit : to ≡ min (s.cursor + n) most_turns) (same : breakpoints ≡ s.breakpoints) where

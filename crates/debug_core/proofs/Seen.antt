@@ -1,20 +1,44 @@
--- What is seen of a task of two states that are equal with births modulo 64.
-use Rattle.std.proofs.Common.{◌≡◌, ◌∙◌, ℕ, ◌%◌, ◌≤◌, Bool, cond, length, sym, ap, arith}
+-- What is seen of two states that are equal with births modulo 64: of a task, of a line, of a device.
+use Rattle.std.proofs.Common.{◌≡◌, ◌∙◌, ℕ, zero, suc, ◌+◌, ◌*◌, ◌%◌, ◌≤◌, ◌<◌, eqb, Bool, cond, List, [], ◌∷◌, length, get_or, Option, Some, None, refl, sym, ap, arith}
+use Rattle.std.specs.Prelude.{find, slice_get, slice_index_or}
+use Rattle.std.specs.Option.{option_map}
+use Rattle.std.proofs.Math.Nat.{mod-mod}
 use Rattle.std.proofs.lemmas.Bool.{lt-ltb, le-ltb}
-use Rattle.task_table.specs.State.{State, Task}
-use Rattle.task_table.specs.Reading.{task_at}
-use Rattle.board_model.specs.Alike.{but_memory, reduced}
-use Rattle.board_model.proofs.Alike.{count_alike, shown, task_alike}
+use Rattle.std.proofs.lemmas.List.{take_all}
+use Rattle.std.proofs.lemmas.Option.{slice_get-get_or, slice_get_within}
+use Rattle.kernel_abi.specs.Devices.{AreSaneDevices, DeviceData, IsSettable}
+use Rattle.kernel_abi.specs.declared.Kind.{Kind}
+use Rattle.kernel_abi.specs.declared.Kind.TheVariants.{Console, Port}
+use Rattle.kernel_abi.specs.declared.TaskId.{TaskId}
+use Rattle.task_table.specs.declared.Line.{Line}
+use Rattle.task_table.specs.declared.slot.FromId.{FromId}
+use Rattle.task_table.specs.declared.slot.FromId.TheVariants as from_id
+use Rattle.task_table.specs.declared.slot.Wait.TheVariants as wait
+use Rattle.task_table.specs.Holds.{from_id_of, id_at, kept_call, wait_of}
+use Rattle.task_table.specs.State.{Any, Birth, Call, From, KernelOnly, LineSetup, Listen, One, Setup, State, Task}
+use Rattle.task_table.specs.Reading.{call_of, line_at, listen_of, no_line as no_line_there, task_at}
+use Rattle.board_model.specs.Alike.{but_memory, reduced, seen, seen_birth, seen_call, seen_from, seen_listen}
+use Rattle.board_model.proofs.Alike.{call_alike, count_alike, line_alike, listen_alike, shown, task_alike}
+use Rattle.board_model.specs.Script.{Scenario}
+use Rattle.board_core.specs.declared.board.Board.{Board}
+use Rattle.board_core.specs.declared.device_view.DeviceView.{DeviceView}
 use Rattle.board_core.specs.declared.views.TaskView.{TaskView}
+use Rattle.board_core.specs.Data.{Shows}
+use Rattle.board_core.specs.DeviceViews.{device_told}
+use Rattle.board_core.specs.Stands.{Stands}
 use Rattle.board_core.specs.Views.{IsTask}
+use Rattle.board_core.proofs.Loading.{rest_held}
+use Rattle.debug_core.specs.declared.answer.Answer.TheVariants as answered
 use Rattle.debug_core.specs.declared.answer.Answer.TheVariants.{Absent, Registers}
-use Rattle.debug_core.specs.Answers.{registers_of}
+use Rattle.debug_core.specs.Answers.{device_by, device_of, irq_by, irq_of, owner_of, registers_of, task_of, task_view}
 
 abbrev births : ℕ → ℕ
 births b = b % 64
 
 same_shown : (u s : State) → reduced u ≡ reduced s → shown births u ≡ shown births s
 same_shown u s e = ap but_memory e
+
+-- ---- the registers of a task
 
 pub no_registers : (u s : State) (i : ℕ) → reduced u ≡ reduced s → length u.tasks ≤ i → Absent ≡ registers_of s i
 no_registers u s i e past =
@@ -31,3 +55,156 @@ its_registers u s i v e k =
     let inside = k.inside in
     (λ j. Registers (regs j) (flags j))
     ∙ sym (ap (λ (b : Bool). cond b (Registers (task_at s i).registers (task_at s i).flags) Absent) (lt-ltb i (length s.tasks) (omega arith)))
+
+-- ---- what a task waits for: it is told by ids, which have births modulo 64
+
+abbrev named : ℕ → ℕ → TaskId
+named index birth = record { number = index + 1024 * birth }
+
+same_id : (b : Birth) → id_at (seen_birth births b) ≡ id_at b
+same_id b = ap (named b.index) (mod-mod b.birth 64)
+
+same_from : (f : From) → from_id_of (seen_from births f) ≡ from_id_of f
+same_from Any = refl
+same_from (One b) = ap (λ id. from_id.One id) (same_id b)
+same_from KernelOnly = refl
+
+same_call : (c : Call) → kept_call (seen_call births c) ≡ kept_call c
+same_call c =
+    λ j.
+    record {
+      number = c.number;
+      client = same_id c.client j;
+      server = same_id c.server j;
+      operation = c.operation;
+      message = c.message;
+      reply = c.reply;
+      table = c.table;
+      leases = c.leases;
+      phase = c.phase;
+    }
+
+wait_seen : (c : Option Call) (l : Option Listen) → wait_of (option_map (seen_call births) c) (option_map (seen_listen births) l) ≡ wait_of c l
+wait_seen (Some c) l = ap (λ k. wait.Call k) (same_call c)
+wait_seen None (Some l) = ap (λ (f : FromId). wait.Listen (record { from = f; mask = l.mask; buffer = l.buffer })) (same_from l.from)
+wait_seen None None = refl
+
+same_wait : (u s : State) (i : ℕ) → shown births u ≡ shown births s → wait_of (call_of u i) (listen_of u i) ≡ wait_of (call_of s i) (listen_of s i)
+same_wait u s i h =
+    let call = call_alike births u s i h in
+    let listen = listen_alike births u s i h in
+    sym (wait_seen (call_of u i) (listen_of u i)) ∙ (λ j. wait_of (call j) (listen j)) ∙ wait_seen (call_of s i) (listen_of s i)
+
+-- ---- how a task is
+
+same_view : (u s : State) (i : ℕ) (v : TaskView) → shown births u ≡ shown births s → IsTask u i v → v ≡ task_view s i
+same_view u s i v h k =
+    let task = task_alike births u s i h in
+    let generation : v.generation ≡ (task_at s i).births % 64 = k.generation ∙ ap (λ (t : Task). t.births) task in
+    let health = k.health ∙ ap (λ (t : Task). t.health) task in
+    let regs = k.regs ∙ ap (λ (t : Task). t.registers) task in
+    let flags = k.flags ∙ ap (λ (t : Task). t.flags) task in
+    let posted = k.posted ∙ ap (λ (t : Task). t.posted) task in
+    let timer = k.timer ∙ ap (λ (t : Task). option_map (λ timer. (timer.deadline, timer.bits)) t.timer) task in
+    let waits = k.wait ∙ same_wait u s i h in
+    λ j. record { generation = generation j; health = health j; regs = regs j; flags = flags j; posted = posted j; timer = timer j; wait = waits j }
+
+pub no_task : (u s : State) (i : ℕ) → reduced u ≡ reduced s → length u.tasks ≤ i → Absent ≡ task_of s i
+no_task u s i e past =
+    let count = count_alike births u s (same_shown u s e) in
+    sym (ap (λ (b : Bool). cond b (answered.Task i (task_view s i)) Absent) (le-ltb i (length s.tasks) (omega arith)))
+
+pub its_task : (u s : State) (i : ℕ) (v : TaskView) → reduced u ≡ reduced s → IsTask u i v → answered.Task i v ≡ task_of s i
+its_task u s i v e k =
+    let h = same_shown u s e in
+    let count = count_alike births u s h in
+    let inside = k.inside in
+    ap (answered.Task i) (same_view u s i v h k)
+    ∙ sym (ap (λ (b : Bool). cond b (answered.Task i (task_view s i)) Absent) (lt-ltb i (length s.tasks) (omega arith)))
+
+-- ---- an interrupt line
+
+abbrev pub told_owner : LineSetup → ℕ × ℕ
+told_owner l = (l.owner, l.bits)
+
+abbrev pub told_line : Line → Bool × Bool
+told_line l = (l.enabled, l.pending)
+
+one_same : {A : Type 0} (a b : A) → ◌≡◌ {A = Option A} (Some a) (Some b) → a ≡ b
+one_same a b e = cc
+
+no_pair : {A : Type 0} (a : A) → ◌≡◌ {A = Option A} None (Some a) → ⊥
+no_pair a e = cc
+
+unowned : (s : State) (number : ℕ) (o : Option LineSetup) → None ≡ option_map told_owner o → Absent ≡ irq_by s number o
+unowned s number None e = refl
+unowned s number (Some l) e = absurd (no_pair (told_owner l) e)
+
+pub no_owner : (g : Setup) (s : State) (number : ℕ) (lines : List LineSetup) → lines ≡ g.lines → None ≡ option_map told_owner (find (λ (l : LineSetup). eqb l.line number) lines) → Absent ≡ irq_of g s number
+no_owner g s number lines same e = unowned s number (owner_of g number) (e ∙ ap (λ (ls : List LineSetup). option_map told_owner (find (λ (l : LineSetup). eqb l.line number) ls)) same)
+
+all_lines : {X : Type 0} {H : X → Type 0} (shown : Shows X H) (x : Scenario) (b : Board X H) (s : State) → Stands shown x b s → length s.lines ≡ 64
+all_lines shown x b s st =
+    let rest = rest_held shown b.machine.loaded x.setup b.machine.reach b.machine.glider.runner.processor _ st.holds.machine in
+    ap (λ (ls : List Line). length ls) (rest.rest.lines ∙ sym rest.holds.lines) ∙ b.machine.reach.kernel.all_lines
+
+-- there are 64 lines
+pub no_line : {X : Type 0} {H : X → Type 0} (shown : Shows X H) (x : Scenario) (b : Board X H) (s : State) (number : ℕ) → Stands shown x b s → number < 64 → None ≡ option_map told_line (slice_get s.lines number) → ⊥
+no_line shown x b s number st lt e = let all = all_lines shown x b s st in by s.lines number (omega arith) e
+  where
+    by : (ls : List Line) (k : ℕ) → k < length ls → None ≡ option_map told_line (slice_get ls k) → ⊥
+    by [] k lt e = absurd (omega arith)
+    by (l ∷ ls) zero lt e = no_pair (told_line l) e
+    by (l ∷ ls) (suc k) lt e = by ls k (omega arith) e
+
+line_is : (s : State) (number : ℕ) (line : Bool × Bool) → Some line ≡ option_map told_line (slice_get s.lines number) → line ≡ told_line (line_at s number)
+unfolding line_at
+line_is s number line e = by s.lines number e
+  where
+    by : (ls : List Line) (k : ℕ) → Some line ≡ option_map told_line (slice_get ls k) → line ≡ told_line (slice_index_or ls k no_line_there)
+    by [] k e = absurd (no_pair line (sym e))
+    by (l ∷ ls) zero e = cc
+    by (l ∷ ls) (suc k) e = by ls k e
+
+irq_is : (s : State) (number : ℕ) (o : Option LineSetup) (owner : ℕ × ℕ) (line : Bool × Bool) → Some owner ≡ option_map told_owner o → line ≡ told_line (line_at s number) → answered.Irq number owner.0 owner.1 line.0 line.1 ≡ irq_by s number o
+irq_is s number None owner line e h = absurd (no_pair owner (sym e))
+irq_is s number (Some l) owner line e h =
+    let same : owner ≡ told_owner l = cc in
+    λ j. answered.Irq number (same j).0 (same j).1 (h j).0 (h j).1
+
+pub its_line : (g : Setup) (s : State) (number : ℕ) (lines : List LineSetup) (owner : ℕ × ℕ) (line : Bool × Bool) → lines ≡ g.lines → Some owner ≡ option_map told_owner (find (λ (l : LineSetup). eqb l.line number) lines) →
+    Some line ≡ option_map told_line (slice_get s.lines number) → answered.Irq number owner.0 owner.1 line.0 line.1 ≡ irq_of g s number
+its_line g s number lines owner line same e h =
+    irq_is s number (owner_of g number) owner line (e ∙ ap (λ (ls : List LineSetup). option_map told_owner (find (λ (l : LineSetup). eqb l.line number) ls)) same) (line_is s number line h)
+
+pub irq_same : (g : Setup) (u s : State) (number : ℕ) → reduced u ≡ reduced s → irq_of g u number ≡ irq_of g s number
+irq_same g u s number e = by (owner_of g number)
+  where
+    by : (o : Option LineSetup) → irq_by u number o ≡ irq_by s number o
+    by None = refl
+    by (Some l) = ap (λ (k : Line). answered.Irq number l.owner l.bits k.enabled k.pending) (line_alike births u s number (same_shown u s e))
+
+-- ---- a device
+
+pub no_device : (s : State) (k : ℕ) → ◌≡◌ {A = Option DeviceData} None (slice_get s.devices k) → Absent ≡ device_of s k
+no_device s k e = ap (device_by k) e
+
+few_by_kind : (kind : Kind) (count : ℕ) (queue : List ℕ) → IsSettable kind count queue → length queue ≤ 64
+few_by_kind Console count queue h = let none : length queue ≡ 0 = ap (λ (bytes : List ℕ). length bytes) h in omega arith
+few_by_kind Port count queue h = h.1
+
+-- at most 64 bytes wait in it
+few_waiting : (ds : List DeviceData) (k : ℕ) (d : DeviceData) → AreSaneDevices ds → Some d ≡ slice_get ds k → length d.queue ≤ 64
+few_waiting ds k d sane e =
+    let lt = slice_get_within ds k d (sym e) in
+    let is = one_same (get_or ds k d) d (sym (slice_get-get_or ds k d lt) ∙ sym e) in
+    few_by_kind d.kind d.count d.queue (sane.sane d (k, lt, is)).settable
+
+pub its_device : (s : State) (k : ℕ) (v : DeviceView) → AreSaneDevices s.devices → Some (device_told v) ≡ slice_get s.devices k → answered.Device k v.kind v.base v.count v.queue ≡ device_of s k
+its_device s k v sane e =
+    let few = few_waiting s.devices k (device_told v) sane e in
+    ap (λ (bytes : List ℕ). answered.Device k v.kind v.base v.count (record { items = bytes })) (sym (take_all 64 v.queue.items few)) ∙ ap (device_by k) e
+
+pub device_same : (u s : State) (k : ℕ) → reduced u ≡ reduced s → device_of u k ≡ device_of s k
+unfolding seen
+device_same u s k e = ap (λ (v : State). device_by k (slice_get v.devices k)) e

@@ -24,10 +24,10 @@ use Rattle.snapshot.proofs.Fixed.{fixed_run}
 use Rattle.snapshot.proofs.Stood.{as_long}
 use Rattle.debug_core.specs.declared.timeline.Checkpoint.{Checkpoint}
 use Rattle.debug_core.specs.declared.timeline.Timeline.{Timeline}
-use Rattle.debug_core.specs.Session.{most_turns, state_at}
+use Rattle.debug_core.specs.Runs.{most_turns, state_at}
 use Rattle.debug_core.specs.Times.{IsAt, IsFree, IsKept, IsSaved}
 use Rattle.debug_core.proofs.Ahead.{Follows, ahead, ends_at, first_turn, run_on, same_turn, sane_at, stays, turns_ahead, turns_made}
-use Rattle.debug_core.proofs.Few.{few_tasks}
+use Rattle.snapshot.proofs.Few.{few_tasks}
 use Rattle.debug_core.proofs.Bytes.{no_byte}
 use Rattle.debug_core.proofs.Latest.{some_same}
 
@@ -65,6 +65,10 @@ module _ {X : Type 0} {H : X → Type 0} (shown : Shows X H) (x : Scenario) wher
       let f = turns_ahead x h.start (suc n) turn h.state.0 (follows t turn h) (turns_made x n h.state.0 first on) in
       let same : turn + suc n ≡ turn + n + 1 = omega arith in
       with_board t turn b (turn + n + 1) (turn_after Calls x n h.state.0).state h st (subst (λ m. Follows x m (turn_after Calls x n h.state.0).state) same f) (omega arith)
+
+  -- and so does each of them
+  pub follows_after : (t : Timeline X H) (turn n : ℕ) → (h : IsAt shown x t turn) → ending x 1 h.state.0 ≡ None → ((k : ℕ) → k < n → ending x 1 (turn_after Calls x k h.state.0).state ≡ None) → (k : ℕ) → k ≤ n → Follows x (turn + k) (state_after Calls x k h.state.0)
+  follows_after t turn n h first on k le = turns_ahead x h.start k turn h.state.0 (follows t turn h) (λ j lt. turns_made x n h.state.0 first on j (omega (arith, lt, le)))
 
   -- a board that stands where a run to turn `to` comes to
   pub played : (t : Timeline X H) (turn : ℕ) (b : Board X H) (to : ℕ) → (h : IsAt shown x t turn) → turn ≤ to → to ≤ most_turns →

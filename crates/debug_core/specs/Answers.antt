@@ -1,23 +1,36 @@
 -- What is answered to a command, and its text (docs/FORMATS.md, Commands).
-use Rattle.std.specs.Prelude.{ℕ, ◌+◌, List, [], ◌∷◌, ◌++◌, length, map, codes, decimal, Option, Some, None, if◌then◌else◌, nat_lt}
+use Rattle.std.specs.Prelude.{ℕ, zero, suc, ◌+◌, ◌-◌, ◌%◌, ◌==◌, Bool, List, [], ◌∷◌, ◌++◌, length, map, take, find, slice_get, codes, decimal, Option, Some, None, if◌then◌else◌, nat_lt}
 use Rattle.std.specs.List.{range_with_len, list_all, flat_map}
+use Rattle.std.specs.Option.{option_map, unwrap_or}
+use Rattle.kernel_abi.specs.declared.Kind.{Kind}
+use Rattle.kernel_abi.specs.declared.Kind.TheVariants.{Console, Port}
+use Rattle.kernel_abi.specs.Devices.{DeviceData}
 use Rattle.mem_banks.specs.Memory.{Memory, is_held}
-use Rattle.task_table.specs.State.{State}
-use Rattle.task_table.specs.Reading.{task_at}
-use Rattle.trace_text.specs.Text.{byte_hex, hex}
+use Rattle.task_table.specs.State.{LineSetup, Setup, State}
+use Rattle.task_table.specs.Reading.{call_of, line_at, listen_of, task_at}
+use Rattle.task_table.specs.Holds.{wait_of}
+use Rattle.trace_text.specs.Text.{bit, byte_hex, hex, line_of, spaced_hex}
 use Rattle.board_run.specs.MemoryText.{byte_of}
-use Rattle.board_run.specs.Text.{end_name, low_text, high_text}
+use Rattle.board_run.specs.Text.{end_name, high_text, low_text, notes_text, task_line}
+use Rattle.board_run.specs.ViewText.{timer_of, wait_words}
 use Rattle.board_model.specs.declared.outcomes.End.{End}
+use Rattle.board_model.specs.declared.outcomes.Level.TheVariants.{All}
 use Rattle.board_model.specs.declared.outcomes.Turned.{Turned}
 use Rattle.board_model.specs.declared.outcomes.Turned.TheVariants.{Idle, Ran}
+use Rattle.board_model.specs.Run.{at_turn as notes_at}
 use Rattle.board_model.specs.Script.{Scenario}
-use Rattle.board_model.specs.Turn.{turned}
+use Rattle.board_model.specs.Turn.{turn, turned}
+use Rattle.board_core.specs.declared.views.TaskView.{TaskView}
 use Rattle.board_core.specs.Breakpoints.{stands}
 use Rattle.debug_core.specs.declared.answer.Answer.{Answer}
-use Rattle.debug_core.specs.declared.answer.Answer.TheVariants.{Absent, At, Bytes, Cleared, Full, Hit, Registers, Set}
+use Rattle.debug_core.specs.declared.answer.Answer.TheVariants as answered
+use Rattle.debug_core.specs.declared.answer.Answer.TheVariants.{Absent, At, Bytes, Changed, Cleared, Full, Hit, Registers, Set, Told}
 use Rattle.debug_core.specs.declared.command.Command.{Command}
-use Rattle.debug_core.specs.declared.command.Command.TheVariants.{Break, Clear, Step, Back, Go, Regs, Mem}
-use Rattle.debug_core.specs.Session.{Session, opened, state_at, end_here, forward, is_full, hit_from, after}
+use Rattle.debug_core.specs.declared.command.Command.TheVariants as command
+use Rattle.debug_core.specs.declared.command.Sought.{Sought}
+use Rattle.debug_core.specs.Runs.{end_here, forward, state_at}
+use Rattle.debug_core.specs.Searched.{can_be, found}
+use Rattle.debug_core.specs.Session.{Session, after, ahead, behind, hit_from, is_full, opened}
 
 -- ---- what it is
 
@@ -43,23 +56,65 @@ bytes_from m at n =
     if list_all (is_held m) (range_with_len at n)
     then Bytes at (record { items = map (byte_of m) (range_with_len at n) }) else Absent
 
+-- what was found; where nothing was, where the cursor is then
+abbrev pub found_at : Scenario → Sought → Option ℕ → ℕ → Answer
+found_at x what (Some turn) cursor = unwrap_or (found x what turn) Absent  -- it is found there
+found_at x what None cursor = at_turn x cursor
+
+abbrev pub sought_for : Scenario → Session → Sought → Option ℕ → ℕ → Answer
+sought_for x s what turn cursor = if can_be what (state_at x s.cursor).memory then found_at x what turn cursor else Absent
+
+-- how a task is: what is told of it at the end of a run, its registers aside
+abbrev pub task_view : State → ℕ → TaskView
+task_view s i =
+    let t = task_at s i in
+    record {
+      generation = t.births % 64;
+      health = t.health;
+      regs = t.registers;
+      flags = t.flags;
+      posted = t.posted;
+      timer = option_map (λ timer. (timer.deadline, timer.bits)) t.timer;
+      wait = wait_of (call_of s i) (listen_of s i);
+    }
+
+abbrev pub task_of : State → ℕ → Answer
+task_of s i = if nat_lt i (length s.tasks) then answered.Task i (task_view s i) else Absent
+
+-- who owns an interrupt line, as the image says, and how it is
+abbrev pub owner_of : Setup → ℕ → Option LineSetup
+owner_of g number = find (λ l. l.line == number) g.lines
+
+abbrev pub irq_by : State → ℕ → Option LineSetup → Answer
+irq_by s number None = Absent
+irq_by s number (Some l) = answered.Irq number l.owner l.bits (line_at s number).enabled (line_at s number).pending
+
+abbrev pub irq_of : Setup → State → ℕ → Answer
+irq_of g s number = irq_by s number (owner_of g number)
+
+abbrev pub device_by : ℕ → Option DeviceData → Answer
+device_by k None = Absent
+device_by k (Some d) = answered.Device k d.kind d.base d.count (record { items = take 64 d.queue })
+
+abbrev pub device_of : State → ℕ → Answer
+device_of s k = device_by k (slice_get s.devices k)
+
 -- by the session before the command
 abbrev pub answer : Scenario → Session → Command → Answer
-answer x s (Break at) = if is_full s.breakpoints at then Full else Set at
-answer x s (Clear at) = if stands s.breakpoints at then Cleared at else Absent
-answer x s (Step n) = at_turn x (after x s (Step n)).cursor
-answer x s (Back n) = at_turn x (after x s (Back n)).cursor
-answer x s (Go n) = gone_to x s n (hit_from x s n)
-answer x s (Regs task) = registers_of (state_at x s.cursor) task
-answer x s (Mem at n) = bytes_from (state_at x s.cursor).memory at n
-
--- to all commands of a session, in order
-abbrev pub answers_from : Scenario → Session → List Command → List Answer
-answers_from x s [] = []
-answers_from x s (command ∷ rest) = answer x s command ∷ answers_from x (after x s command) rest
-
-abbrev pub answers : Scenario → List Command → List Answer
-answers x commands = answers_from x opened commands
+answer x s (command.Break at) = if is_full s.breakpoints at then Full else Set at
+answer x s (command.Clear at) = if stands s.breakpoints at then Cleared at else Absent
+answer x s (command.Step n) = at_turn x (after x s (command.Step n)).cursor
+answer x s (command.Back n) = at_turn x (after x s (command.Back n)).cursor
+answer x s (command.Go n) = gone_to x s n (hit_from x s n)
+answer x s (command.At turn) = at_turn x (after x s (command.At turn)).cursor
+answer x s (command.GoFor n what) = sought_for x s what (ahead x s n what) (forward x s.cursor n)
+answer x s (command.BackFor n what) = sought_for x s what (behind x s n what) (s.cursor - n)
+answer x s command.Notes = Absent  -- at turn 0; at others see `told`
+answer x s (command.Regs task) = registers_of (state_at x s.cursor) task
+answer x s (command.Task task) = task_of (state_at x s.cursor) task
+answer x s (command.Irq line) = irq_of x.setup (state_at x s.cursor) line
+answer x s (command.Device device) = device_of (state_at x s.cursor) device
+answer x s (command.Mem at n) = bytes_from (state_at x s.cursor).memory at n
 
 -- ---- its text
 
@@ -83,6 +138,32 @@ hit_line turn task at = codes "hit " ++ decimal turn ++ codes " " ++ decimal tas
 unfoldable pub bytes_line : ℕ → List ℕ → List ℕ
 bytes_line at bytes = hex at ++ codes " " ++ flat_map byte_hex bytes ++ codes "\n"
 
+-- `<turn> change <task or -> <h> <old> <new>`
+abbrev pub runner_word : Option ℕ → List ℕ
+runner_word None = codes "-"
+runner_word (Some task) = decimal task
+
+unfoldable pub change_line : ℕ → Option ℕ → ℕ → ℕ → ℕ → List ℕ
+change_line turn task at old new =
+    decimal turn ++ codes " change " ++ runner_word task ++ codes " " ++ hex at ++ codes " " ++ byte_hex old ++ codes " " ++ byte_hex new ++ codes "\n"
+
+-- `line <line> <task> <bits h> <enabled> <pending>`
+unfoldable pub irq_line : ℕ → ℕ → ℕ → Bool → Bool → List ℕ
+irq_line number owner bits enabled pending =
+    codes "line " ++ decimal number ++ codes " " ++ decimal owner ++ spaced_hex bits ++ codes " " ++ bit enabled ∷ codes " " ++ bit pending ∷ codes "\n"
+
+-- `console <count>`, or `port <waiting>` and, where some wait, a blank and two digits a byte
+abbrev pub queue_word : List ℕ → List ℕ
+queue_word [] = []
+queue_word (byte ∷ bytes) = codes " " ++ flat_map byte_hex (byte ∷ bytes)
+
+abbrev pub kind_words : Kind → ℕ → List ℕ → List ℕ
+kind_words Console count queue = codes "console " ++ decimal count
+kind_words Port count queue = codes "port " ++ decimal (length queue) ++ queue_word queue
+
+unfoldable pub device_line : ℕ → Kind → ℕ → ℕ → List ℕ → List ℕ
+device_line k kind base count queue = codes "device " ++ decimal k ++ spaced_hex base ++ codes " " ++ kind_words kind count queue ++ codes "\n"
+
 abbrev pub text_of : Answer → List ℕ
 text_of (Set at) = address_line (codes "break ") at
 text_of Full = codes "full\n"
@@ -90,9 +171,41 @@ text_of (Cleared at) = address_line (codes "clear ") at
 text_of Absent = codes "none\n"
 text_of (At turn now end) = at_line turn now end
 text_of (Hit turn task at) = hit_line turn task at
+text_of (Told turn note) = line_of turn note
+text_of (Changed turn task at old new) = change_line turn task at old new
+text_of (answered.Task i v) = task_line i v.generation v.health (wait_words v.wait) v.posted (timer_of v.timer)
+text_of (answered.Irq number owner bits enabled pending) = irq_line number owner bits enabled pending
+text_of (answered.Device k kind base count queue) = device_line k kind base count queue.items
 text_of (Registers words flags) = low_text words ++ high_text words flags
 text_of (Bytes at bytes) = bytes_line at bytes.items
 
+-- ---- what a command is told: an answer, or what is noted of the turn before the cursor, with each instruction
+
+abbrev pub told_before : Scenario → ℕ → List ℕ
+told_before x zero = text_of Absent
+told_before x (suc n) = notes_text (notes_at n (turn All x (state_at x n)).notes)
+
+abbrev pub told : Scenario → Session → Command → List ℕ
+told x s command.Notes = told_before x s.cursor
+told x s (command.Break at) = text_of (answer x s (command.Break at))
+told x s (command.Clear at) = text_of (answer x s (command.Clear at))
+told x s (command.Step n) = text_of (answer x s (command.Step n))
+told x s (command.Back n) = text_of (answer x s (command.Back n))
+told x s (command.Go n) = text_of (answer x s (command.Go n))
+told x s (command.At turn) = text_of (answer x s (command.At turn))
+told x s (command.GoFor n what) = text_of (answer x s (command.GoFor n what))
+told x s (command.BackFor n what) = text_of (answer x s (command.BackFor n what))
+told x s (command.Regs task) = text_of (answer x s (command.Regs task))
+told x s (command.Task task) = text_of (answer x s (command.Task task))
+told x s (command.Irq line) = text_of (answer x s (command.Irq line))
+told x s (command.Device device) = text_of (answer x s (command.Device device))
+told x s (command.Mem at n) = text_of (answer x s (command.Mem at n))
+
+-- of all commands of a session, in order
+abbrev pub told_from : Scenario → Session → List Command → List ℕ
+told_from x s [] = []
+told_from x s (command ∷ rest) = told x s command ++ told_from x (after x s command) rest
+
 -- the whole text of a session
 abbrev pub text : Scenario → List Command → List ℕ
-text x commands = flat_map text_of (answers x commands)
+text x commands = told_from x opened commands

@@ -6,7 +6,8 @@ use Rattle.board_model.specs.Turn.{turned}
 use Rattle.board_core.specs.Breakpoints.{is_hit, hit_of}
 use Rattle.board_core.specs.Data.{Shows}
 use Rattle.debug_core.specs.declared.timeline.Timeline.{Timeline}
-use Rattle.debug_core.specs.Session.{hit_in, state_at}
+use Rattle.debug_core.specs.Runs.{state_at}
+use Rattle.debug_core.specs.Session.{hit_in}
 use Rattle.debug_core.specs.Times.{IsAt}
 
 -- some turns on from one: where the last of them was hit, which task it ran and where its PC was; none before it was

@@ -2,7 +2,10 @@ pub mod Answers
 pub mod Lines
 pub mod Reading
 pub mod Listed
+pub mod Runs
+pub mod Searched
 pub mod Session
 pub mod Times
 pub mod Hits
+pub mod Searches
 pub mod Sessions

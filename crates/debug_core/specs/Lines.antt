@@ -1,11 +1,16 @@
 -- What a line of commands says. docs/FORMATS.md, Commands, has the forms and the causes.
-use Rattle.std.specs.Prelude.{ℕ, ◌==◌, if◌then◌else◌, List, [], ◌∷◌, length, Option, Some, None, Result, Ok, Err, codes, bytes_eq}
+use Rattle.std.specs.Prelude.{ℕ, ◌==◌, ◌||◌, not, Bool, if◌then◌else◌, List, [], ◌∷◌, length, Option, Some, None, Result, Ok, Err, codes, bytes_eq}
 use Rattle.std.specs.List.{list_all}
+use Rattle.std.specs.Option.{option_map, option_or}
 use Rattle.text_lines.specs.Text.{hex_number_of}
 use Rattle.run_script.specs.Words.{is_allowed, words}
 use Rattle.run_script.specs.Statements.{number_within, starts_by_hash}
 use Rattle.debug_core.specs.declared.command.Command.{Command}
-use Rattle.debug_core.specs.declared.command.Command.TheVariants.{Break, Clear, Step, Back, Go, Regs, Mem}
+use Rattle.debug_core.specs.declared.command.Command.TheVariants.{Break, Clear, Step, Back, Go, At, GoFor, BackFor, Notes, Regs, Task, Irq, Device, Mem}
+use Rattle.debug_core.specs.declared.command.NoteKind.{NoteKind}
+use Rattle.debug_core.specs.declared.command.NoteKind.TheVariants as kind
+use Rattle.debug_core.specs.declared.command.Sought.{Sought}
+use Rattle.debug_core.specs.declared.command.Sought.TheVariants as sought
 
 -- a command, or none, or the cause by which the line is refused
 abbrev pub Said : Type 0
@@ -22,6 +27,17 @@ turns_in word = number_within 0 1000000000 word
 
 abbrev pub task_in : List ℕ → Option ℕ
 task_in word = number_within 0 511 word
+
+-- of an interrupt line, and of a device
+abbrev pub line_in : List ℕ → Option ℕ
+line_in word = number_within 0 63 word
+
+abbrev pub device_in : List ℕ → Option ℕ
+device_in word = number_within 0 7 word
+
+-- a number of 32 bits
+abbrev pub number_in : List ℕ → Option ℕ
+number_in word = number_within 0 4294967295 word
 
 abbrev pub length_in : List ℕ → Option ℕ
 length_in word = number_within 1 64 word
@@ -45,13 +61,83 @@ named name word =
     else if bytes_eq name (codes "step") then with_number Step (turns_in word)
     else if bytes_eq name (codes "back") then with_number Back (turns_in word)
     else if bytes_eq name (codes "go") then with_number Go (turns_in word)
+    else if bytes_eq name (codes "at") then with_number At (turns_in word)
     else if bytes_eq name (codes "regs") then with_number Regs (task_in word)
+    else if bytes_eq name (codes "task") then with_number Task (task_in word)
+    else if bytes_eq name (codes "line") then with_number Irq (line_in word)
+    else if bytes_eq name (codes "device") then with_number Device (device_in word)
     else Err 2
 
--- a name and the words behind it: two of `mem`, one of the others
+-- ---- searches: `go` or `back`, a number of turns, and what is sought
+
+-- the kind of note that a word names
+abbrev pub event_kind : List ℕ → Option NoteKind
+event_kind word =
+    if bytes_eq word (codes "tick") then Some kind.Tick
+    else if bytes_eq word (codes "irq") then Some kind.Irq
+    else if bytes_eq word (codes "in") then Some kind.In
+    else if bytes_eq word (codes "out") then Some kind.Out
+    else None
+
+abbrev pub call_kind : List ℕ → Option NoteKind
+call_kind word =
+    if bytes_eq word (codes "call") then Some kind.Call
+    else if bytes_eq word (codes "ret") then Some kind.Ret
+    else if bytes_eq word (codes "offer") then Some kind.Offer
+    else if bytes_eq word (codes "take") then Some kind.Take
+    else if bytes_eq word (codes "borrow") then Some kind.Borrow
+    else if bytes_eq word (codes "close") then Some kind.Close
+    else None
+
+abbrev pub task_kind : List ℕ → Option NoteKind
+task_kind word =
+    if bytes_eq word (codes "post") then Some kind.Post
+    else if bytes_eq word (codes "listen") then Some kind.Listen
+    else if bytes_eq word (codes "fault") then Some kind.Fault
+    else if bytes_eq word (codes "restart") then Some kind.Restart
+    else if bytes_eq word (codes "irqstat") then Some kind.IrqStatus
+    else if bytes_eq word (codes "find") then Some kind.Find
+    else None
+
+abbrev pub kind_in : List ℕ → Option NoteKind
+kind_in word = option_or (event_kind word) (option_or (call_kind word) (task_kind word))
+
+-- a name that no search has is cause 2, and so is a word that no kind has where one stands
+abbrev pub search_said : List ℕ → Option ℕ → Option Sought → Said
+search_said name None what = Err 3
+search_said name (Some turns) None = Err 3
+search_said name (Some turns) (Some what) = if bytes_eq name (codes "go") then Ok (Some (GoFor turns what)) else Ok (Some (BackFor turns what))
+
+abbrev pub is_search : List ℕ → Bool
+is_search name = bytes_eq name (codes "go") || bytes_eq name (codes "back")
+
+abbrev pub kind_said : List ℕ → Option ℕ → Option NoteKind → Said
+kind_said name turns None = Err 2
+kind_said name turns (Some kind) = search_said name turns (Some (sought.Note kind None))
+
+abbrev pub numbered_said : List ℕ → Option ℕ → Option NoteKind → Option ℕ → Said
+numbered_said name turns None number = Err 2
+numbered_said name turns (Some kind) number = search_said name turns (option_map (λ n. sought.Note kind (Some n)) number)
+
+-- a kind without a number, and a kind or a change with one
+abbrev pub search_of_kind : List ℕ → List ℕ → List ℕ → Said
+search_of_kind name turns kind = if is_search name then kind_said name (turns_in turns) (kind_in kind) else Err 2
+
+abbrev pub search_of_number : List ℕ → List ℕ → List ℕ → List ℕ → Said
+search_of_number name turns kind number =
+    if not (is_search name) then Err 2
+    else if bytes_eq kind (codes "change") then search_said name (turns_in turns) (option_map (λ at. sought.Change at) (address_in number))
+    else numbered_said name (turns_in turns) (kind_in kind) (number_in number)
+
+-- ---- a name and the words behind it: none of `notes`, two of `mem`, two or three of a search, one of the others
+abbrev pub two_said : List ℕ → List ℕ → List ℕ → Said
+two_said name one two = if bytes_eq name (codes "mem") then mem_said (address_in one) (length_in two) else search_of_kind name one two
+
 abbrev pub form_said : List ℕ → List (List ℕ) → Said
+form_said name [] = if bytes_eq name (codes "notes") then Ok (Some Notes) else Err 2
 form_said name (word ∷ []) = named name word
-form_said name (at ∷ len ∷ []) = if bytes_eq name (codes "mem") then mem_said (address_in at) (length_in len) else Err 2
+form_said name (one ∷ two ∷ []) = two_said name one two
+form_said name (one ∷ two ∷ three ∷ []) = search_of_number name one two three
 form_said name _ = Err 2
 
 -- ---- the line

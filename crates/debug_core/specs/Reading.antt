@@ -1,9 +1,9 @@
 -- The commands that a text is. docs/FORMATS.md, Commands, has the table of causes.
-use Rattle.std.specs.Prelude.{ℕ, ◌≡◌, ◌≤◌, ◌+◌, nat_lt, if◌then◌else◌, List, [], ◌∷◌, ◌++◌, length, Option, Some, None, Result, Ok, Err}
+use Rattle.std.specs.Prelude.{ℕ, ◌≡◌, ◌≤◌, ◌<◌, ◌+◌, nat_lt, if◌then◌else◌, List, [], ◌∷◌, ◌++◌, length, Option, Some, None, Result, Ok, Err}
 use Rattle.text_lines.specs.Text.{lines_of}
 use Rattle.run_script.specs.Scripts.{Refusal}
 use Rattle.debug_core.specs.declared.command.Command.{Command}
-use Rattle.debug_core.specs.declared.command.Command.TheVariants.{Mem}
+use Rattle.debug_core.specs.declared.command.Command.TheVariants.{At, Irq, Mem}
 use Rattle.debug_core.specs.declared.command.CommandFault.{CommandFault}
 use Rattle.debug_core.specs.declared.command.CommandFault.TheVariants as fault
 use Rattle.debug_core.specs.Lines.{Said, said}
@@ -28,9 +28,13 @@ with_lines commands number (line ∷ lines) =
 abbrev pub commands_or_fault : List ℕ → Result (List Command) Refusal
 commands_or_fault bytes = with_lines [] 1 (lines_of bytes)
 
--- it asks for 64 bytes at most
+-- its numbers are in the ranges of their forms: at most 64 bytes, lines 0 to 63, turns up to 1000000000
 abbrev pub AsksForFew : Command → Type 0
-AsksForFew command = (at len : ℕ) → command ≡ Mem at len → len ≤ 64
+AsksForFew command = record {
+  bytes : (at len : ℕ) → command ≡ Mem at len → len ≤ 64;
+  line : (number : ℕ) → command ≡ Irq number → number < 64;
+  turn : (turn : ℕ) → command ≡ At turn → turn ≤ 1000000000;
+}
 
 -- ---- faults
 

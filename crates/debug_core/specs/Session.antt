@@ -1,21 +1,16 @@
 -- A session with a run: a cursor, which is a turn, and breakpoints (docs/FORMATS.md, Commands).
-use Rattle.std.specs.Prelude.{ℕ, ◌+◌, ◌-◌, ◌==◌, Bool, not, List, [], ◌∷◌, ◌++◌, length, min, filter, find, Option, Some, None, if◌then◌else◌, nat_lt}
+use Rattle.std.specs.Prelude.{ℕ, ◌+◌, ◌-◌, ◌==◌, Bool, not, List, [], ◌∷◌, ◌++◌, length, filter, find, Option, Some, None, if◌then◌else◌, nat_lt}
 use Rattle.std.specs.List.{range_with_len}
-use Rattle.task_table.specs.State.{State}
-use Rattle.board_model.specs.declared.outcomes.End.{End}
-use Rattle.board_model.specs.declared.outcomes.Level.TheVariants.{Calls}
-use Rattle.board_model.specs.Cut.{cut_at}
-use Rattle.board_model.specs.Run.{ending}
-use Rattle.board_model.specs.Script.{Scenario, start_of}
+use Rattle.board_model.specs.Script.{Scenario}
 use Rattle.board_model.specs.Turn.{turned}
 use Rattle.board_core.specs.Breakpoints.{stands, is_hit}
 use Rattle.debug_core.specs.declared.command.Command.{Command}
-use Rattle.debug_core.specs.declared.command.Command.TheVariants.{Break, Clear, Step, Back, Go, Regs, Mem}
+use Rattle.debug_core.specs.declared.command.Command.TheVariants.{Break, Clear, Step, Back, Go, At, GoFor, BackFor, Notes, Regs, Task, Irq, Device, Mem}
+use Rattle.debug_core.specs.declared.command.Sought.{Sought}
+use Rattle.debug_core.specs.Runs.{forward, state_at}
+use Rattle.debug_core.specs.Searched.{can_be, first_found, last_found}
 
--- the turns of a run, and the breakpoints, at most
-abbrev pub most_turns : ℕ
-most_turns = 1000000000
-
+-- the breakpoints, at most
 abbrev pub most_breakpoints : ℕ
 most_breakpoints = 16
 
@@ -25,20 +20,6 @@ pub record Session : Type 0 where
 
 abbrev pub opened : Session
 opened = record { cursor = 0; breakpoints = [] }
-
--- ---- the run
-
--- where the run from the start stands before a turn, or at its end where that comes first
-abbrev pub state_at : Scenario → ℕ → State
-state_at x turn = cut_at Calls x turn (start_of x)
-
--- why the run ends at a turn, where it does
-abbrev pub end_here : Scenario → ℕ → Option End
-end_here x turn = ending x (most_turns - turn) (state_at x turn)
-
--- so many turns on from a cursor, at most to the end of the run
-abbrev pub forward : Scenario → ℕ → ℕ → ℕ
-forward x cursor n = (state_at x (min (cursor + n) most_turns)).turn
 
 -- ---- breakpoints
 
@@ -62,12 +43,30 @@ hit_in x breakpoints from n = find (λ turn. is_hit breakpoints (turned x (state
 abbrev pub hit_from : Scenario → Session → ℕ → Option ℕ
 hit_from x s n = hit_in x s.breakpoints s.cursor (forward x s.cursor n - s.cursor)
 
+-- ---- searches
+
+-- the first of so many turns on from the cursor in which it is found, and the last of so many back
+abbrev pub ahead : Scenario → Session → ℕ → Sought → Option ℕ
+ahead x s n what = first_found x what s.cursor (forward x s.cursor n - s.cursor)
+
+abbrev pub behind : Scenario → Session → ℕ → Sought → Option ℕ
+behind x s n what = last_found x what (s.cursor - n) (s.cursor - (s.cursor - n))
+
 -- ---- what a command leaves
 
--- the cursor behind the turn that was hit; where none was, so many turns on
+-- the cursor behind the turn that was hit or found; where none was, so many turns on
 abbrev pub gone : Scenario → Session → ℕ → Option ℕ → ℕ
 gone x s n (Some turn) = turn + 1
 gone x s n None = forward x s.cursor n
+
+-- before the turn that was found; where none was, so many turns back
+abbrev pub gone_back : Session → ℕ → Option ℕ → ℕ
+gone_back s n (Some turn) = turn
+gone_back s n None = s.cursor - n
+
+-- it stays where there can be no such turn
+abbrev pub if_there : Scenario → Session → Sought → ℕ → ℕ
+if_there x s what cursor = if can_be what (state_at x s.cursor).memory then cursor else s.cursor
 
 abbrev pub after : Scenario → Session → Command → Session
 after x s (Break at) = record s { breakpoints = with_breakpoint s.breakpoints at }
@@ -75,5 +74,12 @@ after x s (Clear at) = record s { breakpoints = others s.breakpoints at }
 after x s (Step n) = record s { cursor = forward x s.cursor n }
 after x s (Back n) = record s { cursor = s.cursor - n }
 after x s (Go n) = record s { cursor = gone x s n (hit_from x s n) }
+after x s (At turn) = record s { cursor = forward x 0 turn }
+after x s (GoFor n what) = record s { cursor = if_there x s what (gone x s n (ahead x s n what)) }
+after x s (BackFor n what) = record s { cursor = if_there x s what (gone_back s n (behind x s n what)) }
+after x s Notes = s
 after x s (Regs task) = s
+after x s (Task task) = s
+after x s (Irq line) = s
+after x s (Device device) = s
 after x s (Mem at n) = s

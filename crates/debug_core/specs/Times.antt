@@ -10,7 +10,7 @@ use Rattle.board_core.specs.Stands.{Stands}
 use Rattle.snapshot.specs.Saved.{SpellsState}
 use Rattle.debug_core.specs.declared.timeline.Checkpoint.{Checkpoint}
 use Rattle.debug_core.specs.declared.timeline.Timeline.{Timeline}
-use Rattle.debug_core.specs.Session.{most_turns, state_at}
+use Rattle.debug_core.specs.Runs.{most_turns, state_at}
 
 -- bytes are what a board that stands at a turn of the run is saved as
 pub record IsSaved (x : Scenario) (turn : ℕ) (bytes : List ℕ) : Type 0 where

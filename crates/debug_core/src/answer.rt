@@ -1,7 +1,9 @@
 //! What is answered to a command.
 
 use arrayvec::ArrayVec;
+use board_core::TaskView;
 use board_model::End;
+use kernel_abi::{Kind, Note};
 use words_core::Flags;
 
 /// An answer (docs/FORMATS.md, Commands).
@@ -17,7 +19,7 @@ pub enum Answer {
     Cleared {
         at: u32,
     },
-    /// There is no such breakpoint, task or byte.
+    /// There is no such breakpoint, task, interrupt line, device or byte, or no turn before.
     Absent,
     /// The cursor, the time there in ticks, and why the run ends there, where it does.
     At {
@@ -31,10 +33,44 @@ pub enum Answer {
         task: u16,
         at: u32,
     },
+    /// The first note of a turn that was sought, and that turn.
+    Told {
+        turn: u32,
+        note: Note,
+    },
+    /// A turn that changed a byte, the task that ran in it, and what the byte was and is.
+    Changed {
+        turn: u32,
+        task: Option<u16>,
+        at: u32,
+        old: u8,
+        new: u8,
+    },
     /// The registers of a task.
     Registers {
         words: [u32; 16],
         flags: Flags,
+    },
+    /// How a task is.
+    Task {
+        task: u16,
+        view: TaskView,
+    },
+    /// Whose an interrupt line is, with which bits, and how it is.
+    Irq {
+        line: u8,
+        owner: u16,
+        bits: u32,
+        enabled: bool,
+        pending: bool,
+    },
+    /// How a device is: the bytes are the first 64 that wait in it.
+    Device {
+        device: u8,
+        kind: Kind,
+        base: u32,
+        count: u32,
+        queue: ArrayVec<u8, 64>,
     },
     /// Bytes from an address on.
     Bytes {

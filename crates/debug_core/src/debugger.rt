@@ -1,30 +1,35 @@
 //! Commands carried out, one after the other.
 
-ghost use Rattle.std.specs.Prelude.{ℕ, ◌≡◌, ◌≤◌, ◌+◌, ◌-◌, min, IfOk};
+ghost use Rattle.std.specs.Prelude.{ℕ, ◌≡◌, ◌≤◌, ◌<◌, ◌+◌, ◌-◌, ◌==◌, find, map, min, IfOk};
+ghost use Rattle.std.specs.Option.{option_map};
+ghost use Rattle.task_table.specs.Parts.{line_setup};
 ghost use Rattle.task_table.specs.State.{State};
-ghost use Rattle.std.specs.List.{flat_map};
 ghost use Rattle.mem_banks.specs.Memory.{byte_at};
 ghost use Rattle.outside_io.specs.Outside.{Pushes, HasCause};
 ghost use Rattle.board_model.specs.Script.{Scenario, start_of};
 ghost use Rattle.board_core.specs.Data.{boxed};
 ghost use Rattle.board_core.specs.Stands.{Stands};
-ghost use Rattle.debug_core.specs.Answers.{answer, answers_from, at_turn, bytes_from, registers_of, text_of};
+ghost use Rattle.debug_core.specs.Answers.{answer, at_turn, bytes_from, device_of, irq_of, registers_of, task_of, told, told_before, told_from};
 ghost use Rattle.debug_core.specs.Listed.{listed};
 ghost use Rattle.debug_core.specs.Reading.{AsksForFew};
-ghost use Rattle.debug_core.specs.Session.{Session, after, opened, state_at};
+ghost use Rattle.debug_core.specs.Runs.{forward, state_at};
+ghost use Rattle.debug_core.specs.Session.{Session, after, opened};
 ghost use Rattle.debug_core.specs.Sessions.{IsSession};
 ghost use Rattle.debug_core.specs.Times.{IsAt};
 
 use crate::answer::Answer;
 use crate::breakpoints::{Breakpoints, clear, set};
-use crate::command::Command;
+use crate::command::{Command, Sought};
 use crate::commands::Commands;
 use crate::text::push_answer;
 use crate::timeline::Timeline;
 use arrayvec::ArrayVec;
 use board_core::Board;
+use board_run::push_notes;
 use outside_io::{Failed, Sink};
 use std::alloc::{AllocError, Global};
+use task_table::LineStart;
+use trace_text::TurnLines;
 
 /// A run has at most so many turns.
 const TURNS: u32 = 1_000_000_000;
@@ -48,6 +53,19 @@ fn here(timeline: &Timeline) -> Answer
     }
 }
 
+/// To a turn, forwards or back, or to the end of the run before it.
+fn to_turn(timeline: &mut Timeline, turn: u32)
+    requires from { (x : Scenario) × (cursor : ℕ) × IsAt (boxed shown) x timeline.old cursor }
+    requires few { turn ≤ 1000000000 }
+    ensures { (x : Scenario) (cursor : ℕ) → IsAt (boxed shown) x timeline.old cursor → IsAt (boxed shown) x timeline.new (forward x 0 turn) }
+{
+    if turn < timeline.board.turns() {
+        timeline.back_to(turn);
+    } else {
+        timeline.go_to(turn);
+    }
+}
+
 fn registers(timeline: &Timeline, task: u16) -> Answer
     ensures { (x : Scenario) (turn : ℕ) → IsAt (boxed shown) x timeline.now turn → result ≡ registers_of (state_at x turn) task }
 {
@@ -60,6 +78,61 @@ fn registers(timeline: &Timeline, task: u16) -> Answer
                 flags: view.flags,
             }
         }
+    }
+}
+
+fn task(timeline: &Timeline, task: u16) -> Answer
+    ensures { (x : Scenario) (turn : ℕ) → IsAt (boxed shown) x timeline.now turn → result ≡ task_of (state_at x turn) task }
+{
+    match timeline.board.task(usize::from(task)) {
+        None => Answer::Absent,
+        Some(view) => Answer::Task { task, view },
+    }
+}
+
+/// Who owns an interrupt line, and with which bits.
+fn owner_of(owners: &[LineStart], line: u8) -> Option<(u16, u32)>
+    ensures { result ≡ option_map (λ l. (l.owner, l.bits)) (find (λ l. l.line == line) (map line_setup owners.now)) }
+{
+    for start in owners {
+        if start.line == line {
+            return Some((start.task, start.bits));
+        }
+    }
+    None
+}
+
+fn irq(board: &Board, line: u8) -> Answer
+    requires { line < 64 }
+    ensures { (x : Scenario) (s : State) → Stands (boxed shown) x board.now s → result ≡ irq_of x.setup s line }
+{
+    let Some((owner, bits)) = owner_of(board.owners(), line) else {
+        return Answer::Absent;
+    };
+    let Some((enabled, pending)) = board.irq_line(usize::from(line)) else {
+        return Answer::Absent;
+    };
+    Answer::Irq {
+        line,
+        owner,
+        bits,
+        enabled,
+        pending,
+    }
+}
+
+fn device(board: &Board, device: u8) -> Answer
+    ensures { (x : Scenario) (s : State) → Stands (boxed shown) x board.now s → result ≡ device_of s device }
+{
+    match board.device(usize::from(device)) {
+        None => Answer::Absent,
+        Some(view) => Answer::Device {
+            device,
+            kind: view.kind,
+            base: view.base,
+            count: view.count,
+            queue: view.queue,
+        },
     }
 }
 
@@ -152,6 +225,46 @@ impl Debugger {
         }
     }
 
+    fn at(&mut self, turn: u32) -> Answer
+        requires session { (x : Scenario) × (s : Session) × IsSession (boxed shown) x self.old s }
+        requires few { turn ≤ 1000000000 }
+        ensures answer { (x : Scenario) (s : Session) → IsSession (boxed shown) x self.old s → result ≡ answer x s (Command.At turn) }
+        ensures session { (x : Scenario) (s : Session) → IsSession (boxed shown) x self.old s → IsSession (boxed shown) x self.new (after x s (Command.At turn)) }
+    {
+        to_turn(&mut self.timeline, turn);
+        here(&self.timeline)
+    }
+
+    fn go_for(&mut self, turns: u32, sought: &Sought) -> Answer
+        requires { (x : Scenario) × (s : Session) × IsSession (boxed shown) x self.old s }
+        ensures answer { (x : Scenario) (s : Session) → IsSession (boxed shown) x self.old s → result ≡ answer x s (Command.GoFor turns sought.now) }
+        ensures session { (x : Scenario) (s : Session) → IsSession (boxed shown) x self.old s → IsSession (boxed shown) x self.new (after x s (Command.GoFor turns sought.now)) }
+    {
+        if !self.timeline.can_find(sought) {
+            return Answer::Absent;
+        }
+        let to = self.limit(turns);
+        match self.timeline.go_for(sought, to) {
+            None => here(&self.timeline),
+            Some(answer) => answer,
+        }
+    }
+
+    fn back_for(&mut self, turns: u32, sought: &Sought) -> Answer
+        requires { (x : Scenario) × (s : Session) × IsSession (boxed shown) x self.old s }
+        ensures answer { (x : Scenario) (s : Session) → IsSession (boxed shown) x self.old s → result ≡ answer x s (Command.BackFor turns sought.now) }
+        ensures session { (x : Scenario) (s : Session) → IsSession (boxed shown) x self.old s → IsSession (boxed shown) x self.new (after x s (Command.BackFor turns sought.now)) }
+    {
+        if !self.timeline.can_find(sought) {
+            return Answer::Absent;
+        }
+        let to = earlier(self.timeline.board.turns(), turns);
+        match self.timeline.back_for(sought, to) {
+            None => here(&self.timeline),
+            Some(answer) => answer,
+        }
+    }
+
     /// What a command does, and its answer.
     fn carry_out(&mut self, command: &Command) -> Answer
         requires session { (x : Scenario) × (s : Session) × IsSession (boxed shown) x self.old s }
@@ -165,9 +278,48 @@ impl Debugger {
             Command::Step { turns } => self.step(*turns),
             Command::Back { turns } => self.back(*turns),
             Command::Go { turns } => self.go(*turns),
+            Command::At { turn } => self.at(*turn),
+            Command::GoFor { turns, sought } => self.go_for(*turns, sought),
+            Command::BackFor { turns, sought } => self.back_for(*turns, sought),
+            Command::Notes => Answer::Absent,
             Command::Regs { task } => registers(&self.timeline, *task),
+            Command::Task { task: i } => task(&self.timeline, *i),
+            Command::Irq { line } => irq(&self.timeline.board, *line),
+            Command::Device { device: k } => device(&self.timeline.board, *k),
             Command::Mem { at, len } => bytes(&self.timeline.board, *at, *len),
         }
+    }
+
+    /// What is noted of the turn before the cursor, with each instruction, a line a push.
+    fn push_notes<S: Sink>(&mut self, out: &mut S) -> Result<(), Failed>
+        requires { (x : Scenario) × (s : Session) × IsSession (boxed shown) x self.old s }
+        ensures told { (x : Scenario) (s : Session) → IsSession (boxed shown) x self.old s → Pushes (S.seen out.old).written (S.seen out.new).written (told_before x s.cursor) result }
+        ensures session { (x : Scenario) (s : Session) → IsSession (boxed shown) x self.old s → IsSession (boxed shown) x self.new s }
+        ensures cause { HasCause (S.seen out.old).faults (S.seen out.new).faults result }
+    {
+        match self.timeline.board.turns().checked_sub(1) {
+            None => push_answer(&Answer::Absent, out),
+            Some(turn) => {
+                self.timeline.back_to(turn);
+                self.timeline.make_turn();
+                let mut lines = TurnLines::new(turn);
+                push_notes(turn, self.timeline.board.notes(), &mut lines, out)
+            }
+        }
+    }
+
+    fn push_told<S: Sink>(&mut self, command: &Command, out: &mut S) -> Result<(), Failed>
+        requires session { (x : Scenario) × (s : Session) × IsSession (boxed shown) x self.old s }
+        requires few { AsksForFew command.now }
+        ensures told { (x : Scenario) (s : Session) → IsSession (boxed shown) x self.old s → Pushes (S.seen out.old).written (S.seen out.new).written (told x s command.now) result }
+        ensures session { (x : Scenario) (s : Session) → IsSession (boxed shown) x self.old s → IsSession (boxed shown) x self.new (after x s command.now) }
+        ensures cause { HasCause (S.seen out.old).faults (S.seen out.new).faults result }
+    {
+        if let Command::Notes = command {
+            return self.push_notes(out);
+        }
+        let answer = self.carry_out(command);
+        push_answer(&answer, out)
     }
 
     /// A command is carried out, and its answer pushed, a line a push, and passed on. It takes no memory.
@@ -178,12 +330,11 @@ impl Debugger {
     pub fn command<S: Sink>(&mut self, command: &Command, out: &mut S) -> Result<(), Failed>
         requires session { (x : Scenario) × (s : Session) × IsSession (boxed shown) x self.old s }
         requires few { AsksForFew command.now }
-        ensures answer { (x : Scenario) (s : Session) → IsSession (boxed shown) x self.old s → Pushes (S.seen out.old).written (S.seen out.new).written (text_of (answer x s command.now)) result }
+        ensures told { (x : Scenario) (s : Session) → IsSession (boxed shown) x self.old s → Pushes (S.seen out.old).written (S.seen out.new).written (told x s command.now) result }
         ensures session { (x : Scenario) (s : Session) → IsSession (boxed shown) x self.old s → IsSession (boxed shown) x self.new (after x s command.now) }
         ensures cause { HasCause (S.seen out.old).faults (S.seen out.new).faults result }
     {
-        let answer = self.carry_out(command);
-        push_answer(&answer, out)?;
+        self.push_told(command, out)?;
         out.flush()
     }
 
@@ -195,7 +346,7 @@ impl Debugger {
     /// Only where a push or a flush failed. No further command is carried out.
     pub fn carry_out_all<S: Sink>(&mut self, commands: &Commands, out: &mut S) -> Result<(), Failed>
         requires session { (x : Scenario) × (s : Session) × IsSession (boxed shown) x self.old s }
-        ensures told { (x : Scenario) (s : Session) → IsSession (boxed shown) x self.old s → Pushes (S.seen out.old).written (S.seen out.new).written (flat_map text_of (answers_from x s (listed commands.now))) result }
+        ensures told { (x : Scenario) (s : Session) → IsSession (boxed shown) x self.old s → Pushes (S.seen out.old).written (S.seen out.new).written (told_from x s (listed commands.now)) result }
         ensures cause { HasCause (S.seen out.old).faults (S.seen out.new).faults result }
     {
         for command in commands.as_slice() {

@@ -6,11 +6,14 @@ mod breakpoints;
 mod command;
 mod commands;
 mod debugger;
+mod laws;
 mod line;
+mod searching;
 mod text;
 mod timeline;
 
 pub use answer::Answer;
-pub use command::{Command, CommandFault};
+pub use command::{Command, CommandFault, NoteKind, Sought};
 pub use commands::Commands;
 pub use debugger::Debugger;
+pub use laws::{the_turn_that_was_found_is_why, there_and_back, what_is_found_is_told};

@@ -2,9 +2,9 @@
 
 ghost use Rattle.std.specs.Prelude.{◌≡◌, ◌∷◌, []};
 ghost use Rattle.run_script.specs.Words.{words};
-ghost use Rattle.debug_core.specs.Lines.{address_in, form_said, length_in, mem_said, named, said, task_in, turns_in, words_said};
+ghost use Rattle.debug_core.specs.Lines.{address_in, call_kind, device_in, event_kind, form_said, is_search, kind_in, kind_said, length_in, line_in, mem_said, named, number_in, numbered_said, said, search_of_kind, search_of_number, search_said, task_in, task_kind, turns_in, two_said, words_said};
 
-use crate::command::Command;
+use crate::command::{Command, NoteKind, Sought};
 use run_script::{are_allowed, first_word, number_within, starts_by_hash};
 use text_lines::hex_number;
 
@@ -32,6 +32,30 @@ fn task_in(word: &[u8]) -> Option<u16>
         None => None,
         Some(task) => Some(task as u16),
     }
+}
+
+fn line_in(word: &[u8]) -> Option<u8>
+    ensures { result ≡ line_in word.now }
+{
+    match number_within(word, 0, 63) {
+        None => None,
+        Some(line) => Some(line as u8),
+    }
+}
+
+fn device_in(word: &[u8]) -> Option<u8>
+    ensures { result ≡ device_in word.now }
+{
+    match number_within(word, 0, 7) {
+        None => None,
+        Some(device) => Some(device as u8),
+    }
+}
+
+fn number_in(word: &[u8]) -> Option<u32>
+    ensures { result ≡ number_in word.now }
+{
+    number_within(word, 0, u32::MAX)
 }
 
 fn length_in(word: &[u8]) -> Option<u8>
@@ -71,30 +95,220 @@ fn named(name: &[u8], word: &[u8]) -> Result<Option<Command>, u8>
     } else if name == b"go".as_slice() {
         let turns = turns_in(word).ok_or(3)?;
         Command::Go { turns }
+    } else if name == b"at".as_slice() {
+        let turn = turns_in(word).ok_or(3)?;
+        Command::At { turn }
     } else if name == b"regs".as_slice() {
         let task = task_in(word).ok_or(3)?;
         Command::Regs { task }
+    } else if name == b"task".as_slice() {
+        let task = task_in(word).ok_or(3)?;
+        Command::Task { task }
+    } else if name == b"line".as_slice() {
+        let line = line_in(word).ok_or(3)?;
+        Command::Irq { line }
+    } else if name == b"device".as_slice() {
+        let device = device_in(word).ok_or(3)?;
+        Command::Device { device }
     } else {
         return Err(2);
     };
     Ok(Some(command))
 }
 
-/// A name and the words behind it: two of `mem`, one of the others.
+/// What comes from outside or of itself.
+fn event_kind(word: &[u8]) -> Option<NoteKind>
+    ensures { result ≡ event_kind word.now }
+{
+    if word == b"tick".as_slice() {
+        Some(NoteKind::Tick)
+    } else if word == b"irq".as_slice() {
+        Some(NoteKind::Irq)
+    } else if word == b"in".as_slice() {
+        Some(NoteKind::In)
+    } else if word == b"out".as_slice() {
+        Some(NoteKind::Out)
+    } else {
+        None
+    }
+}
+
+/// What is told of calls.
+fn call_kind(word: &[u8]) -> Option<NoteKind>
+    ensures { result ≡ call_kind word.now }
+{
+    if word == b"call".as_slice() {
+        Some(NoteKind::Call)
+    } else if word == b"ret".as_slice() {
+        Some(NoteKind::Ret)
+    } else if word == b"offer".as_slice() {
+        Some(NoteKind::Offer)
+    } else if word == b"take".as_slice() {
+        Some(NoteKind::Take)
+    } else if word == b"borrow".as_slice() {
+        Some(NoteKind::Borrow)
+    } else if word == b"close".as_slice() {
+        Some(NoteKind::Close)
+    } else {
+        None
+    }
+}
+
+/// What else is told of tasks.
+fn task_kind(word: &[u8]) -> Option<NoteKind>
+    ensures { result ≡ task_kind word.now }
+{
+    if word == b"post".as_slice() {
+        Some(NoteKind::Post)
+    } else if word == b"listen".as_slice() {
+        Some(NoteKind::Listen)
+    } else if word == b"fault".as_slice() {
+        Some(NoteKind::Fault)
+    } else if word == b"restart".as_slice() {
+        Some(NoteKind::Restart)
+    } else if word == b"irqstat".as_slice() {
+        Some(NoteKind::IrqStatus)
+    } else if word == b"find".as_slice() {
+        Some(NoteKind::Find)
+    } else {
+        None
+    }
+}
+
+/// The kind that a word names.
+fn kind_in(word: &[u8]) -> Option<NoteKind>
+    ensures { result ≡ kind_in word.now }
+{
+    event_kind(word).or(call_kind(word).or(task_kind(word)))
+}
+
+fn is_search(name: &[u8]) -> bool
+    ensures { result ≡ is_search name.now }
+{
+    name == b"go".as_slice() || name == b"back".as_slice()
+}
+
+/// A search by its name, `go` or else `back`.
+fn search_said(
+    name: &[u8],
+    turns: Option<u32>,
+    sought: Option<Sought>,
+) -> Result<Option<Command>, u8>
+    ensures { result ≡ search_said name.now turns sought }
+{
+    let turns = turns.ok_or(3)?;
+    let sought = sought.ok_or(3)?;
+    if name == b"go".as_slice() {
+        Ok(Some(Command::GoFor { turns, sought }))
+    } else {
+        Ok(Some(Command::BackFor { turns, sought }))
+    }
+}
+
+/// A search for any note of a kind.
+fn kind_said(name: &[u8], turns: Option<u32>, kind: Option<NoteKind>) -> Result<Option<Command>, u8>
+    ensures { result ≡ kind_said name.now turns kind }
+{
+    let kind = kind.ok_or(2)?;
+    let sought = Sought::Note { kind, number: None };
+    search_said(name, turns, Some(sought))
+}
+
+/// A search for a note of a kind with a number.
+fn numbered_said(
+    name: &[u8],
+    turns: Option<u32>,
+    kind: Option<NoteKind>,
+    number: Option<u32>,
+) -> Result<Option<Command>, u8>
+    ensures { result ≡ numbered_said name.now turns kind number }
+{
+    let kind = kind.ok_or(2)?;
+    let sought = number.map(|n| Sought::Note {
+        kind,
+        number: Some(n),
+    });
+    search_said(name, turns, sought)
+}
+
+/// A name with two words behind it that are turns and a kind.
+fn search_of_kind(name: &[u8], turns: &[u8], kind: &[u8]) -> Result<Option<Command>, u8>
+    ensures { result ≡ search_of_kind name.now turns.now kind.now }
+{
+    if is_search(name) {
+        kind_said(name, turns_in(turns), kind_in(kind))
+    } else {
+        Err(2)
+    }
+}
+
+/// A name with three words behind it: turns, a kind or `change`, and a number or an address.
+fn search_of_number(
+    name: &[u8],
+    turns: &[u8],
+    kind: &[u8],
+    number: &[u8],
+) -> Result<Option<Command>, u8>
+    ensures { result ≡ search_of_number name.now turns.now kind.now number.now }
+{
+    if !is_search(name) {
+        Err(2)
+    } else if kind == b"change".as_slice() {
+        let sought = address_in(number).map(|at| Sought::Change { at });
+        search_said(name, turns_in(turns), sought)
+    } else {
+        numbered_said(name, turns_in(turns), kind_in(kind), number_in(number))
+    }
+}
+
+fn two_said(name: &[u8], one: &[u8], two: &[u8]) -> Result<Option<Command>, u8>
+    ensures { result ≡ two_said name.now one.now two.now }
+{
+    if name == b"mem".as_slice() {
+        mem_said(one, two)
+    } else {
+        search_of_kind(name, one, two)
+    }
+}
+
+/// A name with no word behind it.
+fn alone(name: &[u8]) -> Result<Option<Command>, u8>
+    ensures { result ≡ form_said name.now [] }
+{
+    if name == b"notes".as_slice() {
+        Ok(Some(Command::Notes))
+    } else {
+        Err(2)
+    }
+}
+
+/// A name with two words and more behind it.
+fn two_or_more(name: &[u8], one: &[u8], two: &[u8], text: &[u8]) -> Result<Option<Command>, u8>
+    ensures { result ≡ form_said name.now (one.now ∷ two.now ∷ words text.now) }
+{
+    let (three, behind) = first_word(text);
+    let (four, _behind) = first_word(behind);
+    if three.is_empty() {
+        two_said(name, one, two)
+    } else if four.is_empty() {
+        search_of_number(name, one, two, three)
+    } else {
+        Err(2)
+    }
+}
+
+/// A name and the words behind it: none of `notes`, two of `mem`, two or three of a search, one of the others.
 fn form_said(name: &[u8], text: &[u8]) -> Result<Option<Command>, u8>
     ensures { result ≡ form_said name.now (words text.now) }
 {
-    let (first, behind) = first_word(text);
-    let (second, behind) = first_word(behind);
-    let (third, _behind) = first_word(behind);
-    if first.is_empty() {
-        Err(2)
-    } else if second.is_empty() {
-        named(name, first)
-    } else if third.is_empty() && name == b"mem".as_slice() {
-        mem_said(first, second)
+    let (one, behind) = first_word(text);
+    let (two, behind) = first_word(behind);
+    if one.is_empty() {
+        alone(name)
+    } else if two.is_empty() {
+        named(name, one)
     } else {
-        Err(2)
+        two_or_more(name, one, two, behind)
     }
 }
 

@@ -1,19 +1,20 @@
 //! The text of an answer, a push a line.
 
-ghost use Rattle.std.specs.Prelude.{◌≡◌, ◌≤◌, ◌+◌, ◌*◌, ◌++◌, [], codes, decimal, length};
+ghost use Rattle.std.specs.Prelude.{◌≡◌, ◌≤◌, ◌+◌, ◌*◌, ◌++◌, ◌∷◌, [], codes, decimal, length};
 ghost use Rattle.std.specs.List.{flat_map};
 ghost use Rattle.arrayvec.specs.ArrayString.{array_string_len};
 ghost use Rattle.outside_io.specs.Outside.{Pushes, HasCause};
-ghost use Rattle.trace_text.specs.Text.{byte_hex, hex};
+ghost use Rattle.trace_text.specs.Text.{bit as bit_digit, byte_hex, hex, line_of};
 ghost use Rattle.board_run.specs.Text.{low_text, high_text};
-ghost use Rattle.debug_core.specs.Answers.{address_line, at_line, bytes_line, end_word, hit_line, text_of};
+ghost use Rattle.debug_core.specs.Answers.{address_line, at_line, bytes_line, change_line, device_line, end_word, hit_line, irq_line, kind_words, text_of};
 
 use crate::answer::Answer;
 use arrayvec::ArrayString;
 use board_core::End;
-use board_run::{end_name, push_high, push_low};
+use board_run::{end_name, push_high, push_low, push_notes, push_task_line};
+use kernel_abi::{Kind, Note};
 use outside_io::{Failed, Sink};
-use trace_text::{push_byte, push_decimal, push_hex};
+use trace_text::{TurnLines, push_byte, push_decimal, push_hex, push_spaced_hex};
 use words_core::Flags;
 
 type Line = ArrayString<160>;
@@ -98,6 +99,106 @@ fn push_registers<S: Sink>(words: &[u32; 16], flags: Flags, out: &mut S) -> Resu
     push_high(words, flags, out)
 }
 
+/// A note of a turn, in its line.
+fn push_note<S: Sink>(turn: u32, note: &Note, out: &mut S) -> Result<(), Failed>
+    ensures bytes { Pushes (S.seen out.old).written (S.seen out.new).written (line_of turn note.now) result }
+    ensures cause { HasCause (S.seen out.old).faults (S.seen out.new).faults result }
+{
+    let mut lines = TurnLines::new(turn);
+    push_notes(turn, &[*note], &mut lines, out)
+}
+
+#[tactic(auto, unfolding(crate::specs::Answers::change_line))]
+fn change_line(turn: u32, task: Option<u16>, at: u32, old: u8, new: u8, line: &mut Line)
+    requires { line.old.bytes ≡ [] }
+    ensures { line.new.bytes ≡ change_line turn task at old new }
+{
+    push_decimal(line, u64::from(turn));
+    line.push_str(" change ");
+    match task {
+        None => line.push_str("-"),
+        Some(task) => push_decimal(line, u64::from(task)),
+    }
+    line.push_str(" ");
+    push_hex(line, at);
+    line.push_str(" ");
+    push_byte(line, old);
+    line.push_str(" ");
+    push_byte(line, new);
+    line.push_str("\n");
+}
+
+/// A 0 or a 1 behind a blank.
+fn push_bit(line: &mut Line, bit: bool)
+    requires { array_string_len line.old + 2 ≤ 160 }
+    ensures bytes { line.new.bytes ≡ line.old.bytes ++ 32 ∷ bit_digit bit ∷ [] }
+    ensures len { array_string_len line.new ≡ array_string_len line.old + 2 }
+{
+    line.push_str(if bit { " 1" } else { " 0" });
+}
+
+/// The two bits are whether it is enabled, and whether it is pending.
+#[tactic(auto, unfolding(crate::specs::Answers::irq_line))]
+fn irq_line(number: u8, owner: u16, bits: u32, state: (bool, bool), line: &mut Line)
+    requires { line.old.bytes ≡ [] }
+    ensures { line.new.bytes ≡ irq_line number owner bits state.0 state.1 }
+{
+    line.push_str("line ");
+    push_decimal(line, u64::from(number));
+    line.push_str(" ");
+    push_decimal(line, u64::from(owner));
+    push_spaced_hex(line, bits);
+    push_bit(line, state.0);
+    push_bit(line, state.1);
+    line.push_str("\n");
+}
+
+/// A number of at most three digits.
+fn push_small(n: u8, line: &mut Line)
+    requires { array_string_len line.old + 20 ≤ 160 }
+    ensures bytes { line.new.bytes ≡ line.old.bytes ++ decimal n }
+    ensures len { array_string_len line.new ≤ array_string_len line.old + 3 }
+{
+    push_decimal(line, u64::from(n));
+}
+
+/// What a port has, or how much a console was given.
+fn push_kind(kind: Kind, count: u32, queue: &[u8], line: &mut Line)
+    requires few { length queue.now ≤ 64 }
+    requires room { array_string_len line.old + 139 ≤ 160 }
+    ensures bytes { line.new.bytes ≡ line.old.bytes ++ kind_words kind count queue.now }
+    ensures len { array_string_len line.new ≤ array_string_len line.old + 137 }
+{
+    match kind {
+        Kind::Console => {
+            line.push_str("console ");
+            push_decimal(line, u64::from(count));
+        }
+        Kind::Port => {
+            line.push_str("port ");
+            push_small(queue.len() as u8, line);
+            if !queue.is_empty() {
+                line.push_str(" ");
+                push_bytes(queue, line);
+            }
+        }
+    }
+}
+
+#[tactic(auto, unfolding(crate::specs::Answers::device_line))]
+fn device_line(device: u8, kind: Kind, base: u32, count: u32, queue: &[u8], line: &mut Line)
+    requires empty { line.old.bytes ≡ [] }
+    requires few { length queue.now ≤ 64 }
+    ensures { line.new.bytes ≡ device_line device kind base count queue.now }
+{
+    line.push_str("device ");
+    push_small(device, line);
+    push_spaced_hex(line, base);
+    line.push_str(" ");
+    push_kind(kind, count, queue, line);
+    line.push_str("\n");
+}
+
 /// The text of an answer: one line, or two of registers, a push each. After a failing push nothing more is pushed.
 pub(crate) fn push_answer<S: Sink>(answer: &Answer, out: &mut S) -> Result<(), Failed>
     ensures bytes { Pushes (S.seen out.old).written (S.seen out.new).written (text_of answer.now) result }
@@ -111,7 +212,30 @@ pub(crate) fn push_answer<S: Sink>(answer: &Answer, out: &mut S) -> Result<(), F
         Answer::Absent => line.push_str("none\n"),
         Answer::At { turn, now, end } => at_line(*turn, *now, *end, &mut line),
         Answer::Hit { turn, task, at } => hit_line(*turn, *task, *at, &mut line),
+        Answer::Told { turn, note } => return push_note(*turn, note, out),
+        Answer::Changed {
+            turn,
+            task,
+            at,
+            old,
+            new,
+        } => change_line(*turn, *task, *at, *old, *new, &mut line),
         Answer::Registers { words, flags } => return push_registers(words, *flags, out),
+        Answer::Task { task, view } => return push_task_line(u64::from(*task), view, out),
+        Answer::Irq {
+            line: number,
+            owner,
+            bits,
+            enabled,
+            pending,
+        } => irq_line(*number, *owner, *bits, (*enabled, *pending), &mut line),
+        Answer::Device {
+            device,
+            kind,
+            base,
+            count,
+            queue,
+        } => device_line(*device, *kind, *base, *count, queue.as_slice(), &mut line),
         Answer::Bytes { at, bytes } => bytes_line(*at, bytes.as_slice(), &mut line),
     }
     out.push(line.as_str().as_bytes())

@@ -9,7 +9,7 @@ ghost use Rattle.board_model.specs.Script.{Scenario, start_of};
 ghost use Rattle.board_core.specs.Data.{boxed};
 ghost use Rattle.board_core.specs.Stands.{Stands, turns_of};
 ghost use Rattle.snapshot.specs.Saved.{SpellsState, spelling};
-ghost use Rattle.debug_core.specs.Session.{state_at};
+ghost use Rattle.debug_core.specs.Runs.{state_at};
 ghost use Rattle.debug_core.specs.Hits.{CameTo, WentPast};
 ghost use Rattle.debug_core.specs.Times.{IsAt, IsFree, later_of};
 
@@ -24,7 +24,7 @@ const ROOM: usize = 64;
 const APART: u32 = 65_536;
 
 /// Where the next checkpoint is due, or turn `to` before that.
-fn stop_before(turn: u32, to: u32) -> u32
+pub(crate) fn stop_before(turn: u32, to: u32) -> u32
     requires below { turn < to }
     requires few { to ≤ 1000000000 }
     ensures on { turn < result }
@@ -136,7 +136,7 @@ impl Timeline {
     }
 
     /// A checkpoint is made where one is due.
-    fn keep(&mut self)
+    pub(crate) fn keep(&mut self)
         requires { (x : Scenario) × (turn : ℕ) × IsAt (boxed shown) x self.old turn }
         ensures at { (x : Scenario) (turn : ℕ) → IsAt (boxed shown) x self.old turn → IsAt (boxed shown) x self.new turn }
         ensures turns { turns_of self.new.board ≡ turns_of self.old.board }
@@ -148,7 +148,7 @@ impl Timeline {
     }
 
     /// On to a turn, or to the end of the run before it, without a checkpoint.
-    fn run_to(&mut self, to: u32)
+    pub(crate) fn run_to(&mut self, to: u32)
         requires from { (x : Scenario) × (turn : ℕ) × IsAt (boxed shown) x self.old turn × (turn ≤ to) }
         requires few { to ≤ 1000000000 }
         ensures at { (x : Scenario) (turn : ℕ) → IsAt (boxed shown) x self.old turn → turn ≤ to → IsAt (boxed shown) x self.new (state_at x to).turn }
@@ -205,7 +205,7 @@ impl Timeline {
     }
 
     /// The place of the last checkpoint of turn `to` or before, and its turn.
-    fn last_until(&self, to: u32) -> (usize, u32)
+    pub(crate) fn last_until(&self, to: u32) -> (usize, u32)
         requires first { HoldsAt (λ c. c.turn ≡ Some 0) self.now.kept.items 0 }
         requires some { 0 < length self.now.kept.items }
         ensures inside { result.0 < length self.now.kept.items }
@@ -221,7 +221,7 @@ impl Timeline {
     }
 
     /// To the turn of a checkpoint.
-    fn load(&mut self, place: usize)
+    pub(crate) fn load(&mut self, place: usize)
         requires inside { place < length self.old.kept.items }
         requires saved { (x : Scenario) × (turn : ℕ) × IsAt (boxed shown) x self.old turn × (from : ℕ) × HoldsAt (λ c. c.turn ≡ Some from) self.old.kept.items place }
         ensures { (x : Scenario) (turn from : ℕ) → IsAt (boxed shown) x self.old turn → HoldsAt (λ c. c.turn ≡ Some from) self.old.kept.items place → IsAt (boxed shown) x self.new from }

@@ -1,6 +1,6 @@
 use Rattle.std.proofs.Common.{◌∙◌}
 use Rattle.debug_core.specs.declared.answer.Answer.TheVariants.{At}
-use Rattle.debug_core.specs.Session.{state_at}
+use Rattle.debug_core.specs.Runs.{state_at}
 use Rattle.debug_core.proofs.Ahead.{same_now}
 use Rattle.debug_core.proofs.Standing.{turns_at}
 use Rattle.debug_core.proofs.debugger.here.Goals as goal

@@ -1,6 +1,6 @@
 use Rattle.std.proofs.Common.{◌≤◌, length, subst, arith}
 use Rattle.board_core.specs.Views.{IsTask}
-use Rattle.debug_core.specs.Session.{state_at}
+use Rattle.debug_core.specs.Runs.{state_at}
 use Rattle.debug_core.proofs.Seen.{its_registers, no_registers}
 use Rattle.debug_core.proofs.debugger.registers.Goals as goal
 

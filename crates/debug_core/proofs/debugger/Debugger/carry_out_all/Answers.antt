@@ -4,7 +4,8 @@ use Rattle.std.proofs.lemmas.Result.{err_from_is_err_and}
 use Rattle.outside_io.specs.Outside.{AppendsFront}
 use Rattle.debug_core.specs.declared.command.Command.{Command}
 use Rattle.debug_core.specs.declared.command.Command.TheVariants.{Break}
-use Rattle.debug_core.proofs.Carried.{carried_all, carried_fails, carried_more, carried_none, told}
+use Rattle.debug_core.specs.Answers.{told_from}
+use Rattle.debug_core.proofs.Carried.{carried_all, carried_fails, carried_more, carried_none}
 use Rattle.debug_core.proofs.debugger.Debugger.carry_out_all.Goals as goal
 
 pub loop-command-init : goal.loop-command-init
@@ -27,7 +28,7 @@ loop-command-preserved g c = record {
   carried = λ x s h.
       let i = c.loop-command.invariant.carried x s h in
       carried_more _ x s c.as_slice-command-items.result.now c.loop-command.command-index _ _ _ c.loop-command.self (Break 0) c.loop-command-test.true c.command.new.self i
-      (c.command.ensures.session x i.here i.at) (c.in_ok-command.ensures.answer x i.here i.at);
+      (c.command.ensures.session x i.here i.at) (c.in_ok-command.ensures.told x i.here i.at);
   later = omega (arith, c.loop-command.invariant.later, c.in_ok-command.ensures.cause.later);
 }
 
@@ -35,8 +36,8 @@ pub returns-in_err-command-clause-told : goal.returns-in_err-command-clause-told
 returns-in_err-command-clause-told g c = λ x s h.
     let p = err_from_is_err_and c.from_residual.result c.from_residual.ensures.1 in
     let i = c.loop-command.invariant.carried x s h in
-    let failed = carried_fails _ x s c.as_slice-command-items.result.now c.loop-command.command-index _ _ _ c.loop-command.self (Break 0) c.loop-command-test.true i (c.in_err-command.ensures.answer x i.here i.at) in
-    rw (p.1) (subst (λ (cs : List Command). AppendsFront (g.S.Sink.seen c.args.out.now).written (g.S.Sink.seen c.command.new.out).written (told x s cs)) c.as_slice-command-items.ensures.same failed)
+    let failed = carried_fails _ x s c.as_slice-command-items.result.now c.loop-command.command-index _ _ _ c.loop-command.self (Break 0) c.loop-command-test.true i (c.in_err-command.ensures.told x i.here i.at) in
+    rw (p.1) (subst (λ (cs : List Command). AppendsFront (g.S.Sink.seen c.args.out.now).written (g.S.Sink.seen c.command.new.out).written (told_from x s cs)) c.as_slice-command-items.ensures.same failed)
 
 pub returns-in_err-command-clause-cause : goal.returns-in_err-command-clause-cause
 returns-in_err-command-clause-cause g c =
@@ -49,7 +50,7 @@ returns-in_err-command-clause-cause g c =
 pub returns-clause-told : goal.returns-clause-told
 returns-clause-told g c = λ x s h.
     let all : c.loop-command.command-index ≡ length c.as_slice-command-items.result.now = omega (arith, c.loop-command.auto.command-index-end, c.loop-command-test.false) in
-    subst (λ (cs : List Command). Appends (g.S.Sink.seen c.args.out.now).written (g.S.Sink.seen c.loop-command.out).written (told x s cs)) c.as_slice-command-items.ensures.same
+    subst (λ (cs : List Command). Appends (g.S.Sink.seen c.args.out.now).written (g.S.Sink.seen c.loop-command.out).written (told_from x s cs)) c.as_slice-command-items.ensures.same
     (carried_all _ x s c.as_slice-command-items.result.now c.loop-command.command-index _ _ c.loop-command.self all (c.loop-command.invariant.carried x s h))
 
 pub returns-clause-cause : goal.returns-clause-cause

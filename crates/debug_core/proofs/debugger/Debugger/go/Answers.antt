@@ -1,6 +1,6 @@
 use Rattle.std.proofs.Common.{◌∙◌, ◌+◌, sym, ap, arith}
 use Rattle.debug_core.specs.Answers.{gone_to}
-use Rattle.debug_core.specs.Session.{forward}
+use Rattle.debug_core.specs.Runs.{forward}
 use Rattle.debug_core.proofs.Gone.{at_end, at_gone, at_hit, none_from, told_hit}
 use Rattle.debug_core.proofs.Standing.{turns_at}
 use Rattle.debug_core.proofs.debugger.Debugger.go.Goals as goal

@@ -1,7 +1,7 @@
 use Rattle.std.proofs.Common.{◌∙◌, ap, subst, arith}
 use Rattle.board_core.specs.Data.{boxed}
 use Rattle.debug_core.specs.Answers.{at_turn}
-use Rattle.debug_core.specs.Session.{state_at}
+use Rattle.debug_core.specs.Runs.{state_at}
 use Rattle.debug_core.specs.Times.{IsAt}
 use Rattle.debug_core.proofs.debugger.Debugger.step.Goals as goal
 

@@ -1,6 +1,6 @@
 use Rattle.std.proofs.Common.{◌∙◌, ◌<◌, ◌+◌, ◌-◌, ℕ, arith}
 use Rattle.board_core.specs.Stands.{turns_of}
-use Rattle.debug_core.specs.Session.{state_at}
+use Rattle.debug_core.specs.Runs.{state_at}
 use Rattle.debug_core.proofs.Ahead.{ending_same}
 use Rattle.debug_core.proofs.Hitting.{went_past}
 use Rattle.debug_core.proofs.Standing.{turns_at, went}

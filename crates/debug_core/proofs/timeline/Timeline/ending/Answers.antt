@@ -1,6 +1,6 @@
 use Rattle.std.proofs.Common.{◌≡◌, ◌∙◌, ℕ, ◌-◌, ap, sym, arith}
 use Rattle.board_model.specs.Run.{ending}
-use Rattle.debug_core.specs.Session.{state_at}
+use Rattle.debug_core.specs.Runs.{state_at}
 use Rattle.debug_core.proofs.Ahead.{ending_same, same_turn}
 use Rattle.debug_core.proofs.Standing.{turns_at}
 use Rattle.debug_core.proofs.timeline.Timeline.ending.Goals as goal

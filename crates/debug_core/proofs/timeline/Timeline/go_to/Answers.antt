@@ -1,6 +1,6 @@
 use Rattle.std.proofs.Common.{◌∙◌, ◌-◌, ◌≤◌, ◌<◌, not, ap, arith}
 use Rattle.board_core.specs.Stands.{turns_of}
-use Rattle.debug_core.specs.Session.{state_at}
+use Rattle.debug_core.specs.Runs.{state_at}
 use Rattle.debug_core.proofs.Ahead.{makes}
 use Rattle.debug_core.proofs.Standing.{turns_at, until_end, until_first}
 use Rattle.debug_core.proofs.timeline.Timeline.go_to.Goals as goal

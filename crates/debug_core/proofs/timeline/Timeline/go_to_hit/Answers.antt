@@ -1,10 +1,11 @@
 use Rattle.std.proofs.Common.{◌∙◌, ◌-◌, ◌<◌, not, ap, arith}
 use Rattle.board_core.specs.Stands.{turns_of}
-use Rattle.debug_core.proofs.Hitting.{none_hit, one_hit, passed_first, passed_more}
+use Rattle.debug_core.proofs.Hitting.{none_went, one_hit, ran_hit}
+use Rattle.debug_core.proofs.Passing.{none_passed, passed_first, passed_more}
 use Rattle.debug_core.proofs.timeline.Timeline.go_to_hit.Goals as goal
 
 pub stretches-init : goal.stretches-init
-stretches-init boxes c = λ x turn h le. passed_first _ x c.args.breakpoints.now turn c.args.to c.args.self.now h le
+stretches-init boxes c = λ x turn h le. passed_first _ x (ran_hit x c.args.breakpoints.now) turn c.args.to c.args.self.now h le
 
 pub ending-requires : goal.ending-requires
 ending-requires boxes c =
@@ -32,7 +33,7 @@ stretches-preserved boxes c = λ x turn h le.
     let none = c.is_none.ensures ∙ ap not c.stretches-test.true in
     let k = turns_of c.stretches.self.board in
     let went = c.in_default.ensures.went x k i.at (c.ending.ensures.goes none x k i.at) in
-    passed_more _ x c.args.breakpoints.now turn c.args.to c.stretches.self c.advance_past.new.self i went (omega (arith, c.advance_past.ensures.within, c.stop_before-stop.ensures.within))
+    passed_more _ x (ran_hit x c.args.breakpoints.now) turn c.args.to c.stretches.self c.advance_past.new.self i (none_went _ x c.args.breakpoints.now k c.advance_past.new.self went) (omega (arith, c.advance_past.ensures.within, c.stop_before-stop.ensures.within))
 
 pub returns-in-Some : goal.returns-in-Some
 returns-in-Some boxes c = λ x turn h le.
@@ -45,4 +46,4 @@ returns-in-Some boxes c = λ x turn h le.
 pub returns : goal.returns
 returns boxes c = λ x turn h le.
     let i = c.stretches.invariant x turn h le in
-    none_hit _ x c.args.breakpoints.now turn c.args.to c.stretches.self c.ending.result i (c.is_none.ensures ∙ ap not c.stretches-test.false) (c.ending.ensures.end x (turns_of c.stretches.self.board) i.at i.within)
+    none_passed _ x (ran_hit x c.args.breakpoints.now) turn c.args.to c.stretches.self c.ending.result i (c.is_none.ensures ∙ ap not c.stretches-test.false) (c.ending.ensures.end x (turns_of c.stretches.self.board) i.at i.within)

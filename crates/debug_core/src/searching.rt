@@ -1,0 +1,253 @@
+//! A run is searched, forwards and back, for a turn of which such a note is told, or one that changes a byte.
+
+ghost use Rattle.std.specs.Prelude.{ℕ, ◌≡◌, ◌≤◌, ◌<◌, ◌+◌, None, find};
+ghost use Rattle.board_model.specs.declared.outcomes.Level.TheVariants.{All};
+ghost use Rattle.board_model.specs.Run.{ending};
+ghost use Rattle.board_model.specs.Script.{Scenario};
+ghost use Rattle.board_model.specs.Turn.{turn};
+ghost use Rattle.board_core.specs.Data.{boxed};
+ghost use Rattle.board_core.specs.Stands.{notes_of, turns_of};
+ghost use Rattle.debug_core.specs.Runs.{state_at};
+ghost use Rattle.debug_core.specs.Searched.{agrees, can_be, change_of, first_number, is_of_kind, is_sought, runner_of};
+ghost use Rattle.debug_core.specs.Searches.{CameFor, IsLastFound, WentBackFor, WentFor};
+ghost use Rattle.debug_core.specs.Times.{IsAt};
+
+use crate::answer::Answer;
+use crate::command::{NoteKind, Sought};
+use crate::timeline::{Timeline, stop_before};
+use board_core::{Level, Turned};
+use kernel_abi::Note;
+
+fn is_of_kind(kind: NoteKind, note: &Note) -> bool
+    ensures { result ≡ is_of_kind kind note.now }
+{
+    match kind {
+        NoteKind::Tick => matches!(note, Note::Tick { .. }),
+        NoteKind::Irq => matches!(note, Note::Irq { .. }),
+        NoteKind::In => matches!(note, Note::In { .. }),
+        NoteKind::Out => matches!(note, Note::Out { .. }),
+        NoteKind::Post => matches!(note, Note::Post { .. }),
+        NoteKind::Call => matches!(note, Note::Syscall { .. }),
+        NoteKind::Ret => matches!(note, Note::Ret { .. }),
+        NoteKind::Close => matches!(note, Note::Close { .. }),
+        NoteKind::Listen => matches!(note, Note::Listen { .. }),
+        NoteKind::Offer => matches!(note, Note::Offer { .. }),
+        NoteKind::Take => matches!(note, Note::Take { .. }),
+        NoteKind::Borrow => matches!(note, Note::Borrow { .. }),
+        NoteKind::Fault => matches!(note, Note::Fault { .. }),
+        NoteKind::Restart => matches!(note, Note::Restart { .. }),
+        NoteKind::IrqStatus => matches!(note, Note::IrqStatus { .. }),
+        NoteKind::Find => matches!(note, Note::Find { .. }),
+    }
+}
+
+/// The first number of its line, behind the kind.
+fn first_number(note: &Note) -> Option<u64>
+    ensures { result ≡ first_number note.now }
+{
+    match *note {
+        Note::Tick { now } => Some(now),
+        Note::Irq { line, .. } => Some(u64::from(line)),
+        Note::In { device, .. } => Some(u64::from(device)),
+        Note::Out { device, .. } => Some(device as u64),
+        Note::Post { task, .. }
+        | Note::Syscall { task, .. }
+        | Note::Ret { task, .. }
+        | Note::Listen { task, .. }
+        | Note::Fault { task, .. }
+        | Note::Restart { task, .. }
+        | Note::IrqStatus { task, .. } => Some(u64::from(task)),
+        Note::Close { call, .. }
+        | Note::Offer { call, .. }
+        | Note::Take { call, .. }
+        | Note::Borrow { call, .. } => Some(u64::from(call)),
+        Note::Find { index, .. } => Some(u64::from(index)),
+        Note::Insn { .. } | Note::Idle | Note::Low { .. } | Note::High { .. } => None,
+    }
+}
+
+/// No number asks for nothing.
+fn agrees(number: Option<u32>, first: Option<u64>) -> bool
+    ensures { result ≡ agrees number first }
+{
+    match (number, first) {
+        (None, _) => true,
+        (Some(_), None) => false,
+        (Some(wanted), Some(number)) => u64::from(wanted) == number,
+    }
+}
+
+fn is_sought(kind: NoteKind, number: Option<u32>, note: &Note) -> bool
+    ensures { result ≡ is_sought kind number note.now }
+{
+    is_of_kind(kind, note) && agrees(number, first_number(note))
+}
+
+/// The first of some notes that is sought.
+fn first_sought(kind: NoteKind, number: Option<u32>, notes: &[Note]) -> Option<Note>
+    ensures { result ≡ find (is_sought kind number) notes.now }
+{
+    notes
+        .iter()
+        .copied()
+        .find(|note| is_sought(kind, number, note))
+}
+
+/// The task that ran.
+fn runner_of(turned: Turned) -> Option<u16>
+    ensures { result ≡ runner_of turned }
+{
+    match turned {
+        Turned::Idle => None,
+        Turned::Ran { task, .. } => Some(task),
+    }
+}
+
+/// What a byte was and what it is, where these are two.
+fn change_of(before: Option<u8>, after: Option<u8>) -> Option<(u8, u8)>
+    ensures { result ≡ change_of before after }
+{
+    let (old, new) = (before?, after?);
+    if old == new { None } else { Some((old, new)) }
+}
+
+impl Timeline {
+    /// There can be such a turn.
+    pub(crate) fn can_find(&self, sought: &Sought) -> bool
+        ensures { (x : Scenario) (turn : ℕ) → IsAt (boxed shown) x self.now turn → result ≡ can_be sought.now (state_at x turn).memory }
+    {
+        match sought {
+            Sought::Note { .. } => true,
+            Sought::Change { at } => self.board.byte(*at).is_some(),
+        }
+    }
+
+    /// One whole turn, of which each instruction is noted too.
+    pub(crate) fn make_turn(&mut self)
+        requires { (x : Scenario) × (n : ℕ) × IsAt (boxed shown) x self.old n × (ending x 1 (state_at x n) ≡ None) × (n < 1000000000) }
+        ensures at { (x : Scenario) (n : ℕ) → IsAt (boxed shown) x self.old n → ending x 1 (state_at x n) ≡ None → n < 1000000000 → IsAt (boxed shown) x self.new (n + 1) }
+        ensures notes { (x : Scenario) (n : ℕ) → IsAt (boxed shown) x self.old n → notes_of self.new.board ≡ (turn All x (state_at x n)).notes }
+    {
+        self.board.turn_at(Level::All);
+    }
+
+    /// Some turns on, none of them from turn `stop` on: the first note that is sought of the last of them. No turn before told one.
+    fn advance_to_note(&mut self, kind: NoteKind, number: Option<u32>, stop: u32) -> Option<Answer>
+        requires from { (x : Scenario) × (turn : ℕ) × IsAt (boxed shown) x self.old turn × (ending x 1 (state_at x turn) ≡ None) }
+        requires left { turns_of self.old.board < stop }
+        requires few { stop ≤ 1000000000 }
+        ensures went { (x : Scenario) (turn : ℕ) → IsAt (boxed shown) x self.old turn → ending x 1 (state_at x turn) ≡ None → WentFor (boxed shown) x (Sought.Note kind number) turn self.new result }
+        ensures more { turns_of self.old.board < turns_of self.new.board }
+        ensures within { turns_of self.new.board ≤ stop }
+    {
+        self.board.advance(Level::Calls, stop);
+        let turn = self.board.turns() - 1;
+        let note = first_sought(kind, number, self.board.notes())?;
+        Some(Answer::Told { turn, note })
+    }
+
+    /// One turn on, and what it changed of the byte at an address.
+    fn advance_past_change(&mut self, at: u32) -> Option<Answer>
+        requires from { (x : Scenario) × (turn : ℕ) × IsAt (boxed shown) x self.old turn × (ending x 1 (state_at x turn) ≡ None) × (turn < 1000000000) }
+        ensures went { (x : Scenario) (turn : ℕ) → IsAt (boxed shown) x self.old turn → ending x 1 (state_at x turn) ≡ None → WentFor (boxed shown) x (Sought.Change at) turn self.new result }
+        ensures turns { turns_of self.new.board ≡ turns_of self.old.board + 1 }
+    {
+        let turn = self.board.turns();
+        let before = self.board.byte(at);
+        let turned = self.board.turn_at(Level::Calls);
+        let after = self.board.byte(at);
+        let (old, new) = change_of(before, after)?;
+        let task = runner_of(turned);
+        Some(Answer::Changed {
+            turn,
+            task,
+            at,
+            old,
+            new,
+        })
+    }
+
+    /// Some turns on, none of them from turn `stop` on: what is found in the last of them. In no turn before it was found.
+    fn advance_for(&mut self, sought: &Sought, stop: u32) -> Option<Answer>
+        requires from { (x : Scenario) × (turn : ℕ) × IsAt (boxed shown) x self.old turn × (ending x 1 (state_at x turn) ≡ None) }
+        requires left { turns_of self.old.board < stop }
+        requires few { stop ≤ 1000000000 }
+        ensures went { (x : Scenario) (turn : ℕ) → IsAt (boxed shown) x self.old turn → ending x 1 (state_at x turn) ≡ None → WentFor (boxed shown) x sought.now turn self.new result }
+        ensures more { turns_of self.old.board < turns_of self.new.board }
+        ensures within { turns_of self.new.board ≤ stop }
+    {
+        match sought {
+            Sought::Note { kind, number } => self.advance_to_note(*kind, *number, stop),
+            Sought::Change { at } => self.advance_past_change(*at),
+        }
+    }
+
+    /// On to a turn, or to the end of the run before it, but no further than behind the first turn in which it is found: what is.
+    pub(crate) fn go_for(&mut self, sought: &Sought, to: u32) -> Option<Answer>
+        requires from { (x : Scenario) × (turn : ℕ) × IsAt (boxed shown) x self.old turn × (turn ≤ to) }
+        requires few { to ≤ 1000000000 }
+        ensures { (x : Scenario) (turn : ℕ) → IsAt (boxed shown) x self.old turn → turn ≤ to → CameFor (boxed shown) x sought.now turn to self.new result }
+    {
+        'stretches: while self.ending(to).is_none() {
+            let stop = stop_before(self.board.turns(), to);
+            let found = self.advance_for(sought, stop);
+            self.keep();
+            if found.is_some() {
+                return found;
+            }
+        }
+        None
+    }
+
+    /// The last turn below `to`, from here on, in which it is found, and what is. Nothing is kept on the way: it would take the place of
+    /// what the way further back goes on from.
+    fn last_found(&mut self, sought: &Sought, to: u32) -> Option<(u32, Answer)>
+        requires from { (x : Scenario) × (turn : ℕ) × IsAt (boxed shown) x self.old turn × (turn ≤ to) × ((state_at x to).turn ≡ to) }
+        requires few { to ≤ 1000000000 }
+        ensures at { (x : Scenario) (turn : ℕ) → IsAt (boxed shown) x self.old turn → turn ≤ to → (state_at x to).turn ≡ to → IsAt (boxed shown) x self.new to }
+        ensures last { (x : Scenario) (turn : ℕ) → IsAt (boxed shown) x self.old turn → turn ≤ to → (state_at x to).turn ≡ to → IsLastFound x sought.now turn to result }
+    {
+        let mut last = None;
+        'stretches: while self.board.turns() < to {
+            if let Some(answer) = self.advance_for(sought, to) {
+                let turn = self.board.turns() - 1;
+                last = Some((turn, answer));
+            }
+        }
+        last
+    }
+
+    /// Back to the last checkpoint before a turn, or to turn `low` where that is later: the turn there.
+    fn back_before(&mut self, low: u32, to: u32) -> u32
+        requires from { (x : Scenario) × (turn : ℕ) × IsAt (boxed shown) x self.old turn × (to ≤ turn) }
+        requires some { low < to }
+        ensures at { (x : Scenario) (turn : ℕ) → IsAt (boxed shown) x self.old turn → to ≤ turn → IsAt (boxed shown) x self.new result }
+        ensures above { low ≤ result }
+        ensures before { result < to }
+    {
+        let (place, turn) = self.last_until(to - 1);
+        self.load(place);
+        let from = turn.max(low);
+        self.run_to(from);
+        from
+    }
+
+    /// Back to turn `low`, but no further than before the last turn before this one in which it is found: what is. From checkpoint to
+    /// checkpoint, the last first, so each turn is made once at most, and then those from the last checkpoint to the one that was found.
+    pub(crate) fn back_for(&mut self, sought: &Sought, low: u32) -> Option<Answer>
+        requires { (x : Scenario) × (turn : ℕ) × IsAt (boxed shown) x self.old turn × (low ≤ turn) }
+        ensures { (x : Scenario) (turn : ℕ) → IsAt (boxed shown) x self.old turn → low ≤ turn → WentBackFor (boxed shown) x sought.now low turn self.new result }
+    {
+        let mut to = self.board.turns();
+        'segments: while low < to {
+            let from = self.back_before(low, to);
+            if let Some((found, answer)) = self.last_found(sought, to) {
+                self.back_to(found);
+                return Some(answer);
+            }
+            to = from;
+        }
+        self.back_to(low);
+        None
+    }
+}
