@@ -1,0 +1,146 @@
+//! What is kept of the turns so far: of each task what it has done and since when, and the call that it offered last.
+ghost use Rattle.std.specs.Prelude.{◌≡◌, IfOk};
+ghost use Rattle.run_lanes.specs.Timeline.{Kept, all_renewed, client_from, kept_none, is_of_call, offers_after, renewed, server_in, server_thread_of, word_at};
+
+use crate::word::Word;
+use kernel_abi::Note;
+use std::alloc::{AllocError, Global};
+
+/// What a task has done since a turn.
+#[derive(Clone, Copy)]
+pub struct Stretch {
+    pub word: Word,
+    pub since: u32,
+}
+
+/// A call, and the index of its server.
+#[derive(Clone, Copy)]
+pub struct Offer {
+    pub call: u32,
+    pub server: u16,
+}
+
+/// A place for each task, made once for all turns.
+#[derive(Drop)]
+pub struct Lanes {
+    pub stretches: Vec<Stretch>,
+    pub offers: Vec<Option<Offer>>,
+}
+
+impl Lanes {
+    ghost use Rattle.run_lanes.specs.Kept.{kept_of};
+
+    /// Before the first turn, of so many tasks.
+    ///
+    /// # Errors
+    ///
+    /// Only want of memory.
+    pub fn open(alloc: Global, tasks: usize, turn: u32) -> Result<Lanes, AllocError>
+        ensures { IfOk result (λ l. kept_of l ≡ kept_none tasks turn) }
+    {
+        let nothing_yet = Stretch {
+            word: Word::Ready,
+            since: turn,
+        };
+        let stretches = Vec::from_elem(alloc, nothing_yet, tasks)?;
+        let offers = Vec::from_elem(alloc, None, tasks)?;
+        Ok(Lanes { stretches, offers })
+    }
+}
+
+impl Stretch {
+    /// What a task has done after a turn in which it did this.
+    pub fn renewed(&self, turn: u32, word: Word) -> Stretch
+        ensures { result ≡ renewed turn self.now word }
+    {
+        if self.word.is_same(word) {
+            *self
+        } else {
+            Stretch { word, since: turn }
+        }
+    }
+}
+
+/// What a task does, where these are the words of all; past their end it is ready.
+pub fn word_at(words: &[Word], i: usize) -> Word
+    ensures { result ≡ word_at words.now i }
+{
+    if i < words.len() {
+        words[i]
+    } else {
+        Word::Ready
+    }
+}
+
+/// What the tasks have done after a turn in which they did this.
+pub fn renew_all(turn: u32, words: &[Word], stretches: &mut [Stretch])
+    ensures { stretches.new ≡ all_renewed turn stretches.old words.now }
+{
+    for i in 0..stretches.len() {
+        stretches[i] = stretches[i].renewed(turn, word_at(words, i));
+    }
+}
+
+/// What the tasks offered last, after a note.
+pub fn hear(note: &Note, offers: &mut [Option<Offer>])
+    ensures { offers.new ≡ offers_after offers.old note.now }
+{
+    match note {
+        Note::Offer {
+            call,
+            client,
+            server,
+        } => {
+            let i = usize::from(*client);
+            if i < offers.len() {
+                offers[i] = Some(Offer {
+                    call: *call,
+                    server: *server,
+                });
+            }
+        }
+        _ => {}
+    }
+}
+
+/// The thread of the client of a call: the first task that offered it last, else 0.
+pub fn client_thread(offers: &[Option<Offer>], call: u32) -> u64
+    ensures { result ≡ client_from call 0 offers.now }
+{
+    for (i, offer) in offers.iter().enumerate() {
+        if is_of_call(call, offer) {
+            return i as u64 + 1;
+        }
+    }
+    0
+}
+
+/// The thread of its server.
+pub fn server_thread(offers: &[Option<Offer>], call: u32) -> u64
+    ensures { result ≡ server_in call offers.now }
+{
+    for offer in offers {
+        if is_of_call(call, offer) {
+            return server_thread_of(offer);
+        }
+    }
+    0
+}
+
+fn is_of_call(call: u32, offer: &Option<Offer>) -> bool
+    ensures { result ≡ is_of_call call offer.now }
+{
+    match offer {
+        Some(offer) => offer.call == call,
+        None => false,
+    }
+}
+
+fn server_thread_of(offer: &Option<Offer>) -> u64
+    ensures { result ≡ server_thread_of offer.now }
+{
+    match offer {
+        Some(offer) => u64::from(offer.server) + 1,
+        None => 0,
+    }
+}

@@ -1,0 +1,174 @@
+//! A run as a timeline (docs/FORMATS.md, Timeline).
+ghost use Rattle.std.specs.Prelude.{◌≡◌, ◌≤◌, ◌+◌, ◌-◌, ◌++◌, IfOk, IfErr, length, map, string_bytes};
+ghost use Rattle.std.specs.List.{flat_map};
+ghost use Rattle.outside_io.specs.Outside.{HasCause, Pushes, Rose};
+ghost use Rattle.task_table.specs.State.{State};
+ghost use Rattle.board_model.specs.declared.outcomes.Level.TheVariants.{Calls};
+ghost use Rattle.board_model.specs.Script.{Scenario};
+ghost use Rattle.board_model.specs.Run.{run};
+ghost use Rattle.board_core.specs.Stands.{Stands, Stood, count_of, turns_of};
+ghost use Rattle.board_core.specs.Data.{boxed};
+ghost use Rattle.run_lanes.specs.declared.timeline.TimelineFault.TheVariants as fault;
+ghost use Rattle.run_lanes.specs.Kept.{BreaksText, SeesText, kept_of};
+ghost use Rattle.run_lanes.specs.Timeline.{drawn_text, orders_text, outside_text, rests_text, tail_text, timeline_text};
+ghost use Rattle.run_lanes.specs.Words.{sights};
+
+use crate::lanes::{Lanes, renew_all};
+use crate::naming::name_lines;
+use crate::pushing::{push_head, push_notes, push_overs, push_rests, push_tail};
+use crate::watching::{Watcher, watch};
+use crate::word::Word;
+use board_core::{Board, End};
+use kernel_abi::Note;
+use outside_io::{Failed, Sink};
+use std::alloc::{AllocError, Global};
+
+/// Why a timeline was not written whole.
+#[derive(Clone, Copy, Debug, PartialEq, Eq)]
+pub enum TimelineFault {
+    /// There was no memory. Nothing was pushed, and no turn was made.
+    Memory,
+    /// A push failed.
+    Failed,
+}
+
+impl From<AllocError> for TimelineFault {
+    ghost from_gives = { λ _ e. e ≡ fault.Memory };
+
+    fn from(_: AllocError) -> Self {
+        TimelineFault::Memory
+    }
+}
+
+impl From<Failed> for TimelineFault {
+    ghost from_gives = { λ _ e. e ≡ fault.Failed };
+
+    fn from(_: Failed) -> Self {
+        TimelineFault::Failed
+    }
+}
+
+/// A sink is given the stretches that are over in a turn, and then its notes.
+impl<S: Sink> Watcher<S> for Lanes {
+    ghost saw = { λ l o turns k p. SeesText (kept_of l) (S.seen o) turns (kept_of k) (S.seen p) };
+
+    ghost broke = { λ l o turns k p. BreaksText (kept_of l) (S.seen o) turns (S.seen p) };
+
+    fn see(
+        &mut self,
+        turn: u32,
+        words: &[Word],
+        notes: &[Note],
+        out: &mut S,
+    ) -> Result<(), Failed> {
+        push_overs(turn, &self.stretches, words, out)?;
+        renew_all(turn, words, &mut self.stretches);
+        push_notes(turn, notes, &mut self.offers, out)?;
+        Ok(())
+    }
+
+    fn sees_in_parts() {}
+}
+
+// What stands behind the turns: the stretches in which the tasks are, and the end of the text.
+fn push_end<S: Sink>(turn: u32, lanes: &Lanes, out: &mut S) -> Result<(), Failed>
+    ensures bytes { Pushes (S.seen out.old).written (S.seen out.new).written (rests_text turn lanes.now.stretches.items ++ tail_text) result }
+    ensures cause { HasCause (S.seen out.old).faults (S.seen out.new).faults result }
+{
+    push_rests(turn, &lanes.stretches, out)?;
+    push_tail(out)
+}
+
+// Turns up to the end of the run, with all that is told of them.
+fn draw<S: Sink>(
+    board: &mut Board,
+    limit: u32,
+    words: &mut [Word],
+    lanes: &mut Lanes,
+    out: &mut S,
+) -> Result<End, Failed>
+    requires stood { Stood (boxed shown) board.old }
+    requires from { turns_of board.old ≤ limit }
+    requires few { limit ≤ 1000000000 }
+    requires one_each { (x : Scenario) (s : State) → Stands (boxed shown) x board.old s → length words.old ≡ length x.setup.tasks }
+    ensures text { (x : Scenario) (s : State) → Stands (boxed shown) x board.old s →
+        Pushes (S.seen out.old).written (S.seen out.new).written (drawn_text (kept_of lanes.old) s.turn (sights x (limit - s.turn) s)) result }
+    ensures end { (x : Scenario) (s : State) → Stands (boxed shown) x board.old s →
+        IfOk result (λ e. e ≡ (run Calls x (limit - s.turn) s).end) }
+    ensures last { (x : Scenario) (s : State) → Stands (boxed shown) x board.old s →
+        IfOk result (λ _. Stands (boxed shown) x board.new (run Calls x (limit - s.turn) s).last) }
+    ensures within { turns_of board.new ≤ limit }
+    ensures cause { HasCause (S.seen out.old).faults (S.seen out.new).faults result }
+{
+    let end = watch(board, limit, words, lanes, out)?;
+    push_end(board.turns(), lanes, out)?;
+    Ok(end)
+}
+
+// The same behind what stands before the turns.
+fn draw_whole<S: Sink>(
+    board: &mut Board,
+    limit: u32,
+    lines: &[String],
+    words: &mut [Word],
+    lanes: &mut Lanes,
+    out: &mut S,
+) -> Result<End, Failed>
+    requires stood { Stood (boxed shown) board.old }
+    requires from { turns_of board.old ≤ limit }
+    requires few { limit ≤ 1000000000 }
+    requires one_each { (x : Scenario) (s : State) → Stands (boxed shown) x board.old s → length words.old ≡ length x.setup.tasks }
+    ensures text { (x : Scenario) (s : State) → Stands (boxed shown) x board.old s →
+        Pushes (S.seen out.old).written (S.seen out.new).written
+        ((outside_text ++ flat_map string_bytes lines.now ++ orders_text (length lines.now + 1)) ++ drawn_text (kept_of lanes.old) s.turn (sights x (limit - s.turn) s)) result }
+    ensures end { (x : Scenario) (s : State) → Stands (boxed shown) x board.old s →
+        IfOk result (λ e. e ≡ (run Calls x (limit - s.turn) s).end) }
+    ensures last { (x : Scenario) (s : State) → Stands (boxed shown) x board.old s →
+        IfOk result (λ _. Stands (boxed shown) x board.new (run Calls x (limit - s.turn) s).last) }
+    ensures within { turns_of board.new ≤ limit }
+    ensures cause { HasCause (S.seen out.old).faults (S.seen out.new).faults result }
+{
+    push_head(lines, out)?;
+    draw(board, limit, words, lanes, out)
+}
+
+/// Turns up to the end of the run, and its timeline (docs/FORMATS.md, Timeline), in which each task has one of the names: an
+/// event is a line, and a push. After a failing push nothing more is pushed, and no further turn is made.
+///
+/// # Errors
+///
+/// `Memory` where there was none for the names and for what is kept of each task: then nothing was pushed, and no turn was made.
+/// `Failed` only where a push failed.
+pub fn write_timeline<S: Sink>(
+    alloc: Global,
+    board: &mut Board,
+    limit: u32,
+    names: &[String],
+    out: &mut S,
+) -> Result<End, TimelineFault>
+    requires stood { Stood (boxed shown) board.old }
+    requires from { turns_of board.old ≤ limit }
+    requires few { limit ≤ 1000000000 }
+    requires named { length names.now ≡ count_of board.old }
+
+    ensures text { (x : Scenario) (s : State) → Stands (boxed shown) x board.old s →
+        Pushes (S.seen out.old).written (S.seen out.new).written (timeline_text (map string_bytes names.now) x (limit - s.turn) s) result }
+    ensures end { (x : Scenario) (s : State) → Stands (boxed shown) x board.old s →
+        IfOk result (λ e. e ≡ (run Calls x (limit - s.turn) s).end) }
+    ensures last { (x : Scenario) (s : State) → Stands (boxed shown) x board.old s →
+        IfOk result (λ _. Stands (boxed shown) x board.new (run Calls x (limit - s.turn) s).last) }
+    ensures within { turns_of board.new ≤ limit }
+
+    // Where there was no memory, nothing happened.
+    ensures nothing { IfErr result (λ e. e ≡ fault.Memory → out.new ≡ out.old) }
+    ensures nowhere { IfErr result (λ e. e ≡ fault.Memory → board.new ≡ board.old) }
+    ensures later { (S.seen out.old).faults ≤ (S.seen out.new).faults }
+    ensures cause { IfErr result (λ e. e ≡ fault.Failed → Rose (S.seen out.old).faults (S.seen out.new).faults) }
+{
+    let tasks = board.task_count();
+    let lines = name_lines(alloc, names)?;
+    let mut words = Vec::from_elem(alloc, Word::Ready, tasks)?;
+    let mut lanes = Lanes::open(alloc, tasks, board.turns())?;
+    let end = draw_whole(board, limit, &lines, &mut words, &mut lanes, out)?;
+    Ok(end)
+}
