@@ -1,6 +1,6 @@
 -- What a job of the code asks for.
 use Rattle.std.specs.Prelude.{ℕ, max}
-use Rattle.command_line.specs.CommandLine.{Asked, build, run, go, list, sample, migrate, audit, save, resume, debug, cover, sweep, help}
+use Rattle.command_line.specs.CommandLine.{Asked, build, run, go, list, sample, migrate, audit, save, resume, debug, cover, sweep, timeline, help}
 use Rattle.command_line.specs.declared.job.Job.{Job}
 use Rattle.command_line.specs.declared.job.Job.TheVariants as job
 
@@ -16,6 +16,7 @@ asked (job.Save image script out steps) = save image.now script.now out.now step
 asked (job.Resume image script state steps detail) = resume image.now script.now state.now steps detail
 asked (job.Debug image script commands) = debug image.now script.now commands.now
 asked (job.Cover image script steps) = cover image.now script.now steps
+asked (job.Timeline image script steps) = timeline image.now script.now steps
 asked (job.Sweep image script arrival from to steps memory) = sweep image.now script.now arrival.now from to steps memory
 asked (job.Help about) = help about
 
@@ -32,5 +33,6 @@ steps_of (job.Save image script out steps) = steps
 steps_of (job.Resume image script state steps detail) = steps
 steps_of (job.Debug image script commands) = 0
 steps_of (job.Cover image script steps) = steps
+steps_of (job.Timeline image script steps) = steps
 steps_of (job.Sweep image script arrival from to steps memory) = max (max from to) steps
 steps_of (job.Help about) = 0

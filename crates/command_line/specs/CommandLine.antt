@@ -93,6 +93,7 @@ pub data Asked : Type 0 where
   debug : Text → Text → Text → Asked
   cover : Text → Text → ℕ → Asked
   sweep : Text → Text → Text → ℕ → ℕ → ℕ → Bool → Asked
+  timeline : Text → Text → ℕ → Asked
   help : Option CommandName → Asked
 
 -- `--all` and `--mem`
@@ -206,11 +207,19 @@ sweep_form = record {
   asks = λ rows. Some (sweep (text_in (codes "image") rows) (text_in (codes "script") rows) (text_in (codes "arrival") rows) (number_in (codes "from") rows) (number_in (codes "to") rows) (number_in (codes "steps") rows) (is_set (codes "mem") rows));
 }
 
+-- `timeline IMAGE SCRIPT --steps N`
+abbrev pub timeline_form : Form
+timeline_form = record {
+  name = codes "timeline";
+  rules = positional_rule (codes "image") ∷ positional_rule (codes "script") ∷ steps_rule ∷ [];
+  asks = λ rows. Some (timeline (text_in (codes "image") rows) (text_in (codes "script") rows) (number_in (codes "steps") rows));
+}
+
 -- the commands by their names
 abbrev pub commands : List (Text × CommandName)
 commands = (codes "build", command.Build) ∷ (codes "run", command.Run) ∷ (codes "go", command.Go) ∷ (codes "list", command.List)
     ∷ (codes "sample", command.Sample) ∷ (codes "migrate", command.Migrate) ∷ (codes "audit", command.Audit) ∷ (codes "save", command.Save)
-    ∷ (codes "resume", command.Resume) ∷ (codes "debug", command.Debug) ∷ (codes "cover", command.Cover) ∷ (codes "sweep", command.Sweep) ∷ (codes "help", command.Help) ∷ []
+    ∷ (codes "resume", command.Resume) ∷ (codes "debug", command.Debug) ∷ (codes "cover", command.Cover) ∷ (codes "sweep", command.Sweep) ∷ (codes "timeline", command.Timeline) ∷ (codes "help", command.Help) ∷ []
 
 -- the command that a word names
 abbrev pub command_by : Text → Option CommandName
@@ -230,7 +239,7 @@ help_form = record {
 }
 
 abbrev pub forms : List Form
-forms = build_form ∷ run_form ∷ go_form ∷ list_form ∷ sample_form ∷ migrate_form ∷ audit_form ∷ save_form ∷ resume_form ∷ debug_form ∷ cover_form ∷ sweep_form ∷ help_form ∷ []
+forms = build_form ∷ run_form ∷ go_form ∷ list_form ∷ sample_form ∷ migrate_form ∷ audit_form ∷ save_form ∷ resume_form ∷ debug_form ∷ cover_form ∷ sweep_form ∷ timeline_form ∷ help_form ∷ []
 
 -- ---- the program
 

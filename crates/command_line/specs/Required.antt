@@ -84,7 +84,8 @@ pub record IsWholeDebug (rows : List Row) : Type 0 where
   pub script : HasText (codes "script") rows
   pub commands : HasText (codes "commands") rows
 
-pub record IsWholeCover (rows : List Row) : Type 0 where
+-- of a command that plays a script on an image, and has no more words
+pub record IsWholePlay (rows : List Row) : Type 0 where
   pub image : HasText (codes "image") rows
   pub script : HasText (codes "script") rows
   pub steps : HasSteps rows
@@ -115,6 +116,7 @@ IsWhole (Some p) = ((p.0 ≡ codes "build") × IsWholeBuild p.1)
     ⊎ (((p.0 ≡ codes "save") × IsWholeSave p.1)
     ⊎ (((p.0 ≡ codes "resume") × IsWholeResume p.1)
     ⊎ (((p.0 ≡ codes "debug") × IsWholeDebug p.1)
-    ⊎ (((p.0 ≡ codes "cover") × IsWholeCover p.1)
+    ⊎ (((p.0 ≡ codes "cover") × IsWholePlay p.1)
     ⊎ (((p.0 ≡ codes "sweep") × IsWholeSweep p.1)
-    ⊎ (p.0 ≡ codes "help"))))))))))))
+    ⊎ (((p.0 ≡ codes "timeline") × IsWholePlay p.1)
+    ⊎ (p.0 ≡ codes "help")))))))))))))

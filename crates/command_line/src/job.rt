@@ -1,7 +1,7 @@
 //! What the matches of a command ask for.
 ghost use Rattle.std.specs.Prelude.{◌≡◌, ◌≤◌, ◌<◌, ◌^◌, ℕ, Some, IfSome, option_map, codes};
 ghost use Rattle.clap.specs.Words.{rows_of, found_of, one_of};
-ghost use Rattle.command_line.specs.CommandLine.{asked_by, build_form, run_form, go_form, list_form, sample_form, migrate_form, audit_form, save_form, resume_form, debug_form, cover_form, sweep_form, help_form, command_by, text_in, is_set, detail_in, number_in, most_steps};
+ghost use Rattle.command_line.specs.CommandLine.{asked_by, build_form, run_form, go_form, list_form, sample_form, migrate_form, audit_form, save_form, resume_form, debug_form, cover_form, sweep_form, timeline_form, help_form, command_by, text_in, is_set, detail_in, number_in, most_steps};
 ghost use Rattle.command_line.specs.Required.{IsNumber, HasSeed, HasSteps, HasTurns, AreTurns, IsWhole};
 ghost use Rattle.command_line.specs.Asking.{asked, steps_of};
 
@@ -30,6 +30,7 @@ pub enum CommandName {
     Debug,
     Cover,
     Sweep,
+    Timeline,
     Help,
 }
 
@@ -110,6 +111,12 @@ pub enum Job<'a> {
         to: u32,
         steps: u32,
         memory: bool,
+    },
+    /// The run of IMAGE with SCRIPT for at most `steps` turns as events that viewers of timelines read.
+    Timeline {
+        image: &'a str,
+        script: &'a str,
+        steps: u32,
     },
     /// Say what the commands are, or what one of them takes and answers.
     Help {
@@ -307,6 +314,17 @@ fn sweep_by<'a>(matches: &ArgMatches<'a>) -> Job<'a>
     }
 }
 
+fn timeline_by<'a>(matches: &ArgMatches<'a>) -> Job<'a>
+    ensures job { HasSteps (rows_of (found_of matches.now)) → Some (asked result) ≡ timeline_form.asks (rows_of (found_of matches.now)) }
+    ensures few { HasSteps (rows_of (found_of matches.now)) → steps_of result ≤ most_steps }
+{
+    Job::Timeline {
+        image: text_of(matches, "image"),
+        script: text_of(matches, "script"),
+        steps: steps_in(matches),
+    }
+}
+
 /// The command that a word names, if it names one.
 fn command_named(word: &str) -> Option<CommandName>
     ensures { result ≡ command_by word.now }
@@ -335,6 +353,8 @@ fn command_named(word: &str) -> Option<CommandName>
         Some(CommandName::Cover)
     } else if word == "sweep" {
         Some(CommandName::Sweep)
+    } else if word == "timeline" {
+        Some(CommandName::Timeline)
     } else if word == "help" {
         Some(CommandName::Help)
     } else {
@@ -384,6 +404,8 @@ pub fn job_by<'a>(name: &str, matches: &ArgMatches<'a>) -> Option<Job<'a>>
         Some(cover_by(matches))
     } else if name == "sweep" {
         Some(sweep_by(matches))
+    } else if name == "timeline" {
+        Some(timeline_by(matches))
     } else {
         help_by(matches)
     }

@@ -6,7 +6,7 @@ ghost use Rattle.help_text.specs.Help.{help_text, parts_of, parts_on};
 use crate::texts::{
     APPLICATION_CAUSES, ARRIVAL_CAUSES, AUDIT, BUILD, COMMANDS, COMMANDS_CAUSES, COVER, DEBUG, GO,
     HELP, IMAGE_CAUSES, LIMITS, LIST, MIGRATE, RESUME, RUN, SAMPLE, SAVE, SCRIPT_CAUSES,
-    SOURCE_CAUSES, STATE_CAUSES, STATUSES, SWEEP, TRACE_CAUSES,
+    SOURCE_CAUSES, STATE_CAUSES, STATUSES, SWEEP, TIMELINE, TRACE_CAUSES,
 };
 use command_line::CommandName;
 use outside_io::{Failed, Sink, push_lines};
@@ -56,6 +56,7 @@ fn parts_on(command: CommandName) -> &'static [&'static [&'static str]]
             SCRIPT_CAUSES,
             ARRIVAL_CAUSES,
         ],
+        CommandName::Timeline => &[TIMELINE, LIMITS, STATUSES, IMAGE_CAUSES, SCRIPT_CAUSES],
         CommandName::Help => &[HELP, STATUSES],
     }
 }

@@ -14,6 +14,7 @@ pub(crate) const COMMANDS: &[&str] = &[
     "debug IMAGE SCRIPT COMMANDS                           goes over a run forwards and back, by commands\n",
     "cover IMAGE SCRIPT --steps N                          counts how often a run executed each instruction\n",
     "sweep IMAGE SCRIPT ARRIVAL FROM TO --steps N [--mem]  tries every arrival time of some events\n",
+    "timeline IMAGE SCRIPT --steps N                       writes a run for a viewer of timelines, as JSON\n",
     "help [COMMAND]                                        says this, or what one command takes and answers\n",
     "\n",
     "hubris help COMMAND says what one of them takes and answers. docs/FORMATS.md has the formats, docs/GUIDE.md a\n",
@@ -122,6 +123,15 @@ pub(crate) const SWEEP: &[&str] = &[
     "writes  the lines of the sweep (Sweep)\n",
 ];
 
+/// The command `timeline`.
+pub(crate) const TIMELINE: &[&str] = &[
+    "hubris timeline IMAGE SCRIPT --steps N\n",
+    "    plays SCRIPT on IMAGE for at most N turns and tells what each task did and what happened as events in the\n",
+    "    Trace Event Format, which Perfetto and Chrome open (Timeline)\n",
+    "takes   IMAGE, then SCRIPT\n",
+    "writes  the events, as JSON (Timeline)\n",
+];
+
 /// The command `help`.
 pub(crate) const HELP: &[&str] = &[
     "hubris help [COMMAND]\n",
@@ -153,7 +163,7 @@ pub(crate) const STATUSES: &[&str] = &[
     "        by the supervisor\n",
     "    1   a file was read and is refused; writes `refused <name> <cause> <place>`\n",
     "    2   the words are not taken; writes `usage: hubris build, run, go, list, sample, migrate, audit, save,\n",
-    "        resume, debug, cover, sweep or help`\n",
+    "        resume, debug, cover, sweep, timeline or help`\n",
     "    3   a file cannot be read; writes `cannot read <name>`\n",
     "    4   the output failed, and what is put is under OUT; or its put failed, and there are the old contents or\n",
     "        the beginning of the new ones\n",
@@ -276,7 +286,8 @@ pub(crate) const COMMANDS_CAUSES: &[&str] = &[
     "causes of COMMANDS, the place is a line of it, from 1 on\n",
     "    0   more than 2097152 bytes; the place is that number\n",
     "    1   it has a byte other than a tab and 32 to 126\n",
-    "    2   its first word is no command, or there are more or fewer words behind it\n",
+    "    2   its first word is no command, there are more or fewer words behind it than one of its forms has, or\n",
+    "        where a kind stands is none\n",
     "    3   a number is none of the form, or out of its range\n",
     "    4   it is the 1,025th command\n",
 ];

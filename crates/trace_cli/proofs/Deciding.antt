@@ -6,7 +6,7 @@ use Rattle.kernel_abi.specs.Devices.{DeviceData}
 use Rattle.outside_io.specs.Outside.{WhereSeen}
 use Rattle.image_format.specs.Picture.{Picture}
 use Rattle.sample_gen.specs.Sample.{sample_app, sample_sources}
-use Rattle.command_line.specs.CommandLine.{Asked, build, run, go, list, sample, migrate, audit, save, resume, debug, cover, sweep, help, is_accepted, job_of}
+use Rattle.command_line.specs.CommandLine.{Asked, build, run, go, list, sample, migrate, audit, save, resume, debug, cover, sweep, timeline, help, is_accepted, job_of}
 use Rattle.debug_core.specs.declared.command.Command.{Command}
 use Rattle.debug_core.specs.Reading.{commands_or_fault}
 use Rattle.build_laws.proofs.OnePicture.{one_picture}
@@ -45,6 +45,7 @@ same_done devices (debug image script name) cs u v p q =
     p.2 ∙ ap (debugged (scenario_in devices cs)) (same_commands (commands_or_fault (slice_index_or cs 2 [])) p.0 q.0 p.1 q.1) ∙ sym q.2
 same_done devices (cover image script steps) cs u v p q = p ∙ sym q
 same_done devices (sweep image script arrival from to steps memory) cs u v p q = p ∙ sym q
+same_done devices (timeline image script steps) cs u v p q = p ∙ sym q
 same_done devices (help about) cs u v p q = p ∙ sym q
 
 -- ## three ways in which lengths meet

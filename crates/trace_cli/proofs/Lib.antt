@@ -16,3 +16,4 @@ pub mod Taking
 pub mod Handed
 pub mod GoingOn
 pub mod OnlyReading
+pub mod Timing

@@ -17,7 +17,7 @@ use Rattle.outside_io.specs.Outside.{Rose}
 use Rattle.audit_runs.specs.Last.{IsGoodText}
 use Rattle.trace_audit.specs.declared.verdict.Verdict as trace
 use Rattle.trace_audit.specs.declared.verdict.Verdict.TheVariants.{Yes, No}
-use Rattle.command_line.specs.CommandLine.{Asked, build, run, go, list, sample, migrate, audit, save, resume, debug, cover, sweep, help}
+use Rattle.command_line.specs.CommandLine.{Asked, build, run, go, list, sample, migrate, audit, save, resume, debug, cover, sweep, timeline, help}
 use Rattle.command_line.specs.declared.job.Detail.{Detail}
 use Rattle.debug_core.specs.declared.command.Command.{Command}
 use Rattle.trace_cli.specs.declared.file_faults.NamedFault.{NamedFault}
@@ -29,7 +29,7 @@ use Rattle.trace_cli.specs.FileFaults.{IsNamedFaultOf}
 use Rattle.trace_cli.specs.Building.{IsImage, IsNamedFaultInApp}
 use Rattle.trace_cli.specs.Ready.{StartsWell, StartsSeen, IsImageFile, IsScriptFile, IsSet, RunsImage, IsReady, IsLoaded, IsStateSet, IsResumable, IsCommandsFile, IsDebugReady, IsArrivalFile, IsSweepReady, IsAuditOf, IsNamedFaultIn}
 use Rattle.trace_cli.specs.Pushed.{Pushed, whole, cut, Says, pushed, silent, IsSilent, SaysNamedFault}
-use Rattle.trace_cli.specs.Verdict.{Verdict, Does, refused, unread, ran, listed, built, saved, resumed, debugged, covered, swept, audited}
+use Rattle.trace_cli.specs.Verdict.{Verdict, Does, refused, unread, ran, listed, built, saved, resumed, debugged, covered, swept, timed, audited}
 use Rattle.trace_cli.specs.Answer as answer
 use Rattle.trace_cli.specs.Answer.{JobReason, cannot_read, refuses, does, IsShort, HasPut, HasSpoiled, Tells, IsOfRun, TellsGood, AnswersJob}
 use Rattle.trace_cli.proofs.Lists.{at_end, longer, takes_none, takes_first, takes_wider, takes_last, get_more, get_last}
@@ -367,6 +367,7 @@ tells_good (resume image script state steps detail) v r h = tt
 tells_good (debug image script commands) v r h = tt
 tells_good (cover image script steps) v r h = tt
 tells_good (sweep image script arrival from to steps memory) v r h = tt
+tells_good (timeline image script steps) v r h = tt
 tells_good (help about) v r h = tt
 
 no_run : (r : ℕ) → 1 ≤ r → r ≤ 5 → IsOfRun r → ⊥
@@ -453,6 +454,11 @@ pub answers_covered : {X : Type 0} {H : X → Type 0} {shown : Shows X H} {devic
     → ((x : Scenario) → Stands shown x bd (start_of x) → Says w w' (covered n x) r) → AnswersJob devices (cover image script n) a b w w' r
 answers_covered image script a b w w' n bd r same h says =
     answers_said (cover image script n) a b w w' (covered n h.scenario) r same refl (does h.contents h.accepted h.done) tt (says h.scenario h.stands)
+
+pub answers_timed : {X : Type 0} {H : X → Type 0} {shown : Shows X H} {devices : List DeviceData} (image script : List ℕ) (a b : FilesSeen) (w w' : SinkSeen) (n : ℕ) (bd : Board X H) (r : ℕ) → b.contents ≡ a.contents → IsReady shown devices (timeline image script n) a.contents (timed n) bd
+    → ((x : Scenario) → Stands shown x bd (start_of x) → Says w w' (timed n x) r) → AnswersJob devices (timeline image script n) a b w w' r
+answers_timed image script a b w w' n bd r same h says =
+    answers_said (timeline image script n) a b w w' (timed n h.scenario) r same refl (does h.contents h.accepted h.done) tt (says h.scenario h.stands)
 
 -- ## what an image is put under
 

@@ -9,7 +9,7 @@ use Rattle.image_build.specs.Built.{Built}
 use Rattle.board_model.specs.Script.{Scenario}
 use Rattle.task_table.specs.State.{State}
 use Rattle.snapshot.specs.Restored.{state_in}
-use Rattle.command_line.specs.CommandLine.{Asked, build, run, go, list, sample, migrate, audit, save, resume, debug, cover, sweep, help}
+use Rattle.command_line.specs.CommandLine.{Asked, build, run, go, list, sample, migrate, audit, save, resume, debug, cover, sweep, timeline, help}
 use Rattle.trace_cli.specs.Contents.{Why, file_limit, trace_limit, image_refusal, script_refusal, app_refusal, source_refusal, trace_refusal, state_refusal, commands_refusal, arrival_refusal, picture_of, application_of, scenario_of}
 
 -- a file, the most bytes that it may have, and why contents of it are refused
@@ -57,7 +57,7 @@ abbrev pub files_to_build : List ℕ → List ℕ → List File
 files_to_build app first = app_file app ∷ source_files (application_of first)
 
 -- The files of a job of which the first file holds these bytes: `build` takes those of its application, `go` too and then
--- its script; `run`, `save` and `cover` take their image and then their script, `resume` too and then its state, `debug` too and then its
+-- its script; `run`, `save`, `cover` and `timeline` take their image and then their script, `resume` too and then its state, `debug` too and then its
 -- commands, `sweep` too and then its arrival, `list` and `migrate` their image, `audit` its trace, `sample` and `help` none. The devices are those of a run.
 abbrev pub files_of : List DeviceData → Asked → List ℕ → List File
 files_of devices (build app out) first = files_to_build app first
@@ -72,6 +72,7 @@ files_of devices (resume image script state steps detail) first = image_file ima
 files_of devices (debug image script commands) first = image_file image ∷ script_file script ∷ commands_file commands ∷ []
 files_of devices (cover image script steps) first = image_file image ∷ script_file script ∷ []
 files_of devices (sweep image script arrival from to steps memory) first = image_file image ∷ script_file script ∷ arrival_file arrival ∷ []
+files_of devices (timeline image script steps) first = image_file image ∷ script_file script ∷ []
 files_of devices (help about) first = []
 
 abbrev pub first_of : List (List ℕ) → List ℕ

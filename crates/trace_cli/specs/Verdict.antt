@@ -1,5 +1,6 @@
 -- What the program answers: a status, its text, and the file that it puts.
-use Rattle.std.specs.Prelude.{◌≡◌, ℕ, ◌-◌, Bool, false, if◌then◌else◌, List, [], ◌++◌, length, slice_index_or, codes, decimal, Option, Some, None, Ok}
+use Rattle.std.specs.Prelude.{◌≡◌, ℕ, ◌-◌, Bool, false, if◌then◌else◌, List, [], ◌++◌, length, map, slice_index_or, codes, decimal, Option, Some, None, Ok}
+use Rattle.std.specs.List.{range_with_len}
 use Rattle.kernel_abi.specs.Devices.{DeviceData}
 use Rattle.serde_json.specs.Written.{compact_text}
 use Rattle.image_format.specs.Picture.{Picture, spelling}
@@ -20,6 +21,7 @@ use Rattle.board_run.specs.Text.{trace_text}
 use Rattle.board_run.specs.Counts.{summary_text}
 use Rattle.board_run.specs.MemoryText.{memory_text}
 use Rattle.run_cover.specs.Text.{cover_text}
+use Rattle.run_lanes.specs.Timeline.{timeline_text}
 use Rattle.sweep_core.specs.Swept.{Asking, makes_difference, sweep_text}
 use Rattle.sweep_core.specs.Sweeping.{asked}
 use Rattle.debug_core.specs.declared.command.Command.{Command}
@@ -28,7 +30,7 @@ use Rattle.debug_core.specs.Reading.{commands_or_fault}
 use Rattle.trace_audit.specs.declared.verdict.Verdict as trace
 use Rattle.trace_audit.specs.declared.verdict.Verdict.TheVariants.{Yes, No}
 use Rattle.trace_audit.specs.Verdicts as trace_audit
-use Rattle.command_line.specs.CommandLine.{Asked, build, run, go, list, sample, migrate, audit, save, resume, debug, cover, sweep, help, is_accepted}
+use Rattle.command_line.specs.CommandLine.{Asked, build, run, go, list, sample, migrate, audit, save, resume, debug, cover, sweep, timeline, help, is_accepted}
 use Rattle.command_line.specs.declared.job.CommandName.{CommandName}
 use Rattle.command_line.specs.declared.job.Detail.{Detail}
 use Rattle.help_text.specs.Help.{help_text}
@@ -47,7 +49,7 @@ abbrev pub line_alone : ℕ → List ℕ → Verdict
 line_alone status line = record { status = status; text = line; put = None }
 
 abbrev pub usage_line : List ℕ
-usage_line = codes "usage: hubris build, run, go, list, sample, migrate, audit, save, resume, debug, cover, sweep or help\n"
+usage_line = codes "usage: hubris build, run, go, list, sample, migrate, audit, save, resume, debug, cover, sweep, timeline or help\n"
 
 -- `refused <name> <cause> <place>`
 unfoldable pub refused_front : List ℕ → ℕ → List ℕ
@@ -175,6 +177,17 @@ asking arrival from to limit mem = asked (script_of arrival).events from to limi
 abbrev pub swept : Scenario → Asking → Verdict
 swept x a = line_alone (if makes_difference x a then 8 else 0) (sweep_text x a)
 
+-- the names of so many tasks, where none is known
+abbrev pub task_name : ℕ → List ℕ
+task_name i = codes "task " ++ decimal i
+
+abbrev pub task_names : ℕ → List (List ℕ)
+task_names n = map task_name (range_with_len 0 n)
+
+-- a run as a timeline
+abbrev pub timed : ℕ → Scenario → Verdict
+timed n x = line_alone (status_of (run_of Calls n x).end) (timeline_text (task_names (length x.setup.tasks)) x n (start_of x))
+
 -- what the commands are, or what one of them takes and answers
 abbrev pub helped : Option CommandName → Verdict
 helped about = line_alone 0 (help_text about)
@@ -195,6 +208,7 @@ Does devices (debug image script name) contents v =
     (commands : List Command) × (commands_or_fault (slice_index_or contents 2 []) ≡ Ok commands) × (v ≡ debugged (scenario_in devices contents) commands)
 Does devices (cover image script steps) contents v = v ≡ covered steps (scenario_in devices contents)
 Does devices (sweep image script arrival from to steps memory) contents v = v ≡ swept (scenario_in devices contents) (asking (slice_index_or contents 2 []) from to steps memory)
+Does devices (timeline image script steps) contents v = v ≡ timed steps (scenario_in devices contents)
 Does devices (help about) contents v = v ≡ helped about
 
 -- ## the verdict on words and contents, where they are seen as far as they count and a run has these devices

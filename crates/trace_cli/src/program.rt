@@ -21,6 +21,7 @@ use crate::sampling::run_sample;
 use crate::saving::save_file;
 use crate::sweeping::sweep_files;
 use crate::telling::tell_usage;
+use crate::timeline::timeline_files;
 use command_line::{Job, Refusal, read_words};
 use devices::Device;
 use outside_io::{Files, Sink};
@@ -109,6 +110,13 @@ fn answer<F: Files, S: Sink>(
         ) => sweep_files(
             alloc, image, script, arrival, from, to, steps, memory, files, out, devices,
         ),
+        Ok(
+            Job::Timeline {
+                image,
+                script,
+                steps,
+            },
+        ) => timeline_files(alloc, image, script, steps, files, out, devices),
         Ok(Job::Help { about }) => help(about, out),
         Err(Refusal::NotAccepted) => tell_usage(out),
         Err(Refusal::Memory) => 5,
@@ -117,7 +125,7 @@ fn answer<F: Files, S: Sink>(
 
 /// All that the program does. The words, the program's name first, and the files are handed in, and
 /// the lines go to the sink, one push each; the answer is the program's exit status. The devices are those of a run of `run`,
-/// `go`, `save`, `resume`, `debug`, `cover` or `sweep`, as they are handed in: at most eight, to which nothing has come as yet, each at a place of its own.
+/// `go`, `save`, `resume`, `debug`, `cover`, `sweep` or `timeline`, as they are handed in: at most eight, to which nothing has come as yet, each at a place of its own.
 /// `sample` runs without a device.
 ///
 /// - 0: the trace of the run (docs/FORMATS.md, Trace), with `--all` each of its instructions, with `--mem` its last
@@ -127,7 +135,7 @@ fn answer<F: Files, S: Sink>(
 ///   was written: so many calls were offered in it, and so many of them no line closes; or the commands were carried out
 ///   (docs/FORMATS.md, Commands), and the answer to each was written; or how often the run executed each instruction was written
 ///   (docs/FORMATS.md, Cover); or how the runs end into which the events of an arrival come was written (docs/FORMATS.md, Sweep), and
-///   no arrival time makes a difference; or what the commands are, or what one of them takes and answers, was written.
+///   no arrival time makes a difference; or the run was written as events (docs/FORMATS.md, Timeline); or what the commands are, or what one of them takes and answers, was written.
 /// - 1: a file is refused, and `refused <name> <cause> <place>` was written.
 /// - 2: the words are not accepted (docs/FORMATS.md, Command line), and the usage line was written.
 /// - 3: a file cannot be read, and `cannot read <name>` was written.
@@ -148,7 +156,7 @@ pub fn hubris_main_with<F: Files, S: Sink>(
 
     // Where the words and the seen contents give a verdict (of accepted words and files: the trace of
     // their run, the listing, the image that is built or migrated, the state that is saved, the trace from a saved state, the two lines of
-    // a sample, what an audit found, the answers to commands, how often each instruction was executed, the lines of a sweep, or what `help` says), its file was put, its whole text was pushed under its status; or the sink's count of faults rose, the status is 4, and a front of the text was
+    // a sample, what an audit found, the answers to commands, how often each instruction was executed, the lines of a sweep, the events of a timeline, or what `help` says), its file was put, its whole text was pushed under its status; or the sink's count of faults rose, the status is 4, and a front of the text was
     // pushed; or the count of failed puts rose, the status is 4, and nothing was pushed; or memory is
     // short, the status is 5, and nothing was pushed or put; or the count of failed reads rose, and the
     // same holds of the line of a file that cannot be read.
@@ -187,7 +195,7 @@ pub fn hubris_main<F: Files, S: Sink>(
 ) -> u8
     // Where the words and the seen contents give a verdict (of accepted words and files: the trace of
     // their run, the listing, the image that is built or migrated, the state that is saved, the trace from a saved state, the two lines of
-    // a sample, what an audit found, the answers to commands, how often each instruction was executed, the lines of a sweep, or what `help` says), its file was put, its whole text was pushed under its status; or the sink's count of faults rose, the status is 4, and a front of the text was
+    // a sample, what an audit found, the answers to commands, how often each instruction was executed, the lines of a sweep, the events of a timeline, or what `help` says), its file was put, its whole text was pushed under its status; or the sink's count of faults rose, the status is 4, and a front of the text was
     // pushed; or the count of failed puts rose, the status is 4, and nothing was pushed; or memory is
     // short, the status is 5, and nothing was pushed or put; or the count of failed reads rose, and the
     // same holds of the line of a file that cannot be read.

@@ -35,7 +35,7 @@ pub fn tell_usage<S: Sink>(out: &mut S) -> u8
     ensures { Says (S.seen out.old) (S.seen out.new) usage result }
 {
     tell(
-        "usage: hubris build, run, go, list, sample, migrate, audit, save, resume, debug, cover, sweep or help\n".as_bytes(),
+        "usage: hubris build, run, go, list, sample, migrate, audit, save, resume, debug, cover, sweep, timeline or help\n".as_bytes(),
         2,
         out,
     )

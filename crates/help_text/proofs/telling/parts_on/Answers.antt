@@ -53,3 +53,7 @@ returns-in-Sweep c = sym (ap parts_on c.in-Sweep.is)
 pub returns-in-Help : goal.returns-in-Help
 unfolding parts_on
 returns-in-Help c = sym (ap parts_on c.in-Help.is)
+
+pub returns-in-Timeline : goal.returns-in-Timeline
+unfolding parts_on
+returns-in-Timeline c = sym (ap parts_on c.in-Timeline.is)

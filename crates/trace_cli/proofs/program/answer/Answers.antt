@@ -71,10 +71,20 @@ returns-in-Ok-Cover-clause-answer g c =
     let job = rw c.in-Ok-Cover.field-0-is at c.in-Ok-Cover.ensures.job in
     by_job _ _ _ _ _ _ _ c.in-Ok-Cover.ensures.accepted job c.cover_files.ensures.answer
 
+pub returns-in-Ok-Timeline-clause-answer : goal.returns-in-Ok-Timeline-clause-answer
+returns-in-Ok-Timeline-clause-answer g c =
+    let job = rw c.in-Ok-Timeline.field-0-is at c.in-Ok-Timeline.ensures.job in
+    by_job _ _ _ _ _ _ _ c.in-Ok-Timeline.ensures.accepted job c.timeline_files.ensures.answer
+
 pub returns-in-Ok-Cover-clause-each : goal.returns-in-Ok-Cover-clause-each
 returns-in-Ok-Cover-clause-each g c =
     let job = rw c.in-Ok-Cover.field-0-is at c.in-Ok-Cover.ensures.job in
     each_of_words _ (texts_of c.args.words.now) _ _ _ _ _ _ c.in-Ok-Cover.ensures.accepted job tt
+
+pub returns-in-Ok-Timeline-clause-each : goal.returns-in-Ok-Timeline-clause-each
+returns-in-Ok-Timeline-clause-each g c =
+    let job = rw c.in-Ok-Timeline.field-0-is at c.in-Ok-Timeline.ensures.job in
+    each_of_words _ (texts_of c.args.words.now) _ _ _ _ _ _ c.in-Ok-Timeline.ensures.accepted job tt
 
 pub returns-in-Ok-Sweep-clause-answer : goal.returns-in-Ok-Sweep-clause-answer
 returns-in-Ok-Sweep-clause-answer g c =
@@ -147,6 +157,9 @@ resume_files-requires g c = record { fresh = c.requires.fresh; few = rw c.in-Ok-
 
 pub cover_files-requires : goal.cover_files-requires
 cover_files-requires g c = record { fresh = c.requires.fresh; few = rw c.in-Ok-Cover.field-0-is at c.in-Ok-Cover.ensures.few }
+
+pub timeline_files-requires : goal.timeline_files-requires
+timeline_files-requires g c = record { fresh = c.requires.fresh; few = rw c.in-Ok-Timeline.field-0-is at c.in-Ok-Timeline.ensures.few }
 
 pub sweep_files-requires : goal.sweep_files-requires
 sweep_files-requires g c =
