@@ -14,7 +14,7 @@ out=bench/out/memory
 mkdir -p $out
 gcc -O2 -Wall -shared -fPIC -o $out/refuse.so bench/refuse.c
 "$program" save crates/hubris/data/a.img crates/hubris/data/e.txt $out/state --steps 2 >$out/text
-printf '%s\n' 'break 08000002' 'go 3' 'back 1' 'regs 0' 'mem 08000000 4' > $out/commands
+printf '%s\n' 'break 08000002' 'go 3' 'back 1' 'regs 0' 'mem 08000000 4' 'notes' 'back 9 change 20000000' > $out/commands
 bad=0
 while read -r words; do
     rm -f $out/app.img
@@ -48,6 +48,7 @@ resume crates/hubris/data/a.img crates/hubris/data/e.txt $out/state --steps 3
 debug crates/hubris/data/a.img crates/hubris/data/e.txt $out/commands
 cover crates/hubris/data/a.img crates/hubris/data/e.txt --steps 3
 sweep crates/hubris/data/a.img crates/hubris/data/e.txt examples/lost-byte/arrival.txt 0 5 --steps 9 --mem
+timeline crates/hubris/data/a.img crates/hubris/data/e.txt --steps 3
 help
 help run
 WORDS

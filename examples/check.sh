@@ -76,6 +76,27 @@ same "$made/cover.txt" examples/restart/cover.txt "restart, cover"
 "$program" run "$made/restart.img" examples/restart/empty.txt --steps 300 --all | awk '$2 == "insn" { n[$4]++ } END { for (a in n) print a, n[a] }' | sort > "$made/counts.txt"
 awk '$1 ~ /^[0-9]/ { print $2, $1 }' "$made/cover.txt" | sort > "$made/covered.txt"
 same "$made/covered.txt" "$made/counts.txt" "restart, cover against --all"
+"$program" timeline "$made/restart.img" examples/restart/empty.txt --steps 300 > "$made/timeline.json"
+same "$made/timeline.json" examples/restart/timeline.json "restart, timeline"
+# it is JSON, and the stretches of each task are one behind the other, from turn 0 to the end, with another word each
+for example in one-task client-server blinker driver restart timers watch uart debugger lost-byte from-c; do
+    script=$example/script.txt
+    [ -e "examples/$script" ] || script=$example/empty.txt
+    "$program" timeline "$made/$example.img" "examples/$script" --steps 500 > "$made/timeline.json" || [ $? = 6 ]
+    python3 -c '
+import json, sys
+lanes = {}
+for event in json.load(open(sys.argv[1]))["traceEvents"]:
+    if event["ph"] == "X": lanes.setdefault(event["tid"], []).append((event["ts"], event["dur"], event["name"]))
+ends = set()
+for stretches in lanes.values():
+    at, last = 0, ""
+    for turn, turns, word in stretches:
+        assert turn == at and turns > 0 and word != last, (turn, turns, word)
+        at, last = turn + turns, word
+    ends.add(at)
+assert len(ends) == 1, ends' "$made/timeline.json" || { echo "$example: its timeline has gaps"; exit 1; }
+done
 # each run holds together, its memory behind it too; a borrow of a call that nobody took does not
 for example in one-task client-server blinker driver restart timers watch uart debugger lost-byte from-c; do
     for text in expected expected-mem; do

@@ -20,7 +20,7 @@ fn reading(alloc: Global, text: &[u8]) -> (u8, usize) {
     }
 }
 
-const TEXTS: [(&[u8], u8, usize); 40] = [
+const TEXTS: [(&[u8], u8, usize); 59] = [
     (b"", 0, 0),
     (b"# nothing\n\n \t \n\tstep\t1 \n", 0, 1),
     (b"step 1\r\nback 0", 0, 2),
@@ -61,6 +61,29 @@ const TEXTS: [(&[u8], u8, usize); 40] = [
     (b"step x\nfoo\n\x01\n", 3, 1),
     (b"\n\r\n go x", 3, 3),
     (b"# step\nstep 1\n\tgo\t1\t2", 2, 3),
+    (
+        b"go 0 tick\nback 1 irqstat 4294967295\ngo 5 change ABCDEF09",
+        0,
+        3,
+    ),
+    (b"at 1000000000\nnotes\ntask 511\nline 63\ndevice 7", 0, 5),
+    (b"\tback\t1  find\t0000000001 \r\n#\n notes ", 0, 2),
+    (b"go 1 change", 2, 1),
+    (b"go x Tick", 2, 1),
+    (b"back 1 high 3", 2, 1),
+    (b"step 1 fault 1", 2, 1),
+    (b"go 1 fault 1 2", 2, 1),
+    (b"notes 1", 2, 1),
+    (b"line", 2, 1),
+    (b"go x tick", 3, 1),
+    (b"go 1000000001 fault 1", 3, 1),
+    (b"back 1 fault 4294967296", 3, 1),
+    (b"back 1 fault x", 3, 1),
+    (b"go 1 change 800000", 3, 1),
+    (b"at 1000000001", 3, 1),
+    (b"task 512", 3, 1),
+    (b"line 64", 3, 1),
+    (b"device 8", 3, 1),
 ];
 
 #[test]

@@ -17,6 +17,8 @@ mod eight_devices;
 #[cfg(test)]
 mod guide;
 #[cfg(test)]
+mod lanes;
+#[cfg(test)]
 mod memory;
 #[cfg(test)]
 mod saved_states;
