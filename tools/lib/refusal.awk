@@ -15,7 +15,7 @@ BEGIN {
         "the code is longer than the task's `flash`, in bytes", source, "|")
     split("a byte that is not allowed|no form of a line|no number, or one out of range|" \
         "a turn below that of an earlier line, or an `every` behind|more than 65,536 events, or nine of one turn", script, "|")
-    split("a byte that is not allowed|no command, or not its number of words|no number of this form, or one out of range|" \
+    split("a byte that is not allowed|no command, not one of its numbers of words, or no kind|no number of this form, or one out of range|" \
         "more than 1,024 commands", commands, "|")
     split("too short|no image; a description is for `go` and `build`|a number out of its range|too long|task 0 alone has priority 0|" \
         "flags of a task|the stack is no multiple of 4|rights of a region|a region's size or base|a region outside of its area|" \
