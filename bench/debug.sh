@@ -49,21 +49,28 @@ bar -v n="$turns" -v step="$step" -v once="$once" 'BEGIN {
     exit once - step >= step / 10
 }'
 bar -v step="$step" -v often="$often" 'BEGIN { printf "back 1, a thousand times: %.3f s, below 1\n", often - step; exit often - step >= 1 }'
-# searches: for a fault that does not come, for the last change of a byte that changed in the last thousand turns, and what was told of a turn
+# searches: for a fault that does not come, for the last change of a byte that changed not long ago, and what was told of a turn
 read -r search _ < <(echo "go $turns fault" | session out/crc32.img out/empty.txt)
 bar -v n="$turns" -v run="$run" -v search="$search" 'BEGIN {
     printf "go to a fault that does not come: %.1f million turns/s, %.2f of a run that tells nothing, at least 0.9\n", n / search / 1e6, run / search
     exit run / search < 0.9
 }'
-windows() { for k in 0 64 128 192 256 320 384 448; do printf 'mem %08x 64\n' $((0x20000000 + k)); done; }
-{ echo "step $((turns - 1000))"; windows; echo "step 1000"; windows; } > out/windows.txt
-changed=$("$program" debug out/crc32.img out/empty.txt out/windows.txt | awk '
+windows() { for k in $(seq 0 63); do printf 'mem %08x 64\n' $((0x20000000 + 64 * k)); done; }
+{ echo "step $((turns - 100000))"; windows; echo "step 100000"; windows; } > out/windows.txt
+./endless.sh bytecode > out/bytecode.img
+changed=$("$program" debug out/bytecode.img out/empty.txt out/windows.txt | awk '
     NF == 2 && $1 in before { for (k = 1; k <= 128; k += 2) if (found == "" && substr(before[$1], k, 2) != substr($2, k, 2)) { found = $1; at = (k - 1) / 2 } }
     NF == 2 { before[$1] = $2 }
     END { print found, at }')
 byte=$(printf '%08x' $((0x${changed% *} + ${changed#* })))
-read -r back _ < <(printf '%s\n' "step $turns" "back 1000000000 change $byte" | session out/crc32.img out/empty.txt)
-bar -v byte="$byte" -v step="$step" -v back="$back" 'BEGIN { printf "who changed %s last: %.4f s, below 0.1\n", byte, back - step; exit back - step >= 0.1 }'
+{ echo "step $turns"; for _ in $(seq 20); do echo "back 1000000000 change $byte"; done; } > out/changes.txt
+first=$("$program" debug out/bytecode.img out/empty.txt out/changes.txt | sed -n 2p)
+read -r there _ < <(echo "step $turns" | session out/bytecode.img out/empty.txt)
+read -r back _ < <(session out/bytecode.img out/empty.txt < <(cat out/changes.txt))
+bar -v byte="$byte" -v ago=$((turns - ${first%% *})) -v step="$there" -v back="$back" 'BEGIN {
+    printf "who changed %s, %d turns ago, and nineteen times before: %.4f s each, below 0.1\n", byte, ago, (back - step) / 20
+    exit (back - step) / 20 >= 0.1
+}'
 read -r often _ < <({ echo "step $turns"; for _ in $(seq 1000); do echo "notes"; done; } | session out/crc32.img out/empty.txt)
 bar -v step="$step" -v often="$often" 'BEGIN { printf "notes, a thousand times: %.3f s, below 1\n", often - step; exit often - step >= 1 }'
 # the peak of a session, and how many bytes a state has

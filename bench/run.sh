@@ -132,5 +132,7 @@ instructions "16 clients, 4 servers" 245 out/messages.img out/empty.txt
 instructions "8 lenders, 1 server" 242 out/leases.img out/empty.txt
 instructions "large sample" 152 sample/sample.img sample/script.txt
 instructions "512 tasks with timers" 382 out/timers512.img timers/script.txt
+start=$(host out/timers512.img timers/script.txt --steps 0)
+awk -v n="$start" 'BEGIN { printf "%-28s %7.1f million host instructions before the first turn, at most 10\n", "512 tasks with timers", n / 1e6; exit n / 1e6 > 10 }' || short=1
 instructions "507 clients, 4 servers" 257 out/messages512.img out/empty.txt
 exit $short
