@@ -16,6 +16,7 @@ use outside_io::{Failed, Sink};
 use trace_text::TurnLines;
 use words_core::Flags;
 
+#[inline(always)]
 fn push_note<S: Sink>(lines: &mut TurnLines, note: &Note, out: &mut S) -> Result<(), Failed>
     ensures number { lines.new.number ≡ lines.old.number }
     ensures bytes { Pushes (S.seen out.old).written (S.seen out.new).written (line_of lines.old.number note.now) result }
@@ -26,7 +27,9 @@ fn push_note<S: Sink>(lines: &mut TurnLines, note: &Note, out: &mut S) -> Result
     out.push(lines.text().as_bytes())
 }
 
-/// The notes of a turn, one line each. What stands in `lines` is of a turn before.
+/// The notes of a turn, one line each. What stands in `lines` is of a turn before. It is made where it is called for, so that the
+/// loop of a run that is told has a copy of its own.
+#[inline(always)]
 pub fn push_notes<S: Sink>(
     turn: u32,
     notes: &[Note],
