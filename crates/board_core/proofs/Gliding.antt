@@ -1,6 +1,6 @@
 -- Turns on end of the task that runs.
-use Rattle.std.proofs.Common.{◌≡◌, ◌≢◌, ◌⊎◌, inl, inr, ◌+◌, ◌-◌, ◌<◌, ℕ, zero, suc, Bool, true, false, List, [], Some, None, refl, sym, ◌∙◌, ap, subst, arith, eqb}
-use Rattle.std.proofs.lemmas.Bool.{eqb-true, eqb-false}
+use Rattle.std.proofs.Common.{◌≡◌, ◌≢◌, ◌⊎◌, inl, inr, ◌+◌, ◌-◌, ◌≤◌, ◌<◌, ℕ, zero, suc, Bool, true, false, List, [], Some, None, refl, sym, ◌∙◌, ap, subst, arith, eqb, leb, ltb}
+use Rattle.std.proofs.lemmas.Bool.{eqb-true, eqb-false, leb-true, leb-false, ltb-true, ltb-false}
 use Rattle.run_script.specs.Scripts.{IsNext, events_of}
 use Rattle.kernel_abi.specs.declared.Note.{Note}
 use Rattle.task_table.specs.State.{Setup, State, Turn}
@@ -18,6 +18,7 @@ use Rattle.board_core.specs.Stands.{Stands, notes_of, turns_of}
 use Rattle.board_model.specs.Turn.{turn}
 use Rattle.board_model.specs.Run.{ending, turn_after, state_after}
 use Rattle.board_core.specs.Advanced.{IsAdvanced, HasGlidden}
+use Rattle.board_core.specs.Stops.{Stops}
 use Rattle.board_model.proofs.TurnChains.{begun_sane}
 use Rattle.board_model.proofs.Further.{last_turn, turn_further}
 use Rattle.board_model.proofs.Counts.{counted_turn, turn_more}
@@ -82,15 +83,15 @@ unfolding turn_after
 first_turn shown level x s b st notes = record { nothing = λ k lt. absurd (omega arith); goes_on = λ k lt. absurd (omega arith); stands = st; notes = notes }
 
 -- no turn
-pub none_made : {X : Type 0} {H : X → Type 0} (shown : Shows X H) (breakpoints : List ℕ) (x : Scenario) (s : State) (b : Board X H) → Stands shown x b s → HasGlidden shown breakpoints x s (turns_of b - turns_of b) b
+pub none_made : {X : Type 0} {H : X → Type 0} (shown : Shows X H) (stops : Stops) (x : Scenario) (s : State) (b : Board X H) → Stands shown x b s → HasGlidden shown stops x s (turns_of b - turns_of b) b
 unfolding state_after
-none_made shown breakpoints x s b st =
+none_made shown stops x s b st =
     let e : 0 ≡ turns_of b - turns_of b = omega arith in
-    subst (λ (n : ℕ). HasGlidden shown breakpoints x s n b) e record { stands = st; nothing = λ k lt. absurd (omega arith); goes_on = λ k lt. absurd (omega arith); past = λ k lt. absurd (omega arith); notes = λ lt. absurd (omega arith) }
+    subst (λ (n : ℕ). HasGlidden shown stops x s n b) e record { stands = st; nothing = λ k lt. absurd (omega arith); goes_on = λ k lt. absurd (omega arith); past = λ k lt. absurd (omega arith); untouched = λ k at lt is. absurd (omega arith); notes = λ lt. absurd (omega arith) }
 
 -- turns none of which noted anything, and one more
-pub one_more : {X : Type 0} {H : X → Type 0} (shown : Shows X H) (breakpoints : List ℕ) (x : Scenario) (n : ℕ) (s : State) (b b' : Board X H) → HasGlidden shown breakpoints x s n b → Stands shown x b' (turn Calls x (state_after Calls x n s)).state → notes_of b' ≡ (turn Calls x (state_after Calls x n s)).notes → IsAdvanced shown Calls x n s b'
-one_more shown breakpoints x n s b b' h stands notes =
+pub one_more : {X : Type 0} {H : X → Type 0} (shown : Shows X H) (stops : Stops) (x : Scenario) (n : ℕ) (s : State) (b b' : Board X H) → HasGlidden shown stops x s n b → Stands shown x b' (turn Calls x (state_after Calls x n s)).state → notes_of b' ≡ (turn Calls x (state_after Calls x n s)).notes → IsAdvanced shown Calls x n s b'
+one_more shown stops x n s b b' h stands notes =
     let last : turn Calls x (state_after Calls x n s) ≡ turn_after Calls x n s = sym (last_turn Calls x n s) in
     record {
       nothing = h.nothing;
@@ -100,9 +101,9 @@ one_more shown breakpoints x n s b b' h stands notes =
     }
 
 -- the last of them is the one more
-pub all_made : {X : Type 0} {H : X → Type 0} (shown : Shows X H) (breakpoints : List ℕ) (x : Scenario) (n : ℕ) (s : State) (b : Board X H) → HasGlidden shown breakpoints x s (suc n) b → IsAdvanced shown Calls x n s b
+pub all_made : {X : Type 0} {H : X → Type 0} (shown : Shows X H) (stops : Stops) (x : Scenario) (n : ℕ) (s : State) (b : Board X H) → HasGlidden shown stops x s (suc n) b → IsAdvanced shown Calls x n s b
 unfolding state_after
-all_made shown breakpoints x n s b h =
+all_made shown stops x n s b h =
     record {
       nothing = λ k lt. h.nothing k (omega (arith, lt));
       goes_on = λ k lt. h.goes_on k (omega (arith, lt));
@@ -147,3 +148,21 @@ joined shown x n m s b b' a none goes more =
     goes_at : (j : ℕ) → j < n + suc m → (j < suc n) ⊎ ((i : ℕ) × (j ≡ suc n + i)) → ending x 1 (turn_after Calls x j s).state ≡ None
     goes_at j lt (inl less) = below_or (λ k. ending x 1 (turn_after Calls x k s).state ≡ None) n j a.goes_on goes less
     goes_at j lt (inr (i, e)) = ap (λ (t : Turn). ending x 1 t.state) (later i j e) ∙ more.goes_on i (omega (arith, lt, e))
+
+-- ## where turns end
+
+-- turns that stop at a place below the limit, or stay past it
+pub below_limit : (until from to limit : ℕ) → (from ≤ until → to ≤ until) → (until ≤ from → to ≡ from) → until ≤ limit → from < limit → to ≤ limit
+below_limit until from to limit within stays less left = by (leb from until) refl
+  where
+    by : (b : Bool) → leb from until ≡ b → to ≤ limit
+    by true e = let h = within (leb-true from until e) in omega (arith, h, less)
+    by false e = let h = stays (let gt = leb-false from until e in omega (arith, gt)) in omega (arith, h, left)
+
+-- the fast way stops before a turn, or has come to it
+pub either_way : (to until : ℕ) (P Q : Type 0) → (to < until → P) → (until ≤ to → Q) → Q ⊎ P
+either_way to until P Q before there = by (ltb to until) refl
+  where
+    by : (b : Bool) → ltb to until ≡ b → Q ⊎ P
+    by true e = inr (before (ltb-true to until e))
+    by false e = inl (there (ltb-false to until e))

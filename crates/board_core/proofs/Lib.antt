@@ -23,3 +23,4 @@ pub mod ListedLoners
 pub mod Told
 pub mod KeptAlike
 pub mod Stretches
+pub mod Changing

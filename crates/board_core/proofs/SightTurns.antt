@@ -9,7 +9,7 @@ use Rattle.region_check.specs.declared.Region.{Region}
 use Rattle.region_check.specs.declared.Right.{Right}
 use Rattle.region_check.specs.declared.Right.TheVariants.{Read, Write, Execute}
 use Rattle.run_script.specs.Scripts.{events_of}
-use Rattle.mem_banks.specs.Memory.{Memory}
+use Rattle.mem_banks.specs.Memory.{Memory, byte_at}
 use Rattle.thumb_exec.specs.declared.cpu.Cpu.{Cpu}
 use Rattle.thumb_exec.specs.Effect.{Next, Move, Puts, Takes}
 use Rattle.thumb_exec.specs.declared.fetch.Fetched.{Fetched}
@@ -37,10 +37,10 @@ use Rattle.board_model.proofs.Quiet.{quiet-turn}
 use Rattle.board_model.proofs.Counts.{counted_turn}
 use Rattle.board_model.proofs.Further.{last_turn}
 use Rattle.board_core.specs.Sights.{Sight, is_read, in_port, refused_at, held_at, moved_at, GoesOnWithin, GoesOnBeside, Polls}
-use Rattle.board_core.specs.Windowed.{IsSight, IsFetchedIn, runner, later, with_window, AreTurns}
+use Rattle.board_core.specs.Windowed.{IsSight, IsBeside, IsFetchedIn, runner, later, with_window, AreTurns}
 use Rattle.board_core.proofs.WindowCovers.{all_there, granted, held_same, fetched_same}
 use Rattle.board_core.proofs.Ports.{read_there}
-use Rattle.board_core.proofs.WindowTurns.{carried_next, first_inside, rest_inside, move_keeps, HasPlaces, places_of, places_on, own_memory, own_again, own_same, one_put, window_again, plain_turn, acted_notes, one_turn, fetched_there, code_still}
+use Rattle.board_core.proofs.WindowTurns.{carried_next, first_inside, rest_inside, move_keeps, HasPlaces, places_of, places_on, own_memory, own_again, own_same, own_beside, beside_still, one_put, window_again, plain_turn, acted_notes, one_turn, fetched_there, code_still}
 
 -- ## what a task sees it may use so
 
@@ -353,6 +353,7 @@ module _ (x : Scenario) (s : State) (c : ℕ) (o : Sight) (sane : Sane x.setup s
   are_turns n p d nothing on =
       record {
         state = let h = gone n p d nothing on in h.state ∙ ap (λ (z : Memory). later record s { current = runner n c s.current; devices = p.devices } c d z n) (at_bases s.memory o.view p.view h.keeps);
+        beside = λ k at le ne. beside_at k at le ne (front n k p d le on);
         silent = λ k lt. silent_at k lt (front n (suc k) p d (omega (arith, lt)) on);
         ran = λ k lt. ran_at k lt (front n (suc k) p d (omega (arith, lt)) on);
         chosen = λ k le. let f = front n k p d le on in (gone k f.0 f.1 (λ j lt. nothing j (omega (arith, lt, le))) f.2).chosen;
@@ -362,6 +363,12 @@ module _ (x : Scenario) (s : State) (c : ℕ) (o : Sight) (sane : Sane x.setup s
         counted = (gone n p d nothing on).counted;
       }
     where
+      beside_at : (k at : ℕ) → k ≤ n → IsBeside o.view at → (q : Sight) × (e : Cpu) × Polls o (cpu_of (task_at s c)) k q e → byte_at (state_after Calls x k s).memory at ≡ byte_at s.memory at
+      beside_at k at le ne (q, e, g) =
+          let then = gone k q e (λ j less. nothing j (omega (arith, le, less))) g in
+          ap (λ (y : State). byte_at y.memory at) then.state
+          ∙ own_beside s.memory q.view at (places_on s.memory o.view q.view then.keeps (places_of x.setup c s.memory o.view sight.window)) (beside_still o.view q.view at then.keeps ne)
+
       silent_at : (k : ℕ) → k < n → (q : Sight) × (e : Cpu) × Polls o (cpu_of (task_at s c)) (suc k) q e → (turn_after Calls x k s).notes ≡ []
       silent_at k lt (q, e, g) =
           let before = gone k g.0 g.1 (λ j less. nothing j (omega (arith, lt, less))) g.2 in

@@ -4,6 +4,7 @@ use Rattle.std.specs.Prelude.{is_some}
 use Rattle.std.specs.List.{list_any}
 use Rattle.std.proofs.lemmas.Bool.Decides.{nat_tests}
 use Rattle.kernel_abi.specs.declared.Note.{Note}
+use Rattle.mem_banks.specs.Memory.{Memory, byte_at}
 use Rattle.run_script.specs.Scripts.{Listed, ScriptData, IsNext, events_of, lasts}
 use Rattle.task_table.specs.State.{State, Turn}
 use Rattle.task_table.specs.Reading.{chosen, task_at, is_ready, call_of, listen_of}
@@ -22,6 +23,7 @@ use Rattle.board_core.specs.Machine.{MachineHolds, IsNext as IsNext-machine}
 use Rattle.board_core.specs.Stands.{Stands, notes_of, turns_of}
 use Rattle.board_core.specs.Advanced.{HasGlidden, IsCall}
 use Rattle.board_core.specs.Breakpoints.{is_hit}
+use Rattle.board_core.specs.Stops.{Stops}
 use Rattle.board_core.specs.Windowed.{IsCalling}
 use Rattle.board_core.specs.Midway.{IsMidway}
 use Rattle.board_core.specs.Skipped.{IsIdleUntil}
@@ -64,6 +66,10 @@ module _ (x : Scenario) (s : State) (to : ℕ) (idle : IsIdleUntil x s to) where
   pub turn_then : (k : ℕ) → s.turn + k ≤ to → (state_after Calls x k s).turn ≡ s.turn + k
   unfolding at
   turn_then k le = ap (λ (u : State). u.turn) (states k le)
+
+  pub memory_then : (k : ℕ) → s.turn + k ≤ to → (state_after Calls x k s).memory ≡ s.memory
+  unfolding at
+  memory_then k le = ap (λ (u : State). u.memory) (states k le)
 
   pub none_then : (k : ℕ) → s.turn + k ≤ to → chosen x.setup (state_after Calls x k s) ≡ None
   none_then k le = ap (chosen x.setup) (states k le) ∙ chosen_at x s (s.turn + k) ∙ idle.none
@@ -152,14 +158,15 @@ lasts_from script from to le more = by_every (is_some script.every) refl
     by_every true is = rw is refl
     by_every false is = rw is (any_from script.events from to le (rw is at more))
 
-pub idle_made : {X : Type 0} {H : X → Type 0} (shown : Shows X H) (breakpoints : List ℕ) (x : Scenario) (s : State) (to : ℕ) (b : Board X H) → IsIdleUntil x s to → s.turn ≤ to → lasts x.script to ≡ true → Stands shown x b (state_after Calls x (to - s.turn) s) → notes_of b ≡ [] → HasGlidden shown breakpoints x s (to - s.turn) b
+pub idle_made : {X : Type 0} {H : X → Type 0} (shown : Shows X H) (stops : Stops) (x : Scenario) (s : State) (to : ℕ) (b : Board X H) → IsIdleUntil x s to → s.turn ≤ to → lasts x.script to ≡ true → Stands shown x b (state_after Calls x (to - s.turn) s) → notes_of b ≡ [] → HasGlidden shown stops x s (to - s.turn) b
 unfolding state_after
-idle_made shown breakpoints x s to b idle from more st none =
+idle_made shown stops x s to b idle from more st none =
     record {
       stands = st;
       nothing = λ k lt. silent_then x s to idle k (omega (arith, lt));
       goes_on = λ k lt. goes_then x s to idle (suc k) (omega (arith, lt, from)) (lasts_from x.script (s.turn + suc k) to (omega (arith, lt, from)) more);
-      past = λ k lt. ap (is_hit breakpoints) (idle_then x s to idle k (omega (arith, lt)));
+      past = λ k lt. ap (is_hit stops.breakpoints) (idle_then x s to idle k (omega (arith, lt)));
+      untouched = λ k at lt is. ap (λ (m : Memory). byte_at m at) (memory_then x s to idle (suc k) (omega (arith, lt)));
       notes = λ lt. none;
     }
 

@@ -1,12 +1,13 @@
 -- Instructions on end within a window are turns.
-use Rattle.std.proofs.Common.{◌≡◌, ◌+◌, ◌-◌, ◌≤◌, ◌<◌, ℕ, zero, suc, true, false, List, [], ◌∷◌, length, Option, Some, refl, sym, ◌∙◌, ap, subst, arith, leb, inl, inr, length-take, length-drop}
-use Rattle.std.specs.Prelude.{fold, Result, Ok, Err, Contains}
-use Rattle.std.proofs.lemmas.Bool.{le-leb, and_parts}
+use Rattle.std.proofs.Common.{◌≡◌, ◌+◌, ◌-◌, ◌≤◌, ◌<◌, ℕ, zero, suc, Bool, true, false, cond, List, [], ◌∷◌, length, Option, Some, None, refl, sym, ◌∙◌, ap, subst, arith, leb, ltb, get_or, inl, inr, length-take, length-drop}
+use Rattle.std.specs.Prelude.{slice_get, fold, Result, Ok, Err, Contains}
+use Rattle.std.proofs.lemmas.Bool.{le-leb, leb-true, ltb-true, ltb-false, and_parts}
+use Rattle.std.proofs.lemmas.Option.{slice_get_past, slice_get-get_or}
 use Rattle.std.proofs.lemmas.List.{length-append, same_lists, places}
 use Rattle.kernel_abi.specs.declared.Fault.{Fault}
 use Rattle.kernel_abi.specs.Devices.{DeviceData}
 use Rattle.run_script.specs.Scripts.{events_of}
-use Rattle.mem_banks.specs.Memory.{Memory, with_bytes, pasted, is_ram}
+use Rattle.mem_banks.specs.Memory.{Memory, byte_at, with_bytes, pasted, is_ram}
 use Rattle.mem_banks.proofs.Copies.{length-pasted, with_bytes_ram}
 use Rattle.words_core.specs.Regs.{reg_at}
 use Rattle.thumb_exec.specs.declared.cpu.Cpu.{Cpu}
@@ -31,7 +32,7 @@ use Rattle.board_model.specs.Script.{Scenario}
 use Rattle.board_model.specs.Turn.{refusals, is_device, held, cpu_of, put, took, moved, acted, stepped_by, stepped, after_events, with_registers_noted, turn_of, ended, turn, turned_of, turned}
 use Rattle.board_model.proofs.Stepping.{moves_state}
 use Rattle.board_model.proofs.Outside.{no_event}
-use Rattle.board_core.specs.Windowed.{IsWindow, later, with_window, IsFetchedIn}
+use Rattle.board_core.specs.Windowed.{IsWindow, IsBeside, later, with_window, IsFetchedIn}
 use Rattle.mem_banks.specs.Windows.{IsInRam, AreApart}
 use Rattle.mem_banks.proofs.Windows.{written_inside, written_same, region_written, same_ram_length, same_flash_length, bytes_below, bytes_beside}
 use Rattle.board_core.proofs.WindowCovers.{either, inside, widens, loads_below}
@@ -236,6 +237,42 @@ own_same g c m v w =
     let one : with_bytes m v.ram_base v.ram ≡ m = ap (with_bytes m v.ram_base) (sym w.ram) ∙ written_same m v.ram_base (length v.ram) w.in_ram in
     let two : with_bytes m v.area_base v.area ≡ m = ap (with_bytes m v.area_base) (sym w.area) ∙ written_same m v.area_base (length v.area) w.in_area in
     sym (ap (λ (y : Memory). with_bytes y v.area_base v.area) one ∙ two)
+
+-- a byte that is none of a region's is the same once that is written
+over_beside : (xs ys : List ℕ) (p k : ℕ) → p + length ys ≤ length xs → (p ≤ k → k < p + length ys → ⊥) → slice_get (pasted xs p ys) k ≡ slice_get xs k
+over_beside xs ys p k fits ne = by (ltb k (length xs)) refl
+  where
+    long : length (pasted xs p ys) ≡ length xs
+    long = length-pasted xs p ys fits
+
+    same : k < length xs → get_or (pasted xs p ys) k 0 ≡ get_or xs k 0
+    same lt = grind (arith, places)
+
+    by : (b : Bool) → ltb k (length xs) ≡ b → slice_get (pasted xs p ys) k ≡ slice_get xs k
+    by true e =
+        let lt : k < length xs = ltb-true k (length xs) e in
+        slice_get-get_or (pasted xs p ys) k 0 (omega (arith, lt, long)) ∙ ap Some (same lt) ∙ sym (slice_get-get_or xs k 0 lt)
+    by false e =
+        let past = ltb-false k (length xs) e in
+        slice_get_past (pasted xs p ys) k (omega (arith, past, long)) ∙ sym (slice_get_past xs k (omega (arith, past)))
+
+byte_beside : (m : Memory) (base at : ℕ) (xs : List ℕ) → IsInRam m (base, length xs) → (base ≤ at → at < base + length xs → ⊥) → byte_at (with_bytes m base xs) at ≡ byte_at m at
+byte_beside m base at xs h ne = ap (λ (y : Memory). byte_at y at) (with_bytes_ram m base xs h.0) ∙ by (leb 0x20000000 at) refl
+  where
+    by : (b : Bool) → leb 0x20000000 at ≡ b → cond b (slice_get (pasted m.ram (base - 0x20000000) xs) (at - 0x20000000)) (cond (leb 0x08000000 at) (slice_get m.flash (at - 0x08000000)) None) ≡ cond b (slice_get m.ram (at - 0x20000000)) (cond (leb 0x08000000 at) (slice_get m.flash (at - 0x08000000)) None)
+    by true e =
+        let above = leb-true 0x20000000 at e in
+        over_beside m.ram xs (base - 0x20000000) (at - 0x20000000) (omega (arith, h.0, h.1)) (λ low high. ne (omega (arith, above, h.0, low)) (omega (arith, above, h.0, high)))
+    by false e = refl
+
+-- a view that is left is of the same bytes
+pub beside_still : (v w : View) (at : ℕ) → Keeps v w → IsBeside v at → IsBeside w at
+beside_still v w at k h = (rw (k.ram_base, k.size) h.0, rw (k.area_base, k.area_size) h.1)
+
+pub own_beside : (m : Memory) (v : View) (at : ℕ) → HasPlaces m v → IsBeside v at → byte_at (own_memory m v) at ≡ byte_at m at
+own_beside m v at h beside =
+    byte_beside (with_bytes m v.ram_base v.ram) v.area_base at v.area (in_ram_still m v.ram_base v.ram _ h.in_ram h.in_area) beside.1
+    ∙ byte_beside m v.ram_base at v.ram h.in_ram beside.0
 
 module _ (m : Memory) where
   is_there : (u : Memory) (a n : ℕ) → 0x20000000 ≤ a → a + n ≤ 0x20000000 + length u.ram → is_ram u a n ≡ true

@@ -1,8 +1,8 @@
 -- Instructions on end within a window of a task's memory are its turns.
 use Rattle.words_core.specs.Regs.{reg_at, stack_pointer, program_counter}
-use Rattle.std.proofs.Common.{◌≡◌, ◌≢◌, ◌⊎◌, inl, inr, ◌+◌, ◌-◌, ◌%◌, ◌≤◌, ◌<◌, ℕ, zero, suc, Bool, true, false, not, cond, eqb, ◌&&◌, List, [], ◌∷◌, length, Option, Some, None, refl, sym, ◌∙◌, ap, subst, arith, get_or, Vec, Global}
+use Rattle.std.proofs.Common.{◌≡◌, ◌≢◌, ◌⊎◌, inl, inr, ◌+◌, ◌-◌, ◌%◌, ◌≤◌, ◌<◌, ℕ, zero, suc, Bool, true, false, not, cond, eqb, leb, ◌&&◌, List, [], ◌∷◌, length, Option, Some, None, refl, sym, ◌∙◌, ap, subst, arith, get_or, Vec, Global}
 use Rattle.std.specs.Prelude.{Contains, Ok, find, map, vec_items, vec_len}
-use Rattle.std.proofs.lemmas.Bool.{leb-true, ltb-true, eq-eqb, eqb-true, false≢true, not-true, and_parts}
+use Rattle.std.proofs.lemmas.Bool.{leb-true, leb-false, ltb-true, eq-eqb, eqb-true, false≢true, not-true, and_parts}
 use Rattle.std.proofs.lemmas.List.{set-set, length-map, get_or-map, nil_from_length}
 use Rattle.region_check.specs.declared.Region.{Region}
 use Rattle.region_check.specs.declared.Right.{Right}
@@ -39,9 +39,10 @@ use Rattle.board_model.specs.Run.{ending, is_down, state_after}
 use Rattle.board_model.proofs.Outside.{due_later}
 use Rattle.board_model.proofs.TurnChains.{chosen_is, whole_cpu}
 use Rattle.task_table.specs.Sane.{Sane}
-use Rattle.board_core.specs.Reached.{is_flash_at, is_ram_at, is_area, IsStackRegion, IsAreaRegion, AreReached}
+use Rattle.board_core.specs.Reached.{is_flash_at, is_ram_at, is_area, no_region, unwatched, IsStackRegion, IsAreaRegion, AreLent}
 use Rattle.board_core.specs.Breakpoints.{IsStretch, is_hit}
-use Rattle.board_core.specs.Windowed.{IsWindow, IsWholeWindow, IsSight, IsAtEnd, MustStop, IsFetchedIn, AreTurns, runner, later, with_window}
+use Rattle.board_core.specs.Stops.{Stops}
+use Rattle.board_core.specs.Windowed.{IsWindow, IsWholeWindow, IsBeside, IsSight, IsAtEnd, MustStop, IsFetchedIn, AreTurns, runner, later, with_window}
 use Rattle.board_core.proofs.WindowTurns.{fetched_there}
 use Rattle.board_core.proofs.SightTurns.{IsLeft, are_turns, seen_then}
 use Rattle.board_core.proofs.WindowCovers.{widens}
@@ -163,29 +164,69 @@ further_at : (regions : List Region) (stack r : Region) → IsAreaRegion regions
 further_at regions stack r (inl e) = let f = found_first (is_area stack) regions r e in inr (f.0, area_at stack r f.1)
 further_at regions stack r (inr x) = inl x.0
 
--- the regions of a window can be opened
-pub are_usable : (regions : List Region) (pc sp : ℕ) (flash ram area : Region) → AreReached regions pc sp flash ram area → AreUsable regions flash ram area
-are_usable regions pc sp flash ram area are =
-    let f = flash_at pc flash are.flash in
-    record {
-      flash_usable = record { here = are.here; no_device = f.no_device; some = omega (arith, f.from, f.to) };
-      below = f.below;
-      ram_usable = elim are.ram [
-        | inl x ↦ let h = ram_at sp ram x.1 in inr (record { here = x.0; no_device = h.no_device; some = h.some }, h.above)
-        | inr x ↦ inl x.0
-      ];
-      area_usable = elim (further_at regions ram area are.area) [
-        | inl x ↦ inl x
-        | inr x ↦ let h = x.1 in inr (record { here = x.0; no_device = h.no_device; some = h.some }, h.above)
-      ];
-      other = elim (further_at regions ram area are.area) [
-        | inl x ↦ inl x
-        | inr x ↦ let h = x.1 in inr (λ e. h.other (ap (λ (p : ℕ × ℕ). p.0) (sym e)) (ap (λ (p : ℕ × ℕ). p.1) (sym e)))
-      ];
-    }
+-- what is left of a region where a byte is watched is all of it, or none
+whole_or_none : (watched : Option ℕ) (r u : Region) → u ≡ unwatched watched r → (u ≡ r) ⊎ IsNoRegion (span_of u)
+whole_or_none None r u e = inl e
+whole_or_none (Some at) r u e = by (spans r at 1) e
+  where
+    by : (b : Bool) → u ≡ cond b no_region r → (u ≡ r) ⊎ IsNoRegion (span_of u)
+    by true e = inr (ap (λ (z : Region). z.base) e, ap (λ (z : Region). z.size) e)
+    by false e = inl e
 
-module _ (breakpoints : List ℕ) (g : Setup) (c : ℕ) (m : Memory) (pc sp : ℕ) (flash ram area : Region) (v : View)
-    (are : AreReached (setup_at g c).regions pc sp flash ram area) (flash_base : v.flash_base ≡ flash.base) (stretch : IsStretch breakpoints flash.base flash.size pc v.code_base v.code_size) (readable : v.readable ≡ flash.rights.read) (ram_base : v.ram_base ≡ ram.base)
+-- the byte is none of what is left
+not_there : (at : ℕ) (r : Region) → (unwatched (Some at) r).base ≤ at → at < (unwatched (Some at) r).base + (unwatched (Some at) r).size → ⊥
+not_there at r = by (leb r.base at) (leb (at + 1) (r.base + r.size)) refl refl
+  where
+    by : (p q : Bool) → leb r.base at ≡ p → leb (at + 1) (r.base + r.size) ≡ q → (cond (p && q) no_region r).base ≤ at → at < (cond (p && q) no_region r).base + (cond (p && q) no_region r).size → ⊥
+    by true true e f low high = absurd (omega (arith, low, high))
+    by true false e f low high = let g = leb-false (at + 1) (r.base + r.size) f in absurd (omega (arith, g, high))
+    by false q e f low high = let g = leb-false r.base at e in absurd (omega (arith, g, low))
+
+-- what a window has of the RAM: no region, or that of the stack, and no region, or the first further one
+module _ (watched : Option ℕ) (regions : List Region) (pc sp : ℕ) (flash ram area : Region) (are : AreLent watched regions pc sp flash ram area) where
+  ram_given : IsNoRegion (span_of ram) ⊎ (Contains regions ram × IsRamAt sp ram)
+  ram_given = by (whole_or_none watched are.stack ram are.ram_is) are.reached.ram
+    where
+      by : (ram ≡ are.stack) ⊎ IsNoRegion (span_of ram) → IsStackRegion regions sp are.stack → IsNoRegion (span_of ram) ⊎ (Contains regions ram × IsRamAt sp ram)
+      by (inl e) (inl x) = rw e (inr (x.0, ram_at sp are.stack x.1))
+      by (inl e) (inr x) = rw e (inl x.0)
+      by (inr none) x = inl none
+
+  area_given : IsNoRegion (span_of area) ⊎ (Contains regions area × IsArea are.stack area)
+  area_given = by (whole_or_none watched are.further area are.area_is) (further_at regions are.stack are.further are.reached.area)
+    where
+      by : (area ≡ are.further) ⊎ IsNoRegion (span_of area) → IsNoRegion (span_of are.further) ⊎ (Contains regions are.further × IsArea are.stack are.further) → IsNoRegion (span_of area) ⊎ (Contains regions area × IsArea are.stack area)
+      by (inl e) x = rw e x
+      by (inr none) x = inl none
+
+  are_other : IsNoRegion (span_of area) ⊎ (span_of ram ≢ span_of area)
+  are_other = by area_given (whole_or_none watched are.stack ram are.ram_is)
+    where
+      by : IsNoRegion (span_of area) ⊎ (Contains regions area × IsArea are.stack area) → (ram ≡ are.stack) ⊎ IsNoRegion (span_of ram) → IsNoRegion (span_of area) ⊎ (span_of ram ≢ span_of area)
+      by (inl none) y = inl none
+      by (inr x) (inl e) = inr (λ same. x.1.other (ap (λ (p : ℕ × ℕ). p.0) (sym same) ∙ ap (λ (r : Region). r.base) e) (ap (λ (p : ℕ × ℕ). p.1) (sym same) ∙ ap (λ (r : Region). r.size) e))
+      by (inr x) (inr none) = inr (λ same. let empty : ram.size ≡ 0 = none.1 in let size : ram.size ≡ area.size = ap (λ (p : ℕ × ℕ). p.1) same in let some = x.1.some in absurd (omega (arith, empty, size, some)))
+
+  -- the regions of a window can be opened
+  pub are_usable : AreUsable regions flash ram area
+  are_usable =
+      let f = flash_at pc flash are.reached.flash in
+      record {
+        flash_usable = record { here = are.reached.here; no_device = f.no_device; some = omega (arith, f.from, f.to) };
+        below = f.below;
+        ram_usable = elim ram_given [
+          | inl none ↦ inl none
+          | inr x ↦ let h = x.1 in inr (record { here = x.0; no_device = h.no_device; some = h.some }, h.above)
+        ];
+        area_usable = elim area_given [
+          | inl none ↦ inl none
+          | inr x ↦ let h = x.1 in inr (record { here = x.0; no_device = h.no_device; some = h.some }, h.above)
+        ];
+        other = are_other;
+      }
+
+module _ (stops : Stops) (g : Setup) (c : ℕ) (m : Memory) (pc sp : ℕ) (flash ram area : Region) (v : View)
+    (are : AreLent stops.watched (setup_at g c).regions pc sp flash ram area) (flash_base : v.flash_base ≡ flash.base) (stretch : IsStretch stops.breakpoints flash.base flash.size pc v.code_base v.code_size) (readable : v.readable ≡ flash.rights.read) (ram_base : v.ram_base ≡ ram.base)
     (area_base : v.area_base ≡ area.base) (writable : v.area_writable ≡ area.rights.write)
     (flash_there : IsInMemory m (flash.base, flash.size)) (ram_there : IsInRam m (ram.base, ram.size)) (area_there : IsInRam m (area.base, area.size)) (apart : AreApart (ram.base, ram.size) (area.base, area.size))
     (flash_bytes : v.flash ≡ bytes_at m flash.base flash.size) (ram_bytes : v.ram ≡ bytes_at m ram.base ram.size) (area_bytes : v.area ≡ bytes_at m area.base area.size) where
@@ -199,19 +240,19 @@ module _ (breakpoints : List ℕ) (g : Setup) (c : ℕ) (m : Memory) (pc sp : �
   area_long = ap (λ (xs : List ℕ). length xs) area_bytes ∙ region_length m area.base area.size (inl area_there)
 
   of_flash : (right : Right) → has_right flash.rights right ≡ true → (a : ℕ) → v.flash_base ≤ a → a < v.flash_base + length v.flash → may g c right a ≡ true
-  of_flash right has a low high = each_byte (setup_at g c).regions right flash a are.here has (omega (arith, low, flash_base)) (omega (arith, high, flash_base, flash_long))
+  of_flash right has a low high = each_byte (setup_at g c).regions right flash a are.reached.here has (omega (arith, low, flash_base)) (omega (arith, high, flash_base, flash_long))
 
   of_ram : (right : Right) → (IsRamAt sp ram → has_right ram.rights right ≡ true) → (a : ℕ) → v.ram_base ≤ a → a < v.ram_base + length v.ram → may g c right a ≡ true
-  of_ram right has a low high = by are.ram
+  of_ram right has a low high = by (ram_given stops.watched (setup_at g c).regions pc sp flash ram area are)
     where
-      by : IsStackRegion (setup_at g c).regions sp ram → may g c right a ≡ true
-      by (inl x) = each_byte (setup_at g c).regions right ram a x.0 (has (ram_at sp ram x.1)) (omega (arith, low, ram_base)) (omega (arith, high, ram_base, ram_long))
-      by (inr x) = let none : ram.size ≡ 0 = x.0.1 in absurd (omega (arith, low, high, ram_long, none))
+      by : IsNoRegion (span_of ram) ⊎ (Contains (setup_at g c).regions ram × IsRamAt sp ram) → may g c right a ≡ true
+      by (inl x) = let none : ram.size ≡ 0 = x.1 in absurd (omega (arith, low, high, ram_long, none))
+      by (inr x) = each_byte (setup_at g c).regions right ram a x.0 (has x.1) (omega (arith, low, ram_base)) (omega (arith, high, ram_base, ram_long))
 
-  of_area : (right : Right) → (IsArea ram area → has_right area.rights right ≡ true) → (a : ℕ) → v.area_base ≤ a → a < v.area_base + length v.area → may g c right a ≡ true
-  of_area right has a low high = by (further_at (setup_at g c).regions ram area are.area)
+  of_area : (right : Right) → (IsArea are.stack area → has_right area.rights right ≡ true) → (a : ℕ) → v.area_base ≤ a → a < v.area_base + length v.area → may g c right a ≡ true
+  of_area right has a low high = by (area_given stops.watched (setup_at g c).regions pc sp flash ram area are)
     where
-      by : IsNoRegion (span_of area) ⊎ (Contains (setup_at g c).regions area × IsArea ram area) → may g c right a ≡ true
+      by : IsNoRegion (span_of area) ⊎ (Contains (setup_at g c).regions area × IsArea are.stack area) → may g c right a ≡ true
       by (inl x) = let none : area.size ≡ 0 = x.1 in absurd (omega (arith, low, high, area_long, none))
       by (inr x) = each_byte (setup_at g c).regions right area a x.0 (has x.1) (omega (arith, low, area_base)) (omega (arith, high, area_base, area_long))
 
@@ -220,12 +261,12 @@ module _ (breakpoints : List ℕ) (g : Setup) (c : ℕ) (m : Memory) (pc sp : �
   is_apart = record {
     from = omega (arith, flash_base, stretch.inside.0);
     to = omega (arith, flash_base, flash_long, stretch.inside.1);
-    below = let inside = in_flash m (flash.base, flash.size) (flash_at pc flash are.flash).below flash_there in omega (arith, flash_base, flash_long, ram_base, inside.2, ram_there.0);
+    below = let inside = in_flash m (flash.base, flash.size) (flash_at pc flash are.reached.flash).below flash_there in omega (arith, flash_base, flash_long, ram_base, inside.2, ram_there.0);
   }
 
   window_of : IsWindow g c m v
   window_of =
-      let f = flash_at pc flash are.flash in
+      let f = flash_at pc flash are.reached.flash in
       record {
         executed = of_flash Execute f.execute;
         legible = λ e. of_flash Read (sym readable ∙ e);
@@ -242,19 +283,19 @@ module _ (breakpoints : List ℕ) (g : Setup) (c : ℕ) (m : Memory) (pc sp : �
         area = rw (area_base, area_long) (sym area_bytes);
       }
 
-  pub whole_window : IsWholeWindow breakpoints g c m pc sp v
+  pub whole_window : IsWholeWindow stops g c m pc sp v
   whole_window = record {
     is = window_of;
     code = flash;
-    stack = ram;
-    further = area;
-    reached = are;
+    stack = are.stack;
+    further = are.further;
+    reached = are.reached;
     flash = (flash_base, flash_long);
     stretch = stretch;
     readable = readable;
-    ram = (ram_base, ram_long);
-    area = (area_base, area_long);
-    writable = writable;
+    ram = (ram_base ∙ ap (λ (r : Region). r.base) are.ram_is, ram_long ∙ ap (λ (r : Region). r.size) are.ram_is);
+    area = (area_base ∙ ap (λ (r : Region). r.base) are.area_is, area_long ∙ ap (λ (r : Region). r.size) are.area_is);
+    writable = writable ∙ ap (λ (r : Region). r.rights.write) are.area_is;
   }
 
 -- ## the kernel whose window was opened
@@ -399,10 +440,10 @@ same_shown shown true g r r' cpu t same f h = record { saved = h.saved; holds = 
 same_shown shown false g r r' cpu t same f h = record { kernel = f t h.kernel; devices = same ∙ h.devices }
 
 -- a window of a task was opened for somebody who has the task's processor, and did such work in it
-module _ {X : Type 0} {H : X → Type 0} (shown : Shows X H) (breakpoints : List ℕ) (g : Setup) (m : Machine X H) (task most : ℕ) (t : Turn) (flash ram area : Region) (pc sp : ℕ) {B : Type 0} (did : Doing B) (user user' : B) (a : Glider) (k' : Kernel)
-    (h : HasContext shown g m task t) (inside : task < length t.state.tasks) (reached : AreReached (setup_at (setup_of m.reach.kernel) task).regions pc sp flash ram area)
+module _ {X : Type 0} {H : X → Type 0} (shown : Shows X H) (stops : Stops) (g : Setup) (m : Machine X H) (task most : ℕ) (t : Turn) (flash ram area : Region) (pc sp : ℕ) {B : Type 0} (did : Doing B) (user user' : B) (a : Glider) (k' : Kernel)
+    (h : HasContext shown g m task t) (inside : task < length t.state.tasks) (reached : AreLent stops.watched (setup_at (setup_of m.reach.kernel) task).regions pc sp flash ram area)
     (pc_is : pc ≡ register t.state task program_counter) (sp_is : sp ≡ register t.state task stack_pointer)
-    (flash_is : a.runner.window.flash_base ≡ flash.base) (stretch_is : IsStretch breakpoints flash.base flash.size pc a.runner.window.code_base a.runner.window.code_size) (readable_is : a.runner.window.readable ≡ flash.rights.read) (ram_is : a.runner.window.ram_base ≡ ram.base) (area_is : a.runner.window.area_base ≡ area.base) (writable_is : a.runner.window.area_writable ≡ area.rights.write)
+    (flash_is : a.runner.window.flash_base ≡ flash.base) (stretch_is : IsStretch stops.breakpoints flash.base flash.size pc a.runner.window.code_base a.runner.window.code_size) (readable_is : a.runner.window.readable ≡ flash.rights.read) (ram_is : a.runner.window.ram_base ≡ ram.base) (area_is : a.runner.window.area_base ≡ area.base) (writable_is : a.runner.window.area_writable ≡ area.rights.write)
     (opened : IsWindowOpened did m.reach.kernel flash ram area user user' k') where
   abbrev pub before : View
   before = lent_view a (bytes_at (memory_of m.reach.kernel) flash.base flash.size) (bytes_at (memory_of m.reach.kernel) ram.base ram.size) (bytes_at (memory_of m.reach.kernel) area.base area.size)
@@ -410,22 +451,22 @@ module _ {X : Type 0} {H : X → Type 0} (shown : Shows X H) (breakpoints : List
   abbrev pub left : View
   left = lent_view a (bytes_at (memory_of m.reach.kernel) flash.base flash.size) opened.window.after opened.window.area_after
 
-  are : AreReached (setup_at g task).regions pc sp flash ram area
-  are = let P : Setup → Type 0 = λ x. AreReached (setup_at x task).regions pc sp flash ram area in subst P h.holds.kernel.setup reached
+  are : AreLent stops.watched (setup_at g task).regions pc sp flash ram area
+  are = let P : Setup → Type 0 = λ x. AreLent stops.watched (setup_at x task).regions pc sp flash ram area in subst P h.holds.kernel.setup reached
 
-  whole_here : IsWholeWindow breakpoints g task t.state.memory (register t.state task program_counter) (register t.state task stack_pointer) before
+  whole_here : IsWholeWindow stops g task t.state.memory (register t.state task program_counter) (register t.state task stack_pointer) before
   whole_here =
-      let W : Memory → Type 0 = λ y. IsWholeWindow breakpoints g task y pc sp before in
-      let P : ℕ → Type 0 = λ at. IsWholeWindow breakpoints g task t.state.memory at sp before in
-      let S : ℕ → Type 0 = λ at. IsWholeWindow breakpoints g task t.state.memory (register t.state task program_counter) at before in
-      subst S sp_is (subst P pc_is (subst W (context_memory shown g m task t h) (whole_window breakpoints g task (memory_of m.reach.kernel) pc sp flash ram area before are flash_is stretch_is readable_is ram_is area_is writable_is opened.window.flash_there opened.window.ram_there opened.window.area_there opened.window.area_apart.1 refl refl refl)))
+      let W : Memory → Type 0 = λ y. IsWholeWindow stops g task y pc sp before in
+      let P : ℕ → Type 0 = λ at. IsWholeWindow stops g task t.state.memory at sp before in
+      let S : ℕ → Type 0 = λ at. IsWholeWindow stops g task t.state.memory (register t.state task program_counter) at before in
+      subst S sp_is (subst P pc_is (subst W (context_memory shown g m task t h) (whole_window stops g task (memory_of m.reach.kernel) pc sp flash ram area before are flash_is stretch_is readable_is ram_is area_is writable_is opened.window.flash_there opened.window.ram_there opened.window.area_there opened.window.area_apart.1 refl refl refl)))
 
   pub apart_here : IsApart before
-  apart_here = is_apart breakpoints g task (memory_of m.reach.kernel) pc sp flash ram area before are flash_is stretch_is readable_is ram_is area_is writable_is opened.window.flash_there opened.window.ram_there opened.window.area_there opened.window.area_apart.1 refl refl refl
+  apart_here = is_apart stops g task (memory_of m.reach.kernel) pc sp flash ram area before are flash_is stretch_is readable_is ram_is area_is writable_is opened.window.flash_there opened.window.ram_there opened.window.area_there opened.window.area_apart.1 refl refl refl
 
   -- instructions were made: the task is the current one from now on
   pub has_run : (ds : List DeviceData) (cpu : Cpu) (made : ℕ) (calls : Bool) → IsWork g task before left t.state.devices ds (cpu_of (task_at t.state task)) cpu most made calls →
-      (m' : Machine X H) → 0 < made → m'.loaded ≡ true → m'.glider.runner.processor ≡ cpu → data_of shown m'.reach.devices ≡ ds → ((u : Turn) → Holds g k' u → Holds g m'.reach.kernel (with_current task u)) → IsGlided shown breakpoints g m' task t most made calls
+      (m' : Machine X H) → 0 < made → m'.loaded ≡ true → m'.glider.runner.processor ≡ cpu → data_of shown m'.reach.devices ≡ ds → ((u : Turn) → Holds g k' u → Holds g m'.reach.kernel (with_current task u)) → IsGlided shown stops g m' task t most made calls
   has_run ds cpu made calls work m' some loaded processor same f =
       let L : ℕ → ℕ → Type 0 = λ at by. IsLoaded shown g m'.reach m'.glider.runner.processor record t { state = later record t.state { current = task; devices = ds } task m'.glider.runner.processor (with_bytes (with_bytes t.state.memory at opened.window.after) by opened.window.area_after) made } in
       record {
@@ -446,7 +487,7 @@ module _ {X : Type 0} {H : X → Type 0} (shown : Shows X H) (breakpoints : List
 
   -- none was made: all is as it was
   pub has_stayed : (ds : List DeviceData) (cpu : Cpu) (made : ℕ) (calls : Bool) → IsWork g task before left t.state.devices ds (cpu_of (task_at t.state task)) cpu most made calls →
-      (m' : Machine X H) → made ≡ 0 → m'.loaded ≡ m.loaded → m'.glider.runner.processor ≡ cpu → m'.reach.kernel ≡ k' → data_of shown m'.reach.devices ≡ ds → MachineHolds shown g m t → IsGlided shown breakpoints g m' task t most made calls
+      (m' : Machine X H) → made ≡ 0 → m'.loaded ≡ m.loaded → m'.glider.runner.processor ≡ cpu → m'.reach.kernel ≡ k' → data_of shown m'.reach.devices ≡ ds → MachineHolds shown g m t → IsGlided shown stops g m' task t most made calls
   has_stayed ds cpu made calls work m' none loaded processor kernel devices holds =
       let N : ℕ → Type 0 = λ n. Polls (sight_by g task before t.state.devices) (cpu_of (task_at t.state task)) n (sight_by g task left ds) cpu in
       let same = none_here ds cpu (subst N none work.polls) in
@@ -479,10 +520,10 @@ due_later_on script turn (suc n) due next ne =
 -- ## turns on end of the task that is chosen
 
 -- a board after n turns within a window, and why there were no more
-pub record IsMade {X : Type 0} {H : X → Type 0} (shown : Shows X H) (breakpoints : List ℕ) (x : Scenario) (u : State) (task until : ℕ) (b b' : Board X H) (calls : Bool) : Type 0 where
-  pub glidden : HasGlidden shown breakpoints x u (turns_of b' - turns_of b) b'
-  pub far : turns_of b' < until → MustStop breakpoints x.setup task (register u task program_counter) (register u task stack_pointer) (state_after Calls x (turns_of b' - turns_of b) u) calls
-  pub call : calls ≡ true → IsCallPast breakpoints x (state_after Calls x (turns_of b' - turns_of b) u) task
+pub record IsMade {X : Type 0} {H : X → Type 0} (shown : Shows X H) (stops : Stops) (x : Scenario) (u : State) (task until : ℕ) (b b' : Board X H) (calls : Bool) : Type 0 where
+  pub glidden : HasGlidden shown stops x u (turns_of b' - turns_of b) b'
+  pub far : turns_of b' < until → MustStop stops x.setup task (register u task program_counter) (register u task stack_pointer) (state_after Calls x (turns_of b' - turns_of b) u) calls
+  pub call : calls ≡ true → IsCallPast stops x (state_after Calls x (turns_of b' - turns_of b) u) task
   pub before : calls ≡ true → turns_of b' < until
 
 -- PC is even
@@ -494,7 +535,7 @@ not_hit : (breakpoints : List ℕ) (base size pc c : ℕ) (v : View) (t : Turned
 not_hit breakpoints base size pc c v Idle s h = absurd h
 not_hit breakpoints base size pc c v (Ran task at) s h = let i = in_stretch v at 2 h.1 in s.free at i.0 (omega (arith, i.1))
 
-module _ {X : Type 0} {H : X → Type 0} (shown : Shows X H) (breakpoints : List ℕ) (x : Scenario) (u : State) (b : Board X H) (m : Machine X H) (task most n until : ℕ) (calls : Bool)
+module _ {X : Type 0} {H : X → Type 0} (shown : Shows X H) (stops : Stops) (x : Scenario) (u : State) (b : Board X H) (m : Machine X H) (task most n until : ℕ) (calls : Bool)
     (st : Stands shown x b u) (next : b.choice.next ≡ Some task) (up : b.choice.down ≡ false)
     (few : until ≤ 1000000000) (within : turns_of b + n ≤ until) (later_due : (turn : ℕ) → turn < until → b.due ≢ Some turn)
     (none : kernel_notes m.reach.kernel ≡ []) where
@@ -505,7 +546,7 @@ module _ {X : Type 0} {H : X → Type 0} (shown : Shows X H) (breakpoints : List
   is_chosen = sym st.holds.choice.next ∙ next
 
   -- none was made
-  stayed : n ≡ 0 → MachineHolds shown x.setup m (rested b.machine u) → HasGlidden shown breakpoints x u n record b { machine = m; turns = turns_of b + n }
+  stayed : n ≡ 0 → MachineHolds shown x.setup m (rested b.machine u) → HasGlidden shown stops x u n record b { machine = m; turns = turns_of b + n }
   unfolding state_after
   stayed zero_is h =
       rw zero_is record {
@@ -524,21 +565,22 @@ module _ {X : Type 0} {H : X → Type 0} (shown : Shows X H) (breakpoints : List
         nothing = λ k lt. absurd (omega (arith, lt));
         goes_on = λ k lt. absurd (omega (arith, lt));
         past = λ k lt. absurd (omega (arith, lt));
+        untouched = λ k at lt is. absurd (omega (arith, lt));
         notes = λ lt. none;
       }
 
   -- what the task sees
-  seen : (h : IsGlided shown breakpoints x.setup m task (rested b.machine u) most n calls) → IsSight x.setup task u (sight_by x.setup task h.window u.devices)
+  seen : (h : IsGlided shown stops x.setup m task (rested b.machine u) most n calls) → IsSight x.setup task u (sight_by x.setup task h.window u.devices)
   seen h = record { window = h.whole.is; devices = refl; ports = own_ports x.setup task }
 
-  turns_are : (h : IsGlided shown breakpoints x.setup m task (rested b.machine u) most n calls) → AreTurns x u task (sight_by x.setup task h.window u.devices) n (sight_by x.setup task h.after h.devices) m.glider.runner.processor
+  turns_are : (h : IsGlided shown stops x.setup m task (rested b.machine u) most n calls) → AreTurns x u task (sight_by x.setup task h.window u.devices) n (sight_by x.setup task h.after h.devices) m.glider.runner.processor
   turns_are h = are_turns x u task (sight_by x.setup task h.window u.devices) st.sane is_chosen (seen h) n (sight_by x.setup task h.after h.devices) m.glider.runner.processor nothing h.polls
 
-  left_is : (h : IsGlided shown breakpoints x.setup m task (rested b.machine u) most n calls) → IsLeft x u task (sight_by x.setup task h.window u.devices) n (sight_by x.setup task h.after h.devices) m.glider.runner.processor
+  left_is : (h : IsGlided shown stops x.setup m task (rested b.machine u) most n calls) → IsLeft x u task (sight_by x.setup task h.window u.devices) n (sight_by x.setup task h.after h.devices) m.glider.runner.processor
   left_is h = seen_then x u task (sight_by x.setup task h.window u.devices) st.sane is_chosen (seen h) n (sight_by x.setup task h.after h.devices) m.glider.runner.processor nothing h.polls
 
   -- what the machine holds then
-  held_after : (h : IsGlided shown breakpoints x.setup m task (rested b.machine u) most n calls) → MachineHolds shown x.setup m (rested b.machine (state_after Calls x n u))
+  held_after : (h : IsGlided shown stops x.setup m task (rested b.machine u) most n calls) → MachineHolds shown x.setup m (rested b.machine (state_after Calls x n u))
   unfolding state_after
   held_after h = by n refl h.stays h.goes (turns_are h).state
     where
@@ -547,7 +589,16 @@ module _ {X : Type 0} {H : X → Type 0} (shown : Shows X H) (breakpoints : List
       by zero e stays goes is = stays refl
       by (suc k) e stays goes is = subst (λ (y : State). MachineHolds shown x.setup m (rested b.machine y)) (sym is) (goes (omega arith))
 
-  made : IsGlided shown breakpoints x.setup m task (rested b.machine u) most n calls → HasGlidden shown breakpoints x u n record b { machine = m; turns = turns_of b + n }
+  -- a window has no byte that is watched
+  beside_watched : (v : View) (at : ℕ) → (w : IsWholeWindow stops x.setup task u.memory (register u task program_counter) (register u task stack_pointer) v) → stops.watched ≡ Some at → IsBeside v at
+  beside_watched v at w is =
+      let P : Option ℕ → Type 0 = λ o. (v.ram_base ≡ (unwatched o w.stack).base) × (length v.ram ≡ (unwatched o w.stack).size) in
+      let Q : Option ℕ → Type 0 = λ o. (v.area_base ≡ (unwatched o w.further).base) × (length v.area ≡ (unwatched o w.further).size) in
+      let ram = subst P is w.ram in
+      let area = subst Q is w.area in
+      (λ low high. not_there at w.stack (rw (← ram.0) low) (rw (← ram.0, ← ram.1) high), λ low high. not_there at w.further (rw (← area.0) low) (rw (← area.0, ← area.1) high))
+
+  made : IsGlided shown stops x.setup m task (rested b.machine u) most n calls → HasGlidden shown stops x u n record b { machine = m; turns = turns_of b + n }
   unfolding ending state_after
   made h =
       let are = turns_are h in
@@ -576,7 +627,8 @@ module _ {X : Type 0} {H : X → Type 0} (shown : Shows X H) (breakpoints : List
           counted = are.counted st.counted;
         };
         nothing = are.silent;
-        past = λ k lt. not_hit breakpoints h.whole.code.base h.whole.code.size (register u task program_counter) task h.window (turned x (state_after Calls x k u)) h.whole.stretch (are.ran k lt);
+        past = λ k lt. not_hit stops.breakpoints h.whole.code.base h.whole.code.size (register u task program_counter) task h.window (turned x (state_after Calls x k u)) h.whole.stretch (are.ran k lt);
+        untouched = λ k at lt is. are.beside (suc k) at (omega (arith, lt)) (beside_watched h.window at h.whole is);
         goes_on = λ k lt. goes_at (suc k) (are.chosen (suc k) (omega (arith, lt))) (are.down (suc k) (omega (arith, lt)));
         notes = λ lt. none;
       }
@@ -586,15 +638,15 @@ module _ {X : Type 0} {H : X → Type 0} (shown : Shows X H) (breakpoints : List
           let down : is_down (state_after Calls x k u) ≡ false = same ∙ sym st.holds.choice.down ∙ up in
           rw (down, some) refl
 
-  has_glidden : HasGlided shown breakpoints x.setup m task (rested b.machine u) most n calls → HasGlidden shown breakpoints x u n record b { machine = m; turns = turns_of b + n }
+  has_glidden : HasGlided shown stops x.setup m task (rested b.machine u) most n calls → HasGlidden shown stops x u n record b { machine = m; turns = turns_of b + n }
   has_glidden (inl h) = made h
   has_glidden (inr h) = stayed h.none h.holds
 
-  stretch_still : (w : View) (h : IsGlided shown breakpoints x.setup m task (rested b.machine u) most n calls) → Keeps h.window w → IsStretch breakpoints h.whole.code.base h.whole.code.size (register u task program_counter) w.code_base w.code_size
+  stretch_still : (w : View) (h : IsGlided shown stops x.setup m task (rested b.machine u) most n calls) → Keeps h.window w → IsStretch stops.breakpoints h.whole.code.base h.whole.code.size (register u task program_counter) w.code_base w.code_size
   stretch_still w h same = rw (same.code_base, same.code_size) h.whole.stretch
 
   -- the window that is left is of the same regions
-  at_end : (h : IsGlided shown breakpoints x.setup m task (rested b.machine u) most n calls) → n < most → IsAtEnd breakpoints x.setup task (register u task program_counter) (register u task stack_pointer) (state_after Calls x n u) calls
+  at_end : (h : IsGlided shown stops x.setup m task (rested b.machine u) most n calls) → n < most → IsAtEnd stops x.setup task (register u task program_counter) (register u task stack_pointer) (state_after Calls x n u) calls
   at_end h lt =
       let left = left_is h in
       let same = left.keeps in
@@ -621,18 +673,18 @@ module _ {X : Type 0} {H : X → Type 0} (shown : Shows X H) (breakpoints : List
         told = h.tells.told h.apart lt ∙ ap (is_at_syscall h.after) (sym left.processor);
       }
 
-  must_stop : HasGlided shown breakpoints x.setup m task (rested b.machine u) most n calls → n < most → MustStop breakpoints x.setup task (register u task program_counter) (register u task stack_pointer) (state_after Calls x n u) calls
+  must_stop : HasGlided shown stops x.setup m task (rested b.machine u) most n calls → n < most → MustStop stops x.setup task (register u task program_counter) (register u task stack_pointer) (state_after Calls x n u) calls
   unfolding state_after
   must_stop (inl h) lt = inl (at_end h lt)
   must_stop (inr h) lt = inr (rw h.none h.beyond, h.no_call)
 
   -- at a system call there are fewer than there may be
-  is_short : HasGlided shown breakpoints x.setup m task (rested b.machine u) most n calls → calls ≡ true → n < most
+  is_short : HasGlided shown stops x.setup m task (rested b.machine u) most n calls → calls ≡ true → n < most
   is_short (inl h) e = h.tells.short e
   is_short (inr h) e = absurd (false≢true (sym h.no_call ∙ e))
 
   -- at a system call the next turn is that call
-  is_call : HasGlided shown breakpoints x.setup m task (rested b.machine u) most n calls → turns_of b + most ≡ until → calls ≡ true → IsCallPast breakpoints x (state_after Calls x n u) task
+  is_call : HasGlided shown stops x.setup m task (rested b.machine u) most n calls → turns_of b + most ≡ until → calls ≡ true → IsCallPast stops x (state_after Calls x n u) task
   unfolding register
   is_call (inl h) all e =
       let are = turns_are h in
@@ -653,15 +705,15 @@ module _ {X : Type 0} {H : X → Type 0} (shown : Shows X H) (breakpoints : List
             is = subst (λ (d : Cpu). fetched (refusals x.setup task) (held v) (reg_at d.regs 15) ≡ Ok record { insn = Svc call.value; code = call.code }) (sym left.processor) wide;
           };
         };
-        past = not_hit breakpoints h.whole.code.base h.whole.code.size (register u task program_counter) task h.after (turned x v) (stretch_still h.after h left.keeps) there;
+        past = not_hit stops.breakpoints h.whole.code.base h.whole.code.size (register u task program_counter) task h.after (turned x v) (stretch_still h.after h left.keeps) there;
       }
   is_call (inr h) all e = absurd (false≢true (sym h.no_call ∙ e))
 
 -- the same of a board once its machine's turn has begun
-pub made_by : {X : Type 0} {H : X → Type 0} (shown : Shows X H) (breakpoints : List ℕ) (x : Scenario) (u : State) (b : Board X H) (m m' : Machine X H) (task n until : ℕ) (calls : Bool) → Stands shown x b u → MachineHolds shown x.setup m (begun u) → b.choice.next ≡ Some task → b.choice.down ≡ false → until ≤ 1000000000 →
+pub made_by : {X : Type 0} {H : X → Type 0} (shown : Shows X H) (stops : Stops) (x : Scenario) (u : State) (b : Board X H) (m m' : Machine X H) (task n until : ℕ) (calls : Bool) → Stands shown x b u → MachineHolds shown x.setup m (begun u) → b.choice.next ≡ Some task → b.choice.down ≡ false → until ≤ 1000000000 →
     turns_of b < until → n ≤ until - turns_of b → ((turn : ℕ) → turn < until → b.due ≢ Some turn) → note_count m'.reach.kernel ≡ note_count m.reach.kernel →
-    ((t : Turn) → MachineStands shown x.setup m t → task < length t.state.tasks → is_ready t.state task ≡ true → HasGlided shown breakpoints x.setup m' task t (until - turns_of b) n calls) → IsMade shown breakpoints x u task until b record b { machine = m'; turns = turns_of b + n } calls
-made_by {X} {H} shown breakpoints x u b0 m m' task n until calls st0 holds next up few left within later_due count glided =
+    ((t : Turn) → MachineStands shown x.setup m t → task < length t.state.tasks → is_ready t.state task ≡ true → HasGlided shown stops x.setup m' task t (until - turns_of b) n calls) → IsMade shown stops x u task until b record b { machine = m'; turns = turns_of b + n } calls
+made_by {X} {H} shown stops x u b0 m m' task n until calls st0 holds next up few left within later_due count glided =
     let b : Board X H = record b0 { machine = m } in
     let b' : Board X H = record b0 { machine = m'; turns = turns_of b0 + n } in
     let st : Stands shown x b u = begun_board shown x u b0 m st0 holds in
@@ -672,12 +724,12 @@ made_by {X} {H} shown breakpoints x u b0 m m' task n until calls st0 holds next 
     let h = glided (rested m u) record { holds = st.holds.machine; sane = st.sane } is.inside is.ready in
     let e : n ≡ turns_of b0 + n - turns_of b0 = omega arith in
     record {
-      glidden = subst (λ (k : ℕ). HasGlidden shown breakpoints x u k b') e (has_glidden shown breakpoints x u b m' task most n until calls st next up few over later_due none h);
+      glidden = subst (λ (k : ℕ). HasGlidden shown stops x u k b') e (has_glidden shown stops x u b m' task most n until calls st next up few over later_due none h);
       far = λ lt.
-          let stop = must_stop shown breakpoints x u b m' task most n until calls st next up few over later_due none h (omega (arith, lt)) in
-          subst (λ (k : ℕ). MustStop breakpoints x.setup task (register u task program_counter) (register u task stack_pointer) (state_after Calls x k u) calls) e stop;
-      call = λ yes. subst (λ (k : ℕ). IsCallPast breakpoints x (state_after Calls x k u) task) e (is_call shown breakpoints x u b m' task most n until calls st next up few over later_due none h (omega (arith, left)) yes);
-      before = λ yes. let short = is_short shown breakpoints x u b m' task most n until calls st next up few over later_due none h yes in omega (arith, left, short);
+          let stop = must_stop shown stops x u b m' task most n until calls st next up few over later_due none h (omega (arith, lt)) in
+          subst (λ (k : ℕ). MustStop stops x.setup task (register u task program_counter) (register u task stack_pointer) (state_after Calls x k u) calls) e stop;
+      call = λ yes. subst (λ (k : ℕ). IsCallPast stops x (state_after Calls x k u) task) e (is_call shown stops x u b m' task most n until calls st next up few over later_due none h (omega (arith, left)) yes);
+      before = λ yes. let short = is_short shown stops x u b m' task most n until calls st next up few over later_due none h yes in omega (arith, left, short);
     }
 
 -- ## the ports of a board
@@ -693,8 +745,8 @@ module _ {X : Type 0} {H : X → Type 0} (shown : Shows X H) (x : Scenario) (s :
   pub own_list : (c : ℕ) (v d : Vec Region Global) → c < length s.tasks → v ≡ get_or b.ports.items c d → v.items ≡ ports_of x.setup c
   own_list c v d inside is = let long = b.ports.ok.0 in let in_len = ports_inside c inside in let lt : c < length b.ports.items = omega (arith, in_len, long) in let many = st.sane.steady.as_many in ap vec_items is ∙ sym (get_or-map vec_items b.ports.items c d [] lt) ∙ st.holds.ports.each c (omega (arith, many, inside))
 
-pub glidden_ports : {X : Type 0} {H : X → Type 0} (shown : Shows X H) (breakpoints : List ℕ) (x : Scenario) (s : State) (n : ℕ) (b : Board X H) (p : Vec (Vec Region Global) Global) → HasGlidden shown breakpoints x s n b → AllPorts x.setup (map vec_items p.items) → HasGlidden shown breakpoints x s n record b { ports = p }
-glidden_ports shown breakpoints x s n b p h ports = record {
+pub glidden_ports : {X : Type 0} {H : X → Type 0} (shown : Shows X H) (stops : Stops) (x : Scenario) (s : State) (n : ℕ) (b : Board X H) (p : Vec (Vec Region Global) Global) → HasGlidden shown stops x s n b → AllPorts x.setup (map vec_items p.items) → HasGlidden shown stops x s n record b { ports = p }
+glidden_ports shown stops x s n b p h ports = record {
   stands = record {
     holds = record {
       machine = h.stands.holds.machine;
@@ -710,5 +762,6 @@ glidden_ports shown breakpoints x s n b p h ports = record {
   nothing = h.nothing;
   goes_on = h.goes_on;
   past = h.past;
+  untouched = h.untouched;
   notes = h.notes;
 }

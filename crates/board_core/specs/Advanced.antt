@@ -1,6 +1,7 @@
 -- Several turns on end, of which only the last may note anything.
 use Rattle.words_core.specs.Regs.{stack_pointer, program_counter}
 use Rattle.std.specs.Prelude.{ℕ, Bool, List, ◌≡◌, ◌≢◌, ◌⊎◌, ◌<◌, ◌-◌, [], None, Some, true, false}
+use Rattle.mem_banks.specs.Memory.{byte_at}
 use Rattle.task_table.specs.State.{State}
 use Rattle.task_table.specs.Reading.{register, chosen}
 use Rattle.run_script.specs.Scripts.{events_of, lasts}
@@ -11,6 +12,7 @@ use Rattle.board_model.specs.Script.{Scenario}
 use Rattle.board_model.specs.Turn.{turned}
 use Rattle.board_model.specs.Run.{ending, turn_after, state_after}
 use Rattle.board_core.specs.Breakpoints.{is_hit}
+use Rattle.board_core.specs.Stops.{Stops}
 use Rattle.board_core.specs.Windowed.{MustStop, IsCalling}
 use Rattle.board_core.specs.Stands.{Stands, notes_of, turns_of}
 use Rattle.board_core.specs.Data.{Shows}
@@ -23,12 +25,14 @@ pub record IsAdvanced {X : Type 0} {H : X → Type 0} (shown : Shows X H) (level
   pub stands : Stands shown x b (turn_after level x n s).state
   pub notes : notes_of b ≡ (turn_after level x n s).notes
 
--- the board stands for the state after n turns, none of which noted anything, ended the run or was at a breakpoint
-pub record HasGlidden {X : Type 0} {H : X → Type 0} (shown : Shows X H) (breakpoints : List ℕ) (x : Scenario) (s : State) (n : ℕ) (b : Board X H) : Type 0 where
+-- the board stands for the state after n turns, none of which noted anything, ended the run, was at a breakpoint or changed the byte that
+-- is watched
+pub record HasGlidden {X : Type 0} {H : X → Type 0} (shown : Shows X H) (stops : Stops) (x : Scenario) (s : State) (n : ℕ) (b : Board X H) : Type 0 where
   pub stands : Stands shown x b (state_after Calls x n s)
   pub nothing : (k : ℕ) → k < n → (turn_after Calls x k s).notes ≡ []
   pub goes_on : (k : ℕ) → k < n → ending x 1 (turn_after Calls x k s).state ≡ None
-  pub past : (k : ℕ) → k < n → is_hit breakpoints (turned x (state_after Calls x k s)) ≡ false
+  pub past : (k : ℕ) → k < n → is_hit stops.breakpoints (turned x (state_after Calls x k s)) ≡ false
+  pub untouched : (k at : ℕ) → k < n → stops.watched ≡ Some at → byte_at (turn_after Calls x k s).state.memory at ≡ byte_at s.memory at
   pub notes : 0 < n → notes_of b ≡ []
 
 -- a turn in which something happens from outside, or before which the run ends
@@ -36,8 +40,8 @@ abbrev pub IsStopped : Scenario → State → Type 0
 IsStopped x s = (events_of x.script s.turn ≢ []) ⊎ (ending x 1 s ≢ None)
 
 -- a task that runs from a state goes no further the fast way than to another one, where it is known or not to make a system call
-abbrev pub IsFar : List ℕ → Scenario → ℕ → State → State → Bool → Type 0
-IsFar breakpoints x c s u calls = MustStop breakpoints x.setup c (register s c program_counter) (register s c stack_pointer) u calls
+abbrev pub IsFar : Stops → Scenario → ℕ → State → State → Bool → Type 0
+IsFar stops x c s u calls = MustStop stops x.setup c (register s c program_counter) (register s c stack_pointer) u calls
 
 -- the task that is chosen makes a system call, and nothing happens from outside
 pub record IsCall (x : Scenario) (s : State) (c : ℕ) : Type 0 where
@@ -53,35 +57,35 @@ abbrev pub state_before : {X : Type 0} {H : X → Type 0} → Scenario → Board
 state_before x old s new = state_after Calls x (turns_of new - turns_of old - 1) s
 
 -- the next turn of the task that is chosen from a state on is a whole one: something happens in it, or the fast way ends
-abbrev pub NeedsTurn : List ℕ → Scenario → ℕ → State → State → Type 0
-NeedsTurn breakpoints x c s u = (events_of x.script u.turn ≢ []) ⊎ ((calls : Bool) × IsFar breakpoints x c s u calls)
+abbrev pub NeedsTurn : Stops → Scenario → ℕ → State → State → Type 0
+NeedsTurn stops x c s u = (events_of x.script u.turn ≢ []) ⊎ ((calls : Bool) × IsFar stops x c s u calls)
 
 -- the task that is chosen went on to turn `until`, or as far as the fast way goes
-abbrev pub WentFar : {X : Type 0} {H : X → Type 0} → Shows X H → List ℕ → ℕ → Board X H → Board X H → Bool → Type 0
-WentFar shown breakpoints until old new calls =
+abbrev pub WentFar : {X : Type 0} {H : X → Type 0} → Shows X H → Stops → ℕ → Board X H → Board X H → Bool → Type 0
+WentFar shown stops until old new calls =
     (x : Scenario) (s : State) (c : ℕ) → Stands shown x old s → chosen x.setup s ≡ Some c → old.choice.down ≡ false →
-    turns_of new < until → IsFar breakpoints x c s (state_now x old s new) calls
+    turns_of new < until → IsFar stops x c s (state_now x old s new) calls
 
 -- the same of a task that is known to be the one
-abbrev pub WentFarOn : {X : Type 0} {H : X → Type 0} → Shows X H → List ℕ → ℕ → ℕ → Board X H → Board X H → Bool → Type 0
-WentFarOn shown breakpoints task until old new calls =
+abbrev pub WentFarOn : {X : Type 0} {H : X → Type 0} → Shows X H → Stops → ℕ → ℕ → Board X H → Board X H → Bool → Type 0
+WentFarOn shown stops task until old new calls =
     (x : Scenario) (s : State) → Stands shown x old s →
-    turns_of new < until → IsFar breakpoints x task s (state_now x old s new) calls
+    turns_of new < until → IsFar stops x task s (state_now x old s new) calls
 
 -- the task that is chosen makes a system call, which is at no breakpoint
-pub record IsCallPast (breakpoints : List ℕ) (x : Scenario) (s : State) (c : ℕ) : Type 0 where
+pub record IsCallPast (stops : Stops) (x : Scenario) (s : State) (c : ℕ) : Type 0 where
   pub call : IsCall x s c
-  pub past : is_hit breakpoints (turned x s) ≡ false
+  pub past : is_hit stops.breakpoints (turned x s) ≡ false
 
 -- that is what it does then
-abbrev pub IsToCall : {X : Type 0} {H : X → Type 0} → Shows X H → List ℕ → ℕ → Board X H → Board X H → Type 0
-IsToCall shown breakpoints task old new = (x : Scenario) (s : State) → Stands shown x old s → IsCallPast breakpoints x (state_now x old s new) task
+abbrev pub IsToCall : {X : Type 0} {H : X → Type 0} → Shows X H → Stops → ℕ → Board X H → Board X H → Type 0
+IsToCall shown stops task old new = (x : Scenario) (s : State) → Stands shown x old s → IsCallPast stops x (state_now x old s new) task
 
 -- the last turn had to be a whole one
-abbrev pub NeededTurn : {X : Type 0} {H : X → Type 0} → Shows X H → List ℕ → ℕ → Board X H → Board X H → Type 0
-NeededTurn shown breakpoints limit old new =
+abbrev pub NeededTurn : {X : Type 0} {H : X → Type 0} → Shows X H → Stops → ℕ → Board X H → Board X H → Type 0
+NeededTurn shown stops limit old new =
     (x : Scenario) (s : State) (c : ℕ) → Stands shown x old s → chosen x.setup s ≡ Some c → old.choice.down ≡ false →
-    turns_of new < limit → NeedsTurn breakpoints x c s (state_before x old s new)
+    turns_of new < limit → NeedsTurn stops x c s (state_before x old s new)
 
 -- where no task is ready, the last turn is the one in which something happened
 abbrev pub WaitedFor : {X : Type 0} {H : X → Type 0} → Shows X H → ℕ → Board X H → Board X H → Type 0

@@ -13,6 +13,7 @@ use Rattle.task_table.specs.Reading.{task_at, setup_at, register, is_ready}
 use Rattle.board_model.specs.Turn.{cpu_of}
 use Rattle.board_core.specs.Reached.{is_flash_at}
 use Rattle.board_core.specs.Sights.{sight_by, ports_of, Polls, IsAtLimit}
+use Rattle.board_core.specs.Stops.{Stops}
 use Rattle.board_core.specs.Windowed.{IsWholeWindow, later, with_window}
 use Rattle.board_core.specs.declared.glider.Glider.{Glider}
 use Rattle.board_core.specs.declared.machine.Machine.{Machine}
@@ -54,14 +55,14 @@ pub record HasWorked (a : Glider) (flash ram area : List ℕ) (b : Glider) (afte
   pub far : IsApart (lent_view a flash ram area) → b.made < a.most → IsLast (lent_view a flash after area_after) b.runner.processor
   pub tells : TellsCall a.most b.made (lent_view a flash ram area) (lent_view a flash after area_after) b.runner.processor b.at_syscall
 
--- n instructions on end of a task within a window that fetches from no breakpoint, and over it and the devices that it may read, of
+-- n instructions on end of a task within a window that fetches from no breakpoint and lacks the byte that is watched, and over it and the devices that it may read, of
 -- which as many go on as there may be, and whether the next one is known to be a system call. Where there were some, the task is the
 -- current one.
-pub record IsGlided {X : Type 0} {H : X → Type 0} (shown : Shows X H) (breakpoints : List ℕ) (g : Setup) (m : Machine X H) (c : ℕ) (t : Turn) (most n : ℕ) (calls : Bool) : Type 0 where
+pub record IsGlided {X : Type 0} {H : X → Type 0} (shown : Shows X H) (stops : Stops) (g : Setup) (m : Machine X H) (c : ℕ) (t : Turn) (most n : ℕ) (calls : Bool) : Type 0 where
   pub window : View
   pub after : View
   pub devices : List DeviceData
-  pub whole : IsWholeWindow breakpoints g c t.state.memory (register t.state c program_counter) (register t.state c stack_pointer) window
+  pub whole : IsWholeWindow stops g c t.state.memory (register t.state c program_counter) (register t.state c stack_pointer) window
   pub polls : Polls (sight_by g c window t.state.devices) (cpu_of (task_at t.state c)) n (sight_by g c after devices) m.glider.runner.processor
   pub far : n < most → IsAtLimit (sight_by g c after devices) m.glider.runner.processor
   pub apart : IsApart window
@@ -77,11 +78,11 @@ pub record HasNoWindow {X : Type 0} {H : X → Type 0} (shown : Shows X H) (g : 
   pub holds : MachineHolds shown g m t
 
 -- instructions were made so, or the task fetches from no region of the flash
-abbrev pub HasGlided : {X : Type 0} {H : X → Type 0} → Shows X H → List ℕ → Setup → Machine X H → ℕ → Turn → ℕ → ℕ → Bool → Type 0
-HasGlided shown breakpoints g m c t most n calls = IsGlided shown breakpoints g m c t most n calls ⊎ HasNoWindow shown g m c t n calls
+abbrev pub HasGlided : {X : Type 0} {H : X → Type 0} → Shows X H → Stops → Setup → Machine X H → ℕ → Turn → ℕ → ℕ → Bool → Type 0
+HasGlided shown stops g m c t most n calls = IsGlided shown stops g m c t most n calls ⊎ HasNoWindow shown g m c t n calls
 
 -- what a machine comes to from a turn in which a task is ready that may read devices by these regions
-abbrev pub GlidesFrom : {X : Type 0} {H : X → Type 0} → Shows X H → List ℕ → List Region → ℕ → ℕ → Machine X H → Machine X H → ℕ → Bool → Type 0
-GlidesFrom shown breakpoints ports task most old new made calls =
+abbrev pub GlidesFrom : {X : Type 0} {H : X → Type 0} → Shows X H → Stops → List Region → ℕ → ℕ → Machine X H → Machine X H → ℕ → Bool → Type 0
+GlidesFrom shown stops ports task most old new made calls =
     (g : Setup) (t : Turn) → MachineStands shown g old t → task < length t.state.tasks → is_ready t.state task ≡ true →
-    ports_of g task ≡ ports → HasGlided shown breakpoints g new task t most made calls
+    ports_of g task ≡ ports → HasGlided shown stops g new task t most made calls

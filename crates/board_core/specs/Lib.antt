@@ -2,6 +2,8 @@ pub mod Data
 pub mod DeviceViews
 pub mod Reached
 pub mod Breakpoints
+pub mod Stops
+pub mod Changes
 pub mod Windowed
 pub mod Kept
 pub mod Machine

@@ -1,5 +1,5 @@
 -- Which regions of a task make the window in which it goes on.
-use Rattle.std.specs.Prelude.{ℕ, ◌≡◌, ◌⊎◌, Bool, ◌&&◌, not, true, false, List, Contains, Some, None, find, nat_le, nat_lt, nat_eq}
+use Rattle.std.specs.Prelude.{ℕ, ◌≡◌, ◌⊎◌, Bool, ◌&&◌, not, true, false, List, Contains, Option, Some, None, find, if◌then◌else◌, nat_le, nat_lt, nat_eq}
 use Rattle.std.specs.List.{list_any}
 use Rattle.region_check.specs.declared.Region.{Region}
 use Rattle.region_check.specs.Spans.{spans}
@@ -26,9 +26,26 @@ is_area stack r = nat_le 0x20000000 r.base && nat_lt 0 r.size && r.rights.read &
 abbrev pub IsAreaRegion : List Region → Region → Region → Type 0
 IsAreaRegion regions stack r = (find (is_area stack) regions ≡ Some r) ⊎ (IsNoRegion (span_of r) × (find (is_area stack) regions ≡ None))
 
+-- no region: it has no bytes, and begins where the RAM does
+abbrev pub no_region : Region
+no_region = record { base = 0x20000000; size = 0; rights = record { read = false; write = false; execute = false; device = false } }
+
+-- a region, or none where it has the byte that is watched
+abbrev pub unwatched : Option ℕ → Region → Region
+unwatched None r = r
+unwatched (Some at) r = if spans r at 1 then no_region else r
+
 -- the region that has the instruction at PC, that of the stack, and the first further one of the RAM
 pub record AreReached (regions : List Region) (pc sp : ℕ) (code stack further : Region) : Type 0 where
   pub here : Contains regions code
   pub flash : is_flash_at pc code ≡ true
   pub ram : IsStackRegion regions sp stack
   pub area : IsAreaRegion regions stack further
+
+-- those that a task is lent where a byte is watched: no region of the RAM that has it
+pub record AreLent (watched : Option ℕ) (regions : List Region) (pc sp : ℕ) (code ram area : Region) : Type 0 where
+  pub stack : Region
+  pub further : Region
+  pub reached : AreReached regions pc sp code stack further
+  pub ram_is : ram ≡ unwatched watched stack
+  pub area_is : area ≡ unwatched watched further

@@ -3,7 +3,7 @@ use Rattle.words_core.specs.Regs.{program_counter}
 use Rattle.std.specs.Prelude.{ℕ, zero, suc, ◌≡◌, ◌⊎◌, Bool, false, ◌+◌, ◌<◌, ◌≤◌, true, List, length, [], Some, Ok, Contains}
 use Rattle.region_check.specs.declared.Region.{Region}
 use Rattle.region_check.specs.declared.Right.TheVariants.{Read, Write, Execute}
-use Rattle.mem_banks.specs.Memory.{Memory, bytes_at, with_bytes}
+use Rattle.mem_banks.specs.Memory.{Memory, byte_at, bytes_at, with_bytes}
 use Rattle.mem_banks.specs.Windows.{IsInFlash, IsInRam, AreApart}
 use Rattle.run_script.specs.Scripts.{events_of}
 use Rattle.thumb_exec.specs.declared.cpu.Cpu.{Cpu}
@@ -12,9 +12,10 @@ use Rattle.thumb_exec.specs.Effect.{Halts}
 use Rattle.thumb_exec.specs.Fetch.{fetched, step_effect}
 use Rattle.thumb_insn.specs.declared.Insn.TheVariants.{Svc}
 use Rattle.thumb_step.specs.Windows.{View, has_code, is_at_syscall}
-use Rattle.board_core.specs.Reached.{is_flash_at, AreReached}
+use Rattle.board_core.specs.Reached.{is_flash_at, unwatched, AreReached}
 use Rattle.board_core.specs.Sights.{Sight, is_port, sight_by, refused_at, held_at}
 use Rattle.board_core.specs.Breakpoints.{IsStretch}
+use Rattle.board_core.specs.Stops.{Stops}
 use Rattle.task_table.specs.State.{Setup, State}
 use Rattle.task_table.specs.Reading.{task_at, setup_at, register, chosen, is_ready}
 use Rattle.task_table.specs.Sane.{Sane, IsCounted}
@@ -44,31 +45,32 @@ pub record IsWindow (g : Setup) (c : ℕ) (m : Memory) (v : View) : Type 0 where
   pub area : bytes_at m v.area_base (length v.area) ≡ v.area
 
 -- a window of a task that has all of the region of the flash that has PC, of that of the RAM that has SP, and of the first further
--- one of the RAM that may be read; it fetches from all around PC up to the breakpoints
-pub record IsWholeWindow (breakpoints : List ℕ) (g : Setup) (c : ℕ) (m : Memory) (pc sp : ℕ) (v : View) : Type 0 where
+-- one of the RAM that may be read, but of these two none that has the byte that is watched; it fetches from all around PC up to the
+-- breakpoints
+pub record IsWholeWindow (stops : Stops) (g : Setup) (c : ℕ) (m : Memory) (pc sp : ℕ) (v : View) : Type 0 where
   pub is : IsWindow g c m v
   pub code : Region
   pub stack : Region
   pub further : Region
   pub reached : AreReached (setup_at g c).regions pc sp code stack further
   pub flash : (v.flash_base ≡ code.base) × (length v.flash ≡ code.size)
-  pub stretch : IsStretch breakpoints code.base code.size pc v.code_base v.code_size
+  pub stretch : IsStretch stops.breakpoints code.base code.size pc v.code_base v.code_size
   pub readable : v.readable ≡ code.rights.read
-  pub ram : (v.ram_base ≡ stack.base) × (length v.ram ≡ stack.size)
-  pub area : (v.area_base ≡ further.base) × (length v.area ≡ further.size)
-  pub writable : v.area_writable ≡ further.rights.write
+  pub ram : (v.ram_base ≡ (unwatched stops.watched stack).base) × (length v.ram ≡ (unwatched stops.watched stack).size)
+  pub area : (v.area_base ≡ (unwatched stops.watched further).base) × (length v.area ≡ (unwatched stops.watched further).size)
+  pub writable : v.area_writable ≡ (unwatched stops.watched further).rights.write
 
 -- the next instruction of a task is a system call, faults, is at a breakpoint or reaches beyond a window, of which PC and SP were these
 -- when it was opened, and the devices that it may read; and whether it is a call is known
-pub record IsAtEnd (breakpoints : List ℕ) (g : Setup) (c pc sp : ℕ) (s : State) (calls : Bool) : Type 0 where
+pub record IsAtEnd (stops : Stops) (g : Setup) (c pc sp : ℕ) (s : State) (calls : Bool) : Type 0 where
   pub window : View
-  pub whole : IsWholeWindow breakpoints g c s.memory pc sp window
+  pub whole : IsWholeWindow stops g c s.memory pc sp window
   pub halts : Halts (step_effect (refused_at (sight_by g c window s.devices)) (held_at (sight_by g c window s.devices)) (cpu_of (task_at s c)))
   pub told : calls ≡ is_at_syscall window (cpu_of (task_at s c))
 
 -- that, or the task fetches from no region of the flash
-abbrev pub MustStop : List ℕ → Setup → ℕ → ℕ → ℕ → State → Bool → Type 0
-MustStop breakpoints g c pc sp s calls = IsAtEnd breakpoints g c pc sp s calls ⊎ ((list_any (is_flash_at (register s c program_counter)) (setup_at g c).regions ≡ false) × (calls ≡ false))
+abbrev pub MustStop : Stops → Setup → ℕ → ℕ → ℕ → State → Bool → Type 0
+MustStop stops g c pc sp s calls = IsAtEnd stops g c pc sp s calls ⊎ ((list_any (is_flash_at (register s c program_counter)) (setup_at g c).regions ≡ false) × (calls ≡ false))
 
 -- what a task fetches is a system call
 pub record IsCalling (g : Setup) (c : ℕ) (s : State) : Type 0 where
@@ -106,9 +108,14 @@ abbrev pub IsFetchedIn : View → ℕ → Turned → Type 0
 IsFetchedIn v c Idle = ⊥
 IsFetchedIn v c (Ran task at) = (task ≡ c) × (has_code v at 2 ≡ true)
 
+-- an address is that of no byte of the RAM or the area of a window
+abbrev pub IsBeside : View → ℕ → Type 0
+IsBeside v at = (v.ram_base ≤ at → at < v.ram_base + length v.ram → ⊥) × (v.area_base ≤ at → at < v.area_base + length v.area → ⊥)
+
 -- n turns on end of a task are its instructions over what it sees, of which none is noted
 pub record AreTurns (x : Scenario) (s : State) (c : ℕ) (o : Sight) (n : ℕ) (o' : Sight) (cpu : Cpu) : Type 0 where
   pub state : state_after Calls x n s ≡ later record s { current = runner n c s.current; devices = o'.devices } c cpu (with_window s.memory o.view o'.view) n
+  pub beside : (k at : ℕ) → k ≤ n → IsBeside o.view at → byte_at (state_after Calls x k s).memory at ≡ byte_at s.memory at
   pub silent : (k : ℕ) → k < n → (turn_after Calls x k s).notes ≡ []
   pub ran : (k : ℕ) → k < n → IsFetchedIn o.view c (turned x (state_after Calls x k s))
   pub chosen : (k : ℕ) → k ≤ n → chosen x.setup (state_after Calls x k s) ≡ Some c

@@ -1,7 +1,8 @@
 //! The board and one turn of it.
-ghost use Rattle.std.specs.Prelude.{ℕ, ◌≡◌, ◌≢◌, ◌<◌, ◌≤◌, ◌+◌, ◌-◌, ◌*◌, ◌&&◌, not, [], List, Option, Some, None, is_some, length, map, true, false, IfOk};
+ghost use Rattle.std.specs.Prelude.{ℕ, ◌≡◌, ◌≢◌, ◌<◌, ◌≤◌, ◌+◌, ◌-◌, ◌*◌, ◌&&◌, not, [], Option, Some, None, is_some, length, map, true, false, IfOk};
 ghost use Rattle.image_format.specs.Images.{picture};
 ghost use Rattle.kernel_abi.specs.Devices.{AreFresh};
+ghost use Rattle.mem_banks.specs.Memory.{byte_at};
 ghost use Rattle.task_table.specs.State.{Setup, State, Turn};
 ghost use Rattle.task_table.specs.Reading.{chosen};
 ghost use Rattle.task_table.specs.Limits.{syscall_notes, turn_notes};
@@ -10,7 +11,7 @@ ghost use Rattle.run_script.specs.Scripts.{lasts};
 ghost use Rattle.board_model.specs.declared.outcomes.Level.TheVariants.{All, Calls};
 ghost use Rattle.board_model.specs.Script.{Scenario, start_of};
 ghost use Rattle.board_model.specs.Turn.{turn, turned};
-ghost use Rattle.board_model.specs.Run.{state_after};
+ghost use Rattle.board_model.specs.Run.{state_after, turn_after};
 ghost use Rattle.board_model.specs.Faults.{IsFaulting, ChangesNothingElse};
 ghost use Rattle.board_model.specs.DeadCalls.{IsDeadTurn};
 ghost use Rattle.board_model.specs.Lifetimes.{IsGroundedTurn};
@@ -22,10 +23,13 @@ ghost use Rattle.board_core.specs.Machine.{MachineHolds, MachineStands};
 ghost use Rattle.board_core.specs.Kept.{IsChoice, WasChoice};
 ghost use Rattle.board_core.specs.Advanced.{IsAdvanced, IsStopped, HasGlidden, WentFar, WentFarOn, IsCall, IsToCall, NeededTurn, WaitedFor};
 ghost use Rattle.board_core.specs.Breakpoints.{is_hit, hit_of};
+ghost use Rattle.board_core.specs.Changes.{change_in};
+ghost use Rattle.board_core.specs.Stops.{Stops, stops_at};
 ghost use Rattle.board_core.specs.Skipped.{IsIdleUntil};
 ghost use Rattle.board_core.specs.Midway.{IsDue, IsMidway};
 
 use crate::breakpoints::hit_of;
+use crate::changes::{Change, change_by, runner_of};
 use crate::choice::{Choice, choice_of, renew_choice};
 use crate::list::Devices;
 use crate::machine::Machine;
@@ -202,10 +206,10 @@ impl Board {
         ensures hit { (x : Scenario) (s : State) → Stands shown x self.old s → result ≡ hit_of breakpoints.now (turned x (state_after Calls x (turns_of self.new - turns_of self.old - 1) s)) }
 
         // The whole turn is one that the fast way does not make past these breakpoints.
-        ensures needed { NeededTurn shown breakpoints.now limit self.old self.new }
+        ensures needed { NeededTurn shown (stops_at breakpoints.now None) limit self.old self.new }
         ensures idle { WaitedFor shown limit self.old self.new }
     {
-        match self.glide(breakpoints, quiet_until(self.due, limit)) {
+        match self.glide(breakpoints, None, quiet_until(self.due, limit)) {
             None => {
                 if self.turns >= limit {
                     return None;
@@ -219,23 +223,64 @@ impl Board {
         }
     }
 
-    /// The fast way: turns before turn `until`, before which nothing is due, none of which notes anything or is at a breakpoint. They
-    /// are those of the task that is chosen, within a window of its memory, as far as it goes there; or all idle ones, where no task is
-    /// ready.
+    /// As many turns as can be made the fast way, without a window that has the byte at an address, and then a whole one, where fewer
+    /// than `limit` are made by then: what the last one changed of the byte. No turn before it changed it.
     #[inline(always)]
-    fn glide(&mut self, breakpoints: &[u32], until: u32) -> Option<usize>
+    pub fn advance_watching(&mut self, at: u32, limit: u32) -> Option<Change>
+        requires stood { Stood shown self.old }
+        requires left { turns_of self.old < limit }
+        requires few { limit ≤ 1000000000 }
+        ensures advanced { (x : Scenario) (s : State) → Stands shown x self.old s → IsAdvanced shown Calls x (turns_of self.new - turns_of self.old - 1) s self.new }
+        ensures more { turns_of self.old < turns_of self.new }
+        ensures within { turns_of self.new ≤ limit }
+        ensures noted { length (notes_of self.new) ≤ turn_notes }
+        ensures untouched { (x : Scenario) (s : State) → Stands shown x self.old s → (k : ℕ) → k < turns_of self.new - turns_of self.old - 1 → byte_at (turn_after Calls x k s).state.memory at ≡ byte_at s.memory at }
+        ensures changed { (x : Scenario) (s : State) → Stands shown x self.old s → result ≡ change_in x at (state_after Calls x (turns_of self.new - turns_of self.old - 1) s) }
+
+        // The whole turn is one that the fast way does not make without the byte.
+        ensures needed { NeededTurn shown (stops_at [] (Some at)) limit self.old self.new }
+        ensures idle { WaitedFor shown limit self.old self.new }
+    {
+        self.glide(&[], Some(at), quiet_until(self.due, limit));
+        if self.turns >= limit {
+            return None;
+        }
+        self.turn_watching(at)
+    }
+
+    /// One whole turn: what it changed of the byte at an address.
+    fn turn_watching(&mut self, at: u32) -> Option<Change>
+        requires few { turns_of self.old < 1000000000 }
+        requires stood { Stood shown self.old }
+        ensures model { (x : Scenario) (s : State) → Stands shown x self.old s → Stands shown x self.new (turn Calls x s).state }
+        ensures notes { (x : Scenario) (s : State) → Stands shown x self.old s → notes_of self.new ≡ (turn Calls x s).notes }
+        ensures changed { (x : Scenario) (s : State) → Stands shown x self.old s → result ≡ change_in x at s }
+        ensures few { length (notes_of self.new) ≤ turn_notes }
+        ensures turns { turns_of self.new ≡ turns_of self.old + 1 }
+    {
+        let before = self.byte(at);
+        let turned = self.turn_at(Level::Calls);
+        let after = self.byte(at);
+        change_by(runner_of(turned), before, after)
+    }
+
+    /// The fast way: turns before turn `until`, before which nothing is due, none of which notes anything, is at a breakpoint or
+    /// changes the byte that is watched. They are those of the task that is chosen, within a window of its memory, as far as it
+    /// goes there; or all idle ones, where no task is ready.
+    #[inline(always)]
+    fn glide(&mut self, breakpoints: &[u32], watched: Option<u32>, until: u32) -> Option<usize>
         requires stood { Stood shown self.old }
         requires few { until ≤ 1000000000 }
         requires later { (turn : ℕ) → turn < until → self.old.due ≢ Some turn }
-        ensures glided { (x : Scenario) (s : State) → Stands shown x self.old s → HasGlidden shown breakpoints.now x s (turns_of self.new - turns_of self.old) self.new }
+        ensures glided { (x : Scenario) (s : State) → Stands shown x self.old s → HasGlidden shown (stops_at breakpoints.now watched) x s (turns_of self.new - turns_of self.old) self.new }
         ensures more { turns_of self.old ≤ turns_of self.new }
         ensures within { turns_of self.old ≤ until → turns_of self.new ≤ until }
         ensures stays { until ≤ turns_of self.old → self.new ≡ self.old }
 
         // It stops before only where the next instruction is a system call, faults, is at a breakpoint or reaches beyond the window, or
         // where there is none.
-        ensures far { WentFar shown breakpoints.now until self.old self.new (is_some result) }
-        ensures calls { (task : ℕ) → result ≡ Some task → IsToCall shown breakpoints.now task self.old self.new }
+        ensures far { WentFar shown (stops_at breakpoints.now watched) until self.old self.new (is_some result) }
+        ensures calls { (task : ℕ) → result ≡ Some task → IsToCall shown (stops_at breakpoints.now watched) task self.old self.new }
         ensures before { (task : ℕ) → result ≡ Some task → turns_of self.new < until }
         ensures idle { (x : Scenario) (s : State) → Stands shown x self.old s → chosen x.setup s ≡ None → self.old.choice.down ≡ false → lasts x.script until ≡ true → until ≤ turns_of self.new }
     {
@@ -248,7 +293,7 @@ impl Board {
                 None
             }
             Some(task) => {
-                if self.glide_on(breakpoints, task, until) {
+                if self.glide_on(breakpoints, watched, task, until) {
                     Some(task)
                 } else {
                     None
@@ -259,25 +304,33 @@ impl Board {
 
     /// The same, where this task is chosen and the supervisor has not faulted.
     #[inline(always)]
-    fn glide_on(&mut self, breakpoints: &[u32], task: usize, until: u32) -> bool
+    fn glide_on(
+        &mut self,
+        breakpoints: &[u32],
+        watched: Option<u32>,
+        task: usize,
+        until: u32,
+    ) -> bool
         requires stood { Stood shown self.old }
         requires next { self.old.choice.next ≡ Some task }
         requires up { self.old.choice.down ≡ false }
         requires left { turns_of self.old < until }
         requires few { until ≤ 1000000000 }
         requires later { (turn : ℕ) → turn < until → self.old.due ≢ Some turn }
-        ensures glided { (x : Scenario) (s : State) → Stands shown x self.old s → HasGlidden shown breakpoints.now x s (turns_of self.new - turns_of self.old) self.new }
+        ensures glided { (x : Scenario) (s : State) → Stands shown x self.old s → HasGlidden shown (stops_at breakpoints.now watched) x s (turns_of self.new - turns_of self.old) self.new }
         ensures more { turns_of self.old ≤ turns_of self.new }
         ensures within { turns_of self.new ≤ until }
-        ensures far { WentFarOn shown breakpoints.now task until self.old self.new result }
-        ensures calls { result ≡ true → IsToCall shown breakpoints.now task self.old self.new }
+        ensures far { WentFarOn shown (stops_at breakpoints.now watched) task until self.old self.new result }
+        ensures calls { result ≡ true → IsToCall shown (stops_at breakpoints.now watched) task self.old self.new }
         ensures before { result ≡ true → turns_of self.new < until }
     {
         if !self.ports[task].is_empty() {
-            return self.poll_on(breakpoints, task, until);
+            return self.poll_on(breakpoints, watched, task, until);
         }
         self.machine.begin();
-        let glided = self.machine.glide(breakpoints, task, until - self.turns);
+        let glided = self
+            .machine
+            .glide(breakpoints, watched, task, until - self.turns);
         self.turns += glided.made;
         glided.at_syscall
     }
@@ -285,25 +338,31 @@ impl Board {
     /// The same, where the task may read devices.
     #[cold]
     #[inline(never)]
-    fn poll_on(&mut self, breakpoints: &[u32], task: usize, until: u32) -> bool
+    fn poll_on(
+        &mut self,
+        breakpoints: &[u32],
+        watched: Option<u32>,
+        task: usize,
+        until: u32,
+    ) -> bool
         requires stood { Stood shown self.old }
         requires next { self.old.choice.next ≡ Some task }
         requires up { self.old.choice.down ≡ false }
         requires left { turns_of self.old < until }
         requires few { until ≤ 1000000000 }
         requires later { (turn : ℕ) → turn < until → self.old.due ≢ Some turn }
-        ensures glided { (x : Scenario) (s : State) → Stands shown x self.old s → HasGlidden shown breakpoints.now x s (turns_of self.new - turns_of self.old) self.new }
+        ensures glided { (x : Scenario) (s : State) → Stands shown x self.old s → HasGlidden shown (stops_at breakpoints.now watched) x s (turns_of self.new - turns_of self.old) self.new }
         ensures more { turns_of self.old ≤ turns_of self.new }
         ensures within { turns_of self.new ≤ until }
-        ensures far { WentFarOn shown breakpoints.now task until self.old self.new result }
-        ensures calls { result ≡ true → IsToCall shown breakpoints.now task self.old self.new }
+        ensures far { WentFarOn shown (stops_at breakpoints.now watched) task until self.old self.new result }
+        ensures calls { result ≡ true → IsToCall shown (stops_at breakpoints.now watched) task self.old self.new }
         ensures before { result ≡ true → turns_of self.new < until }
     {
         self.machine.begin();
         let ports = &mut self.ports[task];
         let glided = self
             .machine
-            .poll(breakpoints, task, until - self.turns, ports);
+            .poll(breakpoints, watched, task, until - self.turns, ports);
         self.turns += glided.made;
         glided.at_syscall
     }
@@ -332,7 +391,7 @@ impl Board {
         requires left { turns_of self.old < until }
         requires few { until ≤ 1000000000 }
         requires later { (turn : ℕ) → turn < until → self.old.due ≢ Some turn }
-        ensures glided { (breakpoints : List ℕ) (x : Scenario) (s : State) → Stands shown x self.old s → HasGlidden shown breakpoints x s (turns_of self.new - turns_of self.old) self.new }
+        ensures glided { (stops : Stops) (x : Scenario) (s : State) → Stands shown x self.old s → HasGlidden shown stops x s (turns_of self.new - turns_of self.old) self.new }
         ensures more { turns_of self.old ≤ turns_of self.new }
         ensures within { turns_of self.new ≤ until }
         ensures idle { (x : Scenario) (s : State) → Stands shown x self.old s → lasts x.script until ≡ true → until ≤ turns_of self.new }

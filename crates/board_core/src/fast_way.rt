@@ -5,6 +5,7 @@ ghost use Rattle.task_table.specs.Reading.{is_ready};
 ghost use Rattle.task_table.specs.Holds.{task_count, note_count};
 ghost use Rattle.board_core.specs.Machine.{MachineHolds, HasContext};
 ghost use Rattle.board_core.specs.Gliding.{GlidesFrom};
+ghost use Rattle.board_core.specs.Stops.{stops_at};
 
 use crate::breakpoints::stretch_of;
 use crate::machine::{Machine, load};
@@ -48,19 +49,25 @@ impl Machine {
         }
     }
 
-    /// Instructions on end of a task within a window of its memory, at most so many, none of them at a breakpoint. Where there were
-    /// some, it is the current one. A task that may read devices is one of `poll`.
+    /// Instructions on end of a task within a window of its memory, at most so many, none of them at a breakpoint, nor in a window
+    /// that has the byte that is watched. Where there were some, it is the current one. A task that may read devices is one of `poll`.
     #[inline(always)]
-    pub fn glide(&mut self, breakpoints: &[u32], task: usize, most: u32) -> Glided
+    pub fn glide(
+        &mut self,
+        breakpoints: &[u32],
+        watched: Option<u32>,
+        task: usize,
+        most: u32,
+    ) -> Glided
         requires { task < task_count self.old.reach.kernel }
-        ensures glided { GlidesFrom shown breakpoints.now [] task most self.old self.new result.made result.at_syscall }
+        ensures glided { GlidesFrom shown (stops_at breakpoints.now watched) [] task most self.old self.new result.made result.at_syscall }
         ensures within { result.made ≤ most }
         ensures count { note_count self.new.reach.kernel ≡ note_count self.old.reach.kernel }
     {
         self.take_context(task);
         let pc = self.glider.runner.processor.regs.get(PROGRAM_COUNTER);
         let sp = self.glider.runner.processor.regs.get(STACK_POINTER);
-        let Some((flash, ram, area)) = self.reach.window(task, pc, sp) else {
+        let Some((flash, ram, area)) = self.reach.window(task, pc, sp, watched) else {
             return none_made();
         };
         let code = stretch_of(breakpoints, &flash, pc);
@@ -92,12 +99,13 @@ impl Machine {
     pub fn poll(
         &mut self,
         breakpoints: &[u32],
+        watched: Option<u32>,
         task: usize,
         most: u32,
         ports: &mut Vec<Region>,
     ) -> Glided
         requires { task < task_count self.old.reach.kernel }
-        ensures glided { GlidesFrom shown breakpoints.now ports.old.items task most self.old self.new result.made result.at_syscall }
+        ensures glided { GlidesFrom shown (stops_at breakpoints.now watched) ports.old.items task most self.old self.new result.made result.at_syscall }
         ensures within { result.made ≤ most }
         ensures count { note_count self.new.reach.kernel ≡ note_count self.old.reach.kernel }
         ensures ports { ports.new ≡ ports.old }
@@ -105,7 +113,7 @@ impl Machine {
         self.take_context(task);
         let pc = self.glider.runner.processor.regs.get(PROGRAM_COUNTER);
         let sp = self.glider.runner.processor.regs.get(STACK_POINTER);
-        let Some((flash, ram, area)) = self.reach.window(task, pc, sp) else {
+        let Some((flash, ram, area)) = self.reach.window(task, pc, sp, watched) else {
             return none_made();
         };
         let code = stretch_of(breakpoints, &flash, pc);

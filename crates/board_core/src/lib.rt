@@ -3,6 +3,7 @@
 
 mod board;
 mod breakpoints;
+mod changes;
 mod choice;
 mod device_view;
 mod fast_way;
@@ -22,6 +23,7 @@ mod window_laws;
 
 pub use board::Board;
 pub use board_model::{End, Level, Turned};
+pub use changes::Change;
 pub use device_view::DeviceView;
 pub use loners::listed_loners_share_nothing;
 pub use setting_laws::a_board_stands_for_each_state_that_is_kept_alike;

@@ -2,7 +2,7 @@
 ghost use Rattle.std.specs.Prelude.{◌≡◌, ◌&&◌, ◌+◌, ◌*◌, ◌≤◌, ◌<◌, ◌%◌, ◌^◌, Option, Some, true, false, None, MatchOption, MatchResult, Contains};
 ghost use Rattle.std.specs.List.{list_any};
 ghost use Rattle.region_check.specs.declared.Right.TheVariants.{Execute, Read};
-ghost use Rattle.board_core.specs.Reached.{is_flash_at, is_ram_at, is_area, IsStackRegion, IsAreaRegion, AreReached};
+ghost use Rattle.board_core.specs.Reached.{is_flash_at, is_ram_at, is_area, IsStackRegion, IsAreaRegion, AreLent, no_region, unwatched};
 ghost use Rattle.task_table.specs.Reading.{setup_at};
 ghost use Rattle.mem_banks.specs.Windows.{IsNoRegion};
 ghost use Rattle.task_table.specs.Openable.{span_of};
@@ -162,7 +162,8 @@ fn is_area(region: &Region, stack: &Region) -> bool
 
 /// No region: it has no bytes, and begins where the RAM does.
 fn no_region() -> Region
-    ensures { IsNoRegion (span_of result) }
+    ensures none { IsNoRegion (span_of result) }
+    ensures is { result ≡ no_region }
 {
     Region {
         base: RAM,
@@ -173,6 +174,17 @@ fn no_region() -> Region
             execute: false,
             device: false,
         },
+    }
+}
+
+/// A region, or none where it has the byte that is watched.
+#[inline(always)]
+fn unwatched(watched: Option<u32>, region: Region) -> Region
+    ensures { result ≡ unwatched watched region }
+{
+    match watched {
+        Some(at) if region.spans(at, 1) => no_region(),
+        _ => region,
     }
 }
 
@@ -214,15 +226,24 @@ fn area_of(regions: &[Region], stack: &Region) -> Region
 
 impl Reach {
     /// The three regions in which a task may make many instructions on end: that of the flash that has its PC, that of the RAM
-    /// that has its stack, and the first further one of the RAM that it may read. Each of these two may be an empty one.
+    /// that has its stack, and the first further one of the RAM that it may read. Each of these two may be an empty one, and is
+    /// where the region has the byte that is watched.
     #[inline(always)]
-    pub fn window(&self, task: usize, pc: u32, sp: u32) -> Option<(Region, Region, Region)>
-        ensures { let regions = (setup_at (setup_of self.now.kernel) task).regions in MatchOption result (list_any (is_flash_at pc) regions ≡ false) (λ w. AreReached regions pc sp w.0 w.1 w.2) }
+    pub fn window(
+        &self,
+        task: usize,
+        pc: u32,
+        sp: u32,
+        watched: Option<u32>,
+    ) -> Option<(Region, Region, Region)>
+        ensures { let regions = (setup_at (setup_of self.now.kernel) task).regions in MatchOption result (list_any (is_flash_at pc) regions ≡ false) (λ w. AreLent watched regions pc sp w.0 w.1 w.2) }
     {
         let regions = self.kernel.regions(task);
         let flash = flash_at(regions, pc)?;
-        let ram = ram_at(regions, sp);
-        let area = area_of(regions, &ram);
+        let stack = ram_at(regions, sp);
+        let further = area_of(regions, &stack);
+        let ram = unwatched(watched, stack);
+        let area = unwatched(watched, further);
         Some((flash, ram, area))
     }
 }

@@ -10,7 +10,8 @@ use Rattle.board_core.specs.declared.board.Board.{Board}
 use Rattle.board_core.specs.Stands.{turns_of}
 use Rattle.board_core.specs.Advanced.{IsAdvanced, HasGlidden, IsFar, NeedsTurn}
 use Rattle.board_core.specs.Breakpoints.{hit_of}
-use Rattle.board_core.proofs.Gliding.{one_more, all_made}
+use Rattle.board_core.specs.Stops.{stops_at}
+use Rattle.board_core.proofs.Gliding.{one_more, all_made, below_limit, either_way}
 use Rattle.board_core.proofs.Stretches.{no_hit}
 use Rattle.board_core.proofs.Skipping.{lasts_from, due_now}
 use Rattle.board_core.specs.Data.{boxed}
@@ -46,7 +47,7 @@ returns-else-self-limit-clause-advanced boxes c =
     let u : State = state_after Calls x n s in
     let made = c.glide.ensures.glided x s st in
     let e : n ≡ turns_of b2 - turns_of b - 1 = omega (arith, c.glide.ensures.more, c.turn_at.ensures.turns) in
-    subst (λ (k : ℕ). IsAdvanced shown Calls x k s b2) e (one_more shown c.args.breakpoints.now x n s b1 b2 made (c.turn_at.ensures.model x u made.stands) (c.turn_at.ensures.notes x u made.stands))
+    subst (λ (k : ℕ). IsAdvanced shown Calls x k s b2) e (one_more shown (stops_at c.args.breakpoints.now None) x n s b1 b2 made (c.turn_at.ensures.model x u made.stands) (c.turn_at.ensures.notes x u made.stands))
 
 pub returns-in-Some-clause-advanced : goal.returns-in-Some-clause-advanced
 returns-in-Some-clause-advanced boxes c =
@@ -59,7 +60,7 @@ returns-in-Some-clause-advanced boxes c =
     let u : State = state_after Calls x n s in
     let made = c.glide.ensures.glided x s st in
     let e : n ≡ turns_of b2 - turns_of b - 1 = omega (arith, c.glide.ensures.more, c.call.ensures.turns) in
-    subst (λ (k : ℕ). IsAdvanced shown Calls x k s b2) e (one_more shown c.args.breakpoints.now x n s b1 b2 made (c.call.ensures.model x u made.stands (c.glide.ensures.calls c.in-Some.task c.in-Some.is x s st).call) (c.call.ensures.notes x u made.stands (c.glide.ensures.calls c.in-Some.task c.in-Some.is x s st).call))
+    subst (λ (k : ℕ). IsAdvanced shown Calls x k s b2) e (one_more shown (stops_at c.args.breakpoints.now None) x n s b1 b2 made (c.call.ensures.model x u made.stands (c.glide.ensures.calls c.in-Some.task c.in-Some.is x s st).call) (c.call.ensures.notes x u made.stands (c.glide.ensures.calls c.in-Some.task c.in-Some.is x s st).call))
 
 pub returns-then-self-limit-clause-advanced : goal.returns-then-self-limit-clause-advanced
 returns-then-self-limit-clause-advanced boxes c =
@@ -69,7 +70,7 @@ returns-then-self-limit-clause-advanced boxes c =
     let b1 = c.glide.new.self in
     let n : ℕ = turns_of b1 - turns_of b - 1 in
     let e : turns_of b1 - turns_of b ≡ suc n = omega (arith, c.if-self-limit.true, c.requires.left) in
-    all_made _ c.args.breakpoints.now x n s b1 (subst (λ (k : ℕ). HasGlidden shown c.args.breakpoints.now x s k b1) e (c.glide.ensures.glided x s st))
+    all_made _ (stops_at c.args.breakpoints.now None) x n s b1 (subst (λ (k : ℕ). HasGlidden shown (stops_at c.args.breakpoints.now None) x s k b1) e (c.glide.ensures.glided x s st))
 
 -- ## which turns are at a breakpoint
 
@@ -104,14 +105,6 @@ returns-then-self-limit-clause-hit boxes c = λ x s st.
     let n : ℕ = turns_of c.glide.new.self - turns_of c.args.self.now - 1 in
     no_hit c.args.breakpoints.now (turned x (state_after Calls x n s)) ((c.glide.ensures.glided x s st).past n (omega (arith, c.if-self-limit.true, c.requires.left)))
 
--- turns that stop at a place below the limit, or stay past it
-below_limit : (until from to limit : ℕ) → (from ≤ until → to ≤ until) → (until ≤ from → to ≡ from) → until ≤ limit → from < limit → to ≤ limit
-below_limit until from to limit within stays less left = by (leb from until) refl
-  where
-    by : (b : Bool) → leb from until ≡ b → to ≤ limit
-    by true e = let h = within (leb-true from until e) in omega (arith, h, less)
-    by false e = let h = stays (let gt = leb-false from until e in omega (arith, gt)) in omega (arith, h, left)
-
 pub returns-then-self-limit-clause-within : goal.returns-then-self-limit-clause-within
 returns-then-self-limit-clause-within boxes c =
     below_limit c.quiet_until.result (turns_of c.args.self.now) (turns_of c.glide.new.self) c.args.limit c.glide.ensures.within (λ h. ap (λ (b : Board _ _). turns_of b) (c.glide.ensures.stays h)) (omega (arith, c.quiet_until.ensures.within, c.requires.left)) c.requires.left
@@ -120,14 +113,6 @@ pub returns-then-self-limit-clause-noted : goal.returns-then-self-limit-clause-n
 returns-then-self-limit-clause-noted boxes c =
     let made = c.glide.ensures.glided c.requires.stood.0 c.requires.stood.1 c.requires.stood.2 in
     rw (made.notes (omega (arith, c.if-self-limit.true, c.requires.left))) (omega arith)
-
--- the fast way stops before a turn, or has come to it
-either_way : (to until : ℕ) (P Q : Type 0) → (to < until → P) → (until ≤ to → Q) → Q ⊎ P
-either_way to until P Q before there = by (ltb to until) refl
-  where
-    by : (b : Bool) → ltb to until ≡ b → Q ⊎ P
-    by true e = inr (before (ltb-true to until e))
-    by false e = inl (there (ltb-false to until e))
 
 pub returns-else-self-limit-clause-needed : goal.returns-else-self-limit-clause-needed
 returns-else-self-limit-clause-needed boxes c = λ x s task st is up lt.
@@ -139,8 +124,8 @@ returns-else-self-limit-clause-needed boxes c = λ x s task st is up lt.
     let u : State = state_after Calls x n s in
     let e : n ≡ turns_of b2 - turns_of b - 1 = omega (arith, c.glide.ensures.more, c.turn_at.ensures.turns) in
     let made = c.glide.ensures.glided x s st in
-    subst (λ (k : ℕ). NeedsTurn c.args.breakpoints.now x task s (state_after Calls x k s)) e
-    (either_way (turns_of b1) until ((calls : Bool) × IsFar c.args.breakpoints.now x task s u calls) (events_of x.script u.turn ≢ []) (λ less. (is_some c.glide.result, c.glide.ensures.far x s task st is up less))
+    subst (λ (k : ℕ). NeedsTurn (stops_at c.args.breakpoints.now None) x task s (state_after Calls x k s)) e
+    (either_way (turns_of b1) until ((calls : Bool) × IsFar (stops_at c.args.breakpoints.now None) x task s u calls) (events_of x.script u.turn ≢ []) (λ less. (is_some c.glide.result, c.glide.ensures.far x s task st is up less))
     (λ over. due_now x s u b.due (turns_of b) (turns_of b1) until c.args.limit st.holds.due c.quiet_until.ensures.met st.holds.turns made.stands.holds.turns c.glide.ensures.within over (omega (arith, c.if-self-limit.false))))
 
 pub returns-in-Some-clause-needed : goal.returns-in-Some-clause-needed
@@ -153,8 +138,8 @@ returns-in-Some-clause-needed boxes c = λ x s task st is up lt.
     let u : State = state_after Calls x n s in
     let e : n ≡ turns_of b2 - turns_of b - 1 = omega (arith, c.glide.ensures.more, c.call.ensures.turns) in
     let made = c.glide.ensures.glided x s st in
-    subst (λ (k : ℕ). NeedsTurn c.args.breakpoints.now x task s (state_after Calls x k s)) e
-    (either_way (turns_of b1) until ((calls : Bool) × IsFar c.args.breakpoints.now x task s u calls) (events_of x.script u.turn ≢ []) (λ less. (is_some c.glide.result, c.glide.ensures.far x s task st is up less))
+    subst (λ (k : ℕ). NeedsTurn (stops_at c.args.breakpoints.now None) x task s (state_after Calls x k s)) e
+    (either_way (turns_of b1) until ((calls : Bool) × IsFar (stops_at c.args.breakpoints.now None) x task s u calls) (events_of x.script u.turn ≢ []) (λ less. (is_some c.glide.result, c.glide.ensures.far x s task st is up less))
     (λ over. due_now x s u b.due (turns_of b) (turns_of b1) until c.args.limit st.holds.due c.quiet_until.ensures.met st.holds.turns made.stands.holds.turns c.glide.ensures.within over (let less = c.glide.ensures.before c.in-Some.task c.in-Some.is in omega (arith, less, c.quiet_until.ensures.within))))
 
 pub returns-else-self-limit-clause-idle : goal.returns-else-self-limit-clause-idle

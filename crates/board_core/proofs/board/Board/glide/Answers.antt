@@ -1,13 +1,14 @@
 use Rattle.std.proofs.Common.{◌≡◌, ℕ, Bool, true, false, Some, sym, ◌∙◌, subst}
 use Rattle.board_core.specs.Advanced.{IsFar, state_now}
 use Rattle.board_core.proofs.Gliding.{none_made}
+use Rattle.board_core.specs.Stops.{stops_at}
 use Rattle.board_core.proofs.board.Board.glide.Goals as goal
 
 pub returns-then-self-until-clause-glided : goal.returns-then-self-until-clause-glided
 returns-then-self-until-clause-glided boxes c = λ x s st. none_made _ _ x s c.args.self.now st
 
 pub returns-in-None-clause-glided : goal.returns-in-None-clause-glided
-returns-in-None-clause-glided boxes c = c.idle_on.ensures.glided c.args.breakpoints.now
+returns-in-None-clause-glided boxes c = c.idle_on.ensures.glided (stops_at c.args.breakpoints.now c.args.watched)
 
 pub returns-then-glide_on-clause-far : goal.returns-then-glide_on-clause-far
 returns-then-glide_on-clause-far boxes c = λ x s i st is up lt.
@@ -15,7 +16,7 @@ returns-then-glide_on-clause-far boxes c = λ x s i st is up lt.
     let u = state_now x c.args.self.now s c.glide_on.new.self in
     let both : Some task ≡ Some i = sym c.in-Some.is ∙ st.holds.choice.next ∙ is in
     let same : task ≡ i = cc in
-    subst (λ (k : ℕ). IsFar c.args.breakpoints.now x k s u true) same (subst (λ (calls : Bool). IsFar c.args.breakpoints.now x task s u calls) c.if-glide_on.true (c.glide_on.ensures.far x s st lt))
+    subst (λ (k : ℕ). IsFar (stops_at c.args.breakpoints.now c.args.watched) x k s u true) same (subst (λ (calls : Bool). IsFar (stops_at c.args.breakpoints.now c.args.watched) x task s u calls) c.if-glide_on.true (c.glide_on.ensures.far x s st lt))
 
 pub returns-else-glide_on-clause-far : goal.returns-else-glide_on-clause-far
 returns-else-glide_on-clause-far boxes c = λ x s i st is up lt.
@@ -23,4 +24,4 @@ returns-else-glide_on-clause-far boxes c = λ x s i st is up lt.
     let u = state_now x c.args.self.now s c.glide_on.new.self in
     let both : Some task ≡ Some i = sym c.in-Some.is ∙ st.holds.choice.next ∙ is in
     let same : task ≡ i = cc in
-    subst (λ (k : ℕ). IsFar c.args.breakpoints.now x k s u false) same (subst (λ (calls : Bool). IsFar c.args.breakpoints.now x task s u calls) c.if-glide_on.false (c.glide_on.ensures.far x s st lt))
+    subst (λ (k : ℕ). IsFar (stops_at c.args.breakpoints.now c.args.watched) x k s u false) same (subst (λ (calls : Bool). IsFar (stops_at c.args.breakpoints.now c.args.watched) x task s u calls) c.if-glide_on.false (c.glide_on.ensures.far x s st lt))

@@ -4,6 +4,7 @@ use Rattle.board_model.proofs.TurnChains.{chosen_is}
 use Rattle.board_core.proofs.Loading.{below}
 use Rattle.board_core.proofs.Turning.{rested}
 use Rattle.board_core.proofs.Windowing.{made_by, ports_inside, own_list, no_list}
+use Rattle.board_core.specs.Stops.{stops_at}
 use Rattle.board_core.proofs.board.Board.glide_on.Goals as goal
 
 pub index-requires : goal.index-requires
@@ -27,7 +28,7 @@ returns-clause-glided boxes c = λ x s st.
     let r = c.requires in
     let inside = (chosen_is s c.args.task st.sane (sym st.holds.choice.next ∙ r.next)).inside in
     let alone = sym (own_list _ x s b st c.args.task _ _ inside c.index.ensures) ∙ no_list c.index.result.now c.if-not-is_empty.ensures in
-    (made_by _ c.args.breakpoints.now x s b c.begin.new.self c.glide-glided.new.self c.args.task c.glide-glided.result.made c.args.until c.glide-glided.result.at_syscall st (c.begin.ensures.holds x.setup (rested b.machine s) st.holds.machine) r.next r.up r.few r.left c.glide-glided.ensures.within r.later c.glide-glided.ensures.count (λ t stands here ready. c.glide-glided.ensures.glided x.setup t stands here ready alone)).glidden
+    (made_by _ (stops_at c.args.breakpoints.now c.args.watched) x s b c.begin.new.self c.glide-glided.new.self c.args.task c.glide-glided.result.made c.args.until c.glide-glided.result.at_syscall st (c.begin.ensures.holds x.setup (rested b.machine s) st.holds.machine) r.next r.up r.few r.left c.glide-glided.ensures.within r.later c.glide-glided.ensures.count (λ t stands here ready. c.glide-glided.ensures.glided x.setup t stands here ready alone)).glidden
 
 pub returns-clause-far : goal.returns-clause-far
 returns-clause-far boxes c = λ x s st lt.
@@ -35,7 +36,7 @@ returns-clause-far boxes c = λ x s st lt.
     let r = c.requires in
     let inside = (chosen_is s c.args.task st.sane (sym st.holds.choice.next ∙ r.next)).inside in
     let alone = sym (own_list _ x s b st c.args.task _ _ inside c.index.ensures) ∙ no_list c.index.result.now c.if-not-is_empty.ensures in
-    (made_by _ c.args.breakpoints.now x s b c.begin.new.self c.glide-glided.new.self c.args.task c.glide-glided.result.made c.args.until c.glide-glided.result.at_syscall st (c.begin.ensures.holds x.setup (rested b.machine s) st.holds.machine) r.next r.up r.few r.left c.glide-glided.ensures.within r.later c.glide-glided.ensures.count (λ t stands here ready. c.glide-glided.ensures.glided x.setup t stands here ready alone)).far lt
+    (made_by _ (stops_at c.args.breakpoints.now c.args.watched) x s b c.begin.new.self c.glide-glided.new.self c.args.task c.glide-glided.result.made c.args.until c.glide-glided.result.at_syscall st (c.begin.ensures.holds x.setup (rested b.machine s) st.holds.machine) r.next r.up r.few r.left c.glide-glided.ensures.within r.later c.glide-glided.ensures.count (λ t stands here ready. c.glide-glided.ensures.glided x.setup t stands here ready alone)).far lt
 
 pub returns-clause-calls : goal.returns-clause-calls
 returns-clause-calls boxes c = λ yes x s st.
@@ -43,7 +44,7 @@ returns-clause-calls boxes c = λ yes x s st.
     let r = c.requires in
     let inside = (chosen_is s c.args.task st.sane (sym st.holds.choice.next ∙ r.next)).inside in
     let alone = sym (own_list _ x s b st c.args.task _ _ inside c.index.ensures) ∙ no_list c.index.result.now c.if-not-is_empty.ensures in
-    (made_by _ c.args.breakpoints.now x s b c.begin.new.self c.glide-glided.new.self c.args.task c.glide-glided.result.made c.args.until c.glide-glided.result.at_syscall st (c.begin.ensures.holds x.setup (rested b.machine s) st.holds.machine) r.next r.up r.few r.left c.glide-glided.ensures.within r.later c.glide-glided.ensures.count (λ t stands here ready. c.glide-glided.ensures.glided x.setup t stands here ready alone)).call yes
+    (made_by _ (stops_at c.args.breakpoints.now c.args.watched) x s b c.begin.new.self c.glide-glided.new.self c.args.task c.glide-glided.result.made c.args.until c.glide-glided.result.at_syscall st (c.begin.ensures.holds x.setup (rested b.machine s) st.holds.machine) r.next r.up r.few r.left c.glide-glided.ensures.within r.later c.glide-glided.ensures.count (λ t stands here ready. c.glide-glided.ensures.glided x.setup t stands here ready alone)).call yes
 
 pub returns-clause-before : goal.returns-clause-before
 returns-clause-before boxes c = λ yes.
@@ -54,4 +55,4 @@ returns-clause-before boxes c = λ yes.
     let r = c.requires in
     let inside = (chosen_is s c.args.task st.sane (sym st.holds.choice.next ∙ r.next)).inside in
     let alone = sym (own_list _ x s b st c.args.task _ _ inside c.index.ensures) ∙ no_list c.index.result.now c.if-not-is_empty.ensures in
-    (made_by _ c.args.breakpoints.now x s b c.begin.new.self c.glide-glided.new.self c.args.task c.glide-glided.result.made c.args.until c.glide-glided.result.at_syscall st (c.begin.ensures.holds x.setup (rested b.machine s) st.holds.machine) r.next r.up r.few r.left c.glide-glided.ensures.within r.later c.glide-glided.ensures.count (λ t stands here ready. c.glide-glided.ensures.glided x.setup t stands here ready alone)).before yes
+    (made_by _ (stops_at c.args.breakpoints.now c.args.watched) x s b c.begin.new.self c.glide-glided.new.self c.args.task c.glide-glided.result.made c.args.until c.glide-glided.result.at_syscall st (c.begin.ensures.holds x.setup (rested b.machine s) st.holds.machine) r.next r.up r.few r.left c.glide-glided.ensures.within r.later c.glide-glided.ensures.count (λ t stands here ready. c.glide-glided.ensures.glided x.setup t stands here ready alone)).before yes

@@ -14,7 +14,7 @@ skip-requires-clause-idle boxes c = λ x s st. idle_board_until _ x s c.args.sel
 pub returns-then-lasts-clause-glided : goal.returns-then-lasts-clause-glided
 returns-then-lasts-clause-glided boxes c =
     let shown = boxed (λ p. (goal.Device-dyn boxes p).shown p.1) in
-    λ breakpoints x s st.
+    λ stops x s st.
     let b = c.args.self.now in
     let b' = c.skip.new.self in
     let to : ℕ = c.args.until in
@@ -23,10 +23,10 @@ returns-then-lasts-clause-glided boxes c =
     let idle = idle_board_until _ x s b to st c.requires.none c.requires.up c.requires.later c.requires.few in
     let more : lasts x.script to ≡ true = ap (λ (script : ScriptData). lasts script to) (sym st.holds.script) ∙ sym c.lasts.ensures ∙ c.if-lasts.true in
     let e : to - s.turn ≡ turns_of b' - turns_of b = omega (arith, at, c.skip.ensures.turns) in
-    subst (λ (n : ℕ). HasGlidden shown breakpoints x s n b') e (idle_made _ breakpoints x s to b' idle (omega (arith, at, left)) more (c.skip.ensures.model x s st) c.skip.ensures.nothing)
+    subst (λ (n : ℕ). HasGlidden shown stops x s n b') e (idle_made _ stops x s to b' idle (omega (arith, at, left)) more (c.skip.ensures.model x s st) c.skip.ensures.nothing)
 
 pub returns-else-lasts-clause-glided : goal.returns-else-lasts-clause-glided
-returns-else-lasts-clause-glided boxes c = λ breakpoints x s st. none_made _ breakpoints x s c.args.self.now st
+returns-else-lasts-clause-glided boxes c = λ stops x s st. none_made _ stops x s c.args.self.now st
 
 pub returns-else-lasts-clause-idle : goal.returns-else-lasts-clause-idle
 returns-else-lasts-clause-idle boxes c = λ x s st more.

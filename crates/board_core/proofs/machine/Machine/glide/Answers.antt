@@ -4,6 +4,7 @@ use Rattle.std.proofs.lemmas.Bool.{false≢true}
 use Rattle.std.specs.List.{list_any}
 use Rattle.task_table.specs.State.{Setup}
 use Rattle.task_table.specs.Reading.{setup_at, register}
+use Rattle.board_core.specs.Stops.{stops_at}
 use Rattle.board_core.specs.Reached.{is_flash_at}
 use Rattle.board_core.proofs.Loading.{context_register, context_cpu}
 use Rattle.board_core.proofs.Windowing.{are_usable, stretch_as, apart_here, glider_work, context_devices, has_run, has_stayed}
@@ -27,7 +28,7 @@ returns-in_default-clause-glided boxes c = λ g t r inside ready alone.
 
 pub returns-then-not-open_window-clause-glided : goal.returns-then-not-open_window-clause-glided
 returns-then-not-open_window-clause-glided boxes c = λ g t r inside ready alone.
-    let opened : c.open_window.result ≡ true = c.open_window.ensures.given c.args.task (are_usable _ _ _ _ _ _ c.in-Some.ensures) in
+    let opened : c.open_window.result ≡ true = c.open_window.ensures.given c.args.task (are_usable _ _ _ _ _ _ _ c.in-Some.ensures) in
     absurd (false≢true (sym c.if-not-open_window.true ∙ opened))
 
 pub returns-clause-glided : goal.returns-clause-glided
@@ -41,9 +42,9 @@ returns-clause-glided boxes c = λ g t r inside ready alone.
     let stretch = stretch_as c.args.breakpoints.now _ _ _ _ _ _ _ aim.code aim.size c.stretch_of-code.ensures in
     let opened = c.open_window.ensures.opened c.if-not-open_window.false in
     let a = c.aim.new.self in
-    let apart = apart_here _ c.args.breakpoints.now g m task c.args.most t _ _ _ _ _ _ a _ a c.open_window.new.self h inside c.in-Some.ensures pc sp aim.flash stretch aim.readable aim.ram aim.area aim.writable opened in
+    let apart = apart_here _ (stops_at c.args.breakpoints.now c.args.watched) g m task c.args.most t _ _ _ _ _ _ a _ a c.open_window.new.self h inside c.in-Some.ensures pc sp aim.flash stretch aim.readable aim.ram aim.area aim.writable opened in
     let work = glider_work g task a c.open_window.new.user _ _ _ _ _ t.state.devices _ c.args.most alone (aim.processor ∙ context_cpu _ g m task t h inside) aim.most apart opened.window.work in
-    inl (has_run _ c.args.breakpoints.now g m task c.args.most t _ _ _ _ _ _ a _ a c.open_window.new.self h inside c.in-Some.ensures pc sp aim.flash stretch aim.readable aim.ram aim.area aim.writable opened
+    inl (has_run _ (stops_at c.args.breakpoints.now c.args.watched) g m task c.args.most t _ _ _ _ _ _ a _ a c.open_window.new.self h inside c.in-Some.ensures pc sp aim.flash stretch aim.readable aim.ram aim.area aim.writable opened
     _ _ _ _ work _ (omega (arith, c.if-made-eq0.false)) refl refl (context_devices _ g m task t h) (λ u held. c.set_current.ensures.holds g u held))
 
 pub returns-then-made-eq0-clause-glided : goal.returns-then-made-eq0-clause-glided
@@ -57,7 +58,7 @@ returns-then-made-eq0-clause-glided boxes c = λ g t r inside ready alone.
     let stretch = stretch_as c.args.breakpoints.now _ _ _ _ _ _ _ aim.code aim.size c.stretch_of-code.ensures in
     let opened = c.open_window.ensures.opened c.if-not-open_window.false in
     let a = c.aim.new.self in
-    let apart = apart_here _ c.args.breakpoints.now g m task c.args.most t _ _ _ _ _ _ a _ a c.open_window.new.self h inside c.in-Some.ensures pc sp aim.flash stretch aim.readable aim.ram aim.area aim.writable opened in
+    let apart = apart_here _ (stops_at c.args.breakpoints.now c.args.watched) g m task c.args.most t _ _ _ _ _ _ a _ a c.open_window.new.self h inside c.in-Some.ensures pc sp aim.flash stretch aim.readable aim.ram aim.area aim.writable opened in
     let work = glider_work g task a c.open_window.new.user _ _ _ _ _ t.state.devices _ c.args.most alone (aim.processor ∙ context_cpu _ g m task t h inside) aim.most apart opened.window.work in
-    inl (has_stayed _ c.args.breakpoints.now g m task c.args.most t _ _ _ _ _ _ a _ a c.open_window.new.self h inside c.in-Some.ensures pc sp aim.flash stretch aim.readable aim.ram aim.area aim.writable opened
+    inl (has_stayed _ (stops_at c.args.breakpoints.now c.args.watched) g m task c.args.most t _ _ _ _ _ _ a _ a c.open_window.new.self h inside c.in-Some.ensures pc sp aim.flash stretch aim.readable aim.ram aim.area aim.writable opened
     _ _ _ _ work _ (omega (arith, c.if-made-eq0.true)) refl refl refl (context_devices _ g m task t h) (c.take_context.ensures.holds g t r.holds))

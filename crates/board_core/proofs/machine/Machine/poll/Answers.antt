@@ -5,6 +5,7 @@ use Rattle.std.specs.List.{list_any}
 use Rattle.task_table.specs.State.{Setup}
 use Rattle.task_table.specs.Reading.{setup_at, register}
 use Rattle.board_core.specs.Data.{boxed, data_of}
+use Rattle.board_core.specs.Stops.{stops_at}
 use Rattle.board_core.specs.Reached.{is_flash_at}
 use Rattle.board_core.proofs.Loading.{context_register, context_cpu}
 use Rattle.board_core.proofs.Windowing.{are_usable, stretch_as, apart_here, poller_work, context_devices, has_run, has_stayed}
@@ -28,7 +29,7 @@ returns-in_default-clause-glided boxes c = λ g t r inside ready ports.
 
 pub returns-then-not-opened-clause-glided : goal.returns-then-not-opened-clause-glided
 returns-then-not-opened-clause-glided boxes c = λ g t r inside ready ports.
-    let opened : c.open_window-opened.result ≡ true = c.open_window-opened.ensures.given c.args.task (are_usable _ _ _ _ _ _ c.in-Some.ensures) in
+    let opened : c.open_window-opened.result ≡ true = c.open_window-opened.ensures.given c.args.task (are_usable _ _ _ _ _ _ _ c.in-Some.ensures) in
     absurd (false≢true (sym c.if-not-opened.true ∙ opened))
 
 pub returns-then-glided-eq0-clause-glided : goal.returns-then-glided-eq0-clause-glided
@@ -44,9 +45,9 @@ returns-then-glided-eq0-clause-glided boxes c = λ g t r inside ready ports.
     let opened = c.open_window-opened.ensures.opened c.if-not-opened.false in
     let a = record c.aim.new.self { runner = record c.aim.new.self.runner { processor = m.glider.runner.processor } } in
     let b = c.open_window-opened.new.user in
-    let apart = apart_here _ c.args.breakpoints.now g m task c.args.most t _ _ _ _ _ _ _ _ a c.open_window-opened.new.self h inside c.in-Some.ensures pc sp aim.flash stretch aim.readable aim.ram aim.area aim.writable opened in
+    let apart = apart_here _ (stops_at c.args.breakpoints.now c.args.watched) g m task c.args.most t _ _ _ _ _ _ _ _ a c.open_window-opened.new.self h inside c.in-Some.ensures pc sp aim.flash stretch aim.readable aim.ram aim.area aim.writable opened in
     let work = poller_work shown g task _ b _ _ _ _ _ t.state.devices _ c.args.most (ap (λ v. v.items) c.swap-2.ensures.x_after ∙ sym ports) (context_cpu _ g m task t h inside) aim.most (ap (data_of shown) c.swap.ensures.x_after ∙ context_devices _ g m task t h) apart opened.window.work in
-    inl (has_stayed _ c.args.breakpoints.now g m task c.args.most t _ _ _ _ _ _ _ _ a c.open_window-opened.new.self h inside c.in-Some.ensures pc sp aim.flash stretch aim.readable aim.ram aim.area aim.writable opened
+    inl (has_stayed _ (stops_at c.args.breakpoints.now c.args.watched) g m task c.args.most t _ _ _ _ _ _ _ _ a c.open_window-opened.new.self h inside c.in-Some.ensures pc sp aim.flash stretch aim.readable aim.ram aim.area aim.writable opened
     _ _ _ _ work _ (omega (arith, c.if-glided-eq0.true)) refl refl refl (ap (data_of shown) c.swap-4.ensures.y_after) (c.take_context.ensures.holds g t r.holds))
 
 pub returns-clause-glided : goal.returns-clause-glided
@@ -62,7 +63,7 @@ returns-clause-glided boxes c = λ g t r inside ready ports.
     let opened = c.open_window-opened.ensures.opened c.if-not-opened.false in
     let a = record c.aim.new.self { runner = record c.aim.new.self.runner { processor = m.glider.runner.processor } } in
     let b = c.open_window-opened.new.user in
-    let apart = apart_here _ c.args.breakpoints.now g m task c.args.most t _ _ _ _ _ _ _ _ a c.open_window-opened.new.self h inside c.in-Some.ensures pc sp aim.flash stretch aim.readable aim.ram aim.area aim.writable opened in
+    let apart = apart_here _ (stops_at c.args.breakpoints.now c.args.watched) g m task c.args.most t _ _ _ _ _ _ _ _ a c.open_window-opened.new.self h inside c.in-Some.ensures pc sp aim.flash stretch aim.readable aim.ram aim.area aim.writable opened in
     let work = poller_work shown g task _ b _ _ _ _ _ t.state.devices _ c.args.most (ap (λ v. v.items) c.swap-2.ensures.x_after ∙ sym ports) (context_cpu _ g m task t h inside) aim.most (ap (data_of shown) c.swap.ensures.x_after ∙ context_devices _ g m task t h) apart opened.window.work in
-    inl (has_run _ c.args.breakpoints.now g m task c.args.most t _ _ _ _ _ _ _ _ a c.open_window-opened.new.self h inside c.in-Some.ensures pc sp aim.flash stretch aim.readable aim.ram aim.area aim.writable opened
+    inl (has_run _ (stops_at c.args.breakpoints.now c.args.watched) g m task c.args.most t _ _ _ _ _ _ _ _ a c.open_window-opened.new.self h inside c.in-Some.ensures pc sp aim.flash stretch aim.readable aim.ram aim.area aim.writable opened
     _ _ _ _ work _ (omega (arith, c.if-glided-eq0.false)) refl refl (ap (data_of shown) c.swap-4.ensures.y_after) (λ u held. c.set_current.ensures.holds g u held))
