@@ -18,6 +18,7 @@ mod WaitsRestored
 mod TaskViews
 mod Loads
 mod Boards
+pub mod SpelledAlike
 pub mod Few
 mod Written
 pub mod Fixed

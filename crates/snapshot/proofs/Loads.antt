@@ -161,7 +161,7 @@ loaded_by bytes ram tasks devices h u e f g r =
 
 -- ## what is spelled comes back
 
-line_again : (l : Line) → (l.pending ≡ true → l.enabled ≡ false) → line_from (line_number l) ≡ l
+pub line_again : (l : Line) → (l.pending ≡ true → l.enabled ≡ false) → line_from (line_number l) ≡ l
 line_again l h = by l.enabled l.pending h
   where
     by : (e p : Bool) → (p ≡ true → e ≡ false) → line_from (line_number record { enabled = e; pending = p }) ≡ record { enabled = e; pending = p }
@@ -170,7 +170,7 @@ line_again l h = by l.enabled l.pending h
     by false true h = refl
     by false false h = refl
 
-device_again : (d e : DeviceData) → e.kind ≡ d.kind → e.base ≡ d.base → device_from d (device_told e) ≡ e
+pub device_again : (d e : DeviceData) → e.kind ≡ d.kind → e.base ≡ d.base → device_from d (device_told e) ≡ e
 device_again d e kind base =
     let queue = take-append_seam e.queue (replicate (64 - length e.queue) 0) in
     λ j. record { kind = sym kind j; base = sym base j; count = e.count; queue = queue j }
@@ -181,7 +181,7 @@ no_device = record { kind = Console; base = 0; count = 0; queue = [] }
 abbrev pub site : DeviceData → Kind × ℕ
 site d = (d.kind, d.base)
 
-site_at : (ds es : List DeviceData) (k : ℕ) → sites ds ≡ sites es → site (device_at ds k) ≡ site (device_at es k)
+pub site_at : (ds es : List DeviceData) (k : ℕ) → sites ds ≡ sites es → site (device_at ds k) ≡ site (device_at es k)
 site_at ds es k same =
     sym (get_or-map site ds k no_device) ∙ ap (λ (xs : List (Kind × ℕ)). get_or xs k (Console, 0)) same ∙ get_or-map site es k no_device
 

@@ -5,4 +5,5 @@ pub mod Lined
 pub mod Going
 pub mod Sweeps
 pub mod Looking
+pub mod Following
 pub mod Whole

@@ -11,7 +11,7 @@ use Rattle.run_script.specs.Scripts.{Listed, ScriptData}
 use Rattle.task_table.specs.State.{Setup, State}
 use Rattle.task_table.specs.Sane.{Sane, IsCounted}
 use Rattle.board_model.specs.declared.outcomes.Level.TheVariants.{Calls}
-use Rattle.board_model.specs.Alike.{seen, reduced}
+use Rattle.board_model.specs.Alike.{reduced}
 use Rattle.board_model.specs.Cut.{cut_at}
 use Rattle.board_model.specs.Laid.{laid, postponed, with_script}
 use Rattle.board_model.specs.Run.{Run, run}
@@ -25,28 +25,23 @@ use Rattle.snapshot.specs.Records.{total}
 use Rattle.snapshot.specs.Saved.{SpellsState, expected_of, spelling}
 use Rattle.snapshot.specs.Waits.{state_fault}
 use Rattle.snapshot.proofs.Fixed.{fixed_run}
+use Rattle.snapshot.proofs.Runs.{counted_reduced, turn_reduced}
 use Rattle.snapshot.proofs.Stood.{as_long, spelling_long}
+use Rattle.sweep_core.specs.declared.leader.Leader.{Leader}
 use Rattle.sweep_core.specs.declared.sweeper.Sweeper.{Sweeper}
 use Rattle.sweep_core.specs.declared.tally.Tally.{Tally}
 use Rattle.sweep_core.specs.declared.told.Told.{Told}
 use Rattle.sweep_core.specs.Laying.{IsLaid}
+use Rattle.sweep_core.specs.Leading.{GoesOnAs, IsUnderWay}
 use Rattle.sweep_core.specs.Outcomes.{front_words, heard, memory_word, nothing_heard}
 use Rattle.sweep_core.specs.Swept.{is_supervisors}
-use Rattle.sweep_core.specs.Sweeping.{HasComeTo, HasScripts, HasTold, IsAsGood, IsAt, IsBefore, IsReady, own_script, run_of}
+use Rattle.sweep_core.specs.Sweeping.{HasComeTo, HasScripts, HasTold, IsAsGood, IsAt, IsBefore, IsReady, IsSweeping, own_script, run_of}
 use Rattle.sweep_core.specs.Told.{IsTold, IsToldFrom}
 use Rattle.snapshot.proofs.Few.{few_tasks}
-use Rattle.sweep_core.proofs.Going.{come_within, goes_on, good_itself, heard_on, one_before, same_ram, silent, stays}
+use Rattle.sweep_core.proofs.Going.{as_good_run, come_within, goes_on, good_itself, heard_on, one_before, same_ram, silent, stays}
 use Rattle.sweep_core.proofs.Letters.{letters_alike}
 
 -- ---- what is kept of a state
-
-counted_reduced : (s : State) → IsCounted s → IsCounted (reduced s)
-unfolding seen
-counted_reduced s h = record { some = h.some; calls = h.calls; now = h.now }
-
-turn_kept : (s : State) → (reduced s).turn ≡ s.turn
-unfolding seen
-turn_kept s = refl
 
 kinds_in : (ds : List DeviceData) → map (λ (d : DeviceData). d.kind) ds ≡ map (λ (p : Kind × ℕ). p.0) (sites ds)
 kinds_in [] = refl
@@ -99,7 +94,7 @@ module _ {X : Type 0} {H : X → Type 0} (shown : Shows X H) (x : Scenario) wher
       let s = reduced u in
       let v = (run Calls x n u).last in
       let tasks = few_tasks shown x b u st in
-      let none = accepted x.setup s bytes (sane-reduced x.setup u st.sane) (counted_reduced u st.counted) (omega (arith, turn_kept u, few)) (omega (arith, tasks)) spelled in
+      let none = accepted x.setup s bytes (sane-reduced x.setup u st.sane) (counted_reduced u st.counted) (omega (arith, turn_reduced u, few)) (omega (arith, tasks)) spelled in
       let kinds = ap (λ (ps : List (Kind × ℕ)). map (λ (p : Kind × ℕ). p.0) ps) (ap sites (as_long u).devices ∙ sym (fixed_run Calls x n u st.sane).sites) in
       subst (λ (ks : List Kind). state_fault record (expected_of x.setup s.devices) { kinds = ks } bytes ≡ None) (kinds_in s.devices ∙ kinds ∙ sym (kinds_in v.devices)) none
 
@@ -121,13 +116,24 @@ module _ {X : Type 0} {H : X → Type 0} (shown : Shows X H) (x : Scenario) wher
     saved_long script w m scripts h = scripts.saved ∙ sym (as_long_as_first x script m h.state scripts.start h.stands.sane h.same)
 
     -- once the run was told and the state before it is loaded
-    pub at_again : (script : ScriptData) (w : Sweeper X H) (m : ℕ) (b : Board X H) (saved : Vec ℕ Global) → (h : IsAt shown x arrival script w m) → Stands shown (with_script x (own_script w)) b (reduced h.come.state) →
-        reduced (reduced h.come.state) ≡ reduced h.come.state → length saved.items ≡ length w.saved.items → IsAt shown x arrival script record w { board = b; saved = saved } m
-    at_again script w m b saved h st small long = record {
+    pub at_again : (script : ScriptData) (w : Sweeper X H) (m : ℕ) (b : Board X H) (saved : Vec ℕ Global) (leader : Leader) → (h : IsAt shown x arrival script w m) → Stands shown (with_script x (own_script w)) b (reduced h.come.state) →
+        reduced (reduced h.come.state) ≡ reduced h.come.state → length saved.items ≡ length w.saved.items → IsAt shown x arrival script record w { board = b; saved = saved; leader = leader } m
+    at_again script w m b saved leader h st small long = record {
       scripts = record { start = h.scripts.start; script = h.scripts.script; arriving = h.scripts.arriving; spare = h.scripts.spare; saved = long ∙ h.scripts.saved };
       good = subst (λ (s : ScriptData). IsAsGood s script) (sym st.holds.script) h.good;
       come = record { state = reduced h.come.state; stands = with_own (own_script w) b (reduced h.come.state) st; same = small ∙ h.come.same; front = h.come.front };
     }
+
+    -- the run from where it stands may meet one that leads, from where its script is as good as the scenario's own
+    pub under_way : (script : ScriptData) (w : Sweeper X H) (m over : ℕ) → (h : IsAt shown x arrival script w m) → GoesOnAs x script over → IsUnderWay shown x over w.board h.come.state
+    under_way script w m over h goes =
+        let u = h.come.state in
+        let c = cut_at Calls (with_script x script) m (start_of x) in
+        record {
+          stands = h.come.stands;
+          sites = ap sites (sym (as_long u).devices) ∙ ap (λ (v : State). sites v.devices) h.come.same ∙ ap sites (as_long c).devices ∙ (fixed_run Calls (with_script x script) m (start_of x) h.scripts.start).sites;
+          goes = λ n s sane late. as_good_run x (own_script w) script n s sane h.good ∙ goes n s sane late;
+        }
 
     -- ---- on to an arrival time
 
@@ -210,6 +216,9 @@ module _ {X : Type 0} {H : X → Type 0} (shown : Shows X H) (x : Scenario) wher
     -- of a later one
     pub later : (w : Sweeper X H) (time next limit : ℕ) → time ≤ next → IsBefore shown x arrival w time limit → IsBefore shown x arrival w next limit
     later w time next limit le h = record { scripts = h.scripts; own = h.own; turn = h.turn; early = omega (arith, h.early, le); few = h.few; come = h.come }
+
+    pub later_sweeping : (w : Sweeper X H) (time next limit : ℕ) (mem : Bool) → time ≤ next → IsSweeping shown x arrival w time limit mem → IsSweeping shown x arrival w next limit mem
+    later_sweeping w time next limit mem le h = record { before = later w time next limit le h.before; leads = h.leads }
 
     -- ---- the start
 

@@ -5,4 +5,5 @@ pub mod Laying
 pub mod Told
 pub mod Comparing
 pub mod Stretches
+pub mod Leading
 pub mod Sweeping

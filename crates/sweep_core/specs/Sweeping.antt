@@ -20,6 +20,7 @@ use Rattle.sweep_core.specs.declared.comparing.Compared.{Compared}
 use Rattle.sweep_core.specs.declared.sweeper.Sweeper.{Sweeper}
 use Rattle.sweep_core.specs.declared.told.Told.{Told}
 use Rattle.sweep_core.specs.Comparing.{compared_of, with_time}
+use Rattle.sweep_core.specs.Leading.{IsLeading}
 use Rattle.sweep_core.specs.Outcomes.{heard, nothing_heard}
 use Rattle.sweep_core.specs.Swept.{Asking, base_run, outcome_at, times_text}
 use Rattle.sweep_core.specs.Told.{IsTold}
@@ -47,12 +48,13 @@ pub record HasComeTo {X : Type 0} {H : X → Type 0} (shown : Shows X H) (x : Sc
   pub same : reduced state ≡ reduced (cut_at Calls (with_script x script) m (start_of x))
   pub front : w.front ≡ heard nothing_heard (run Calls (with_script x script) m (start_of x)).notes
 
--- at the start of a sweep; the script that the board is given has room too
+-- at the start of a sweep; the script that the board is given has room too, and no run leads yet
 pub record IsReady {X : Type 0} {H : X → Type 0} (shown : Shows X H) (x : Scenario) (arrival : List Listed) (w : Sweeper X H) : Type 0 where
   pub scripts : HasScripts x arrival w
   pub own : HasRoom w.script (length x.script.events + length arrival)
   pub stands : Stands shown x w.board (start_of x)
   pub front : w.front ≡ nothing_heard
+  pub none : w.leader.led.count ≡ 0
 
 -- the run of an arrival time not below `time` may go on from here, for any of them: none of the arrival has come as yet. The
 -- board's own script has room, which is the next spare one
@@ -63,6 +65,11 @@ pub record IsBefore {X : Type 0} {H : X → Type 0} (shown : Shows X H) (x : Sce
   pub early : turn ≤ time
   pub few : turn ≤ limit
   pub come : HasComeTo shown x (laid x.script arrival turn) w turn
+
+-- and an earlier run that leads was told so
+pub record IsSweeping {X : Type 0} {H : X → Type 0} (shown : Shows X H) (x : Scenario) (arrival : List Listed) (w : Sweeper X H) (time limit : ℕ) (mem : Bool) : Type 0 where
+  pub before : IsBefore shown x arrival w time limit
+  pub leads : IsLeading x limit mem w.leader
 
 -- the same happens in each turn, they last in the same turns, and list as many events. No more is known of the room of a script
 -- with which a board has run
@@ -95,7 +102,7 @@ pub record IsLooked (x : Scenario) (a : Asking) (time : ℕ) (base : Told) (old 
 
 -- the arrival times that are asked for may be looked at, beside the run without the arrival
 pub record IsBased {X : Type 0} {H : X → Type 0} (shown : Shows X H) (x : Scenario) (a : Asking) (w : Sweeper X H) (base : Told) : Type 0 where
-  pub before : IsBefore shown x a.arrival w a.from a.limit
+  pub before : IsSweeping shown x a.arrival w a.from a.limit a.mem
   pub told : IsTold a.mem (base_run x a) base
 
 -- the lines of the arrival times that are asked for were pushed, or after a failure a front of them

@@ -1,5 +1,6 @@
 //! The script of an arrival time, in room that was taken before.
-ghost use Rattle.std.specs.Prelude.{◌≡◌, ◌≤◌, ◌+◌, ℕ, true, length};
+ghost use Rattle.std.specs.Prelude.{◌≡◌, ◌<◌, ◌≤◌, ◌+◌, ℕ, true, length};
+ghost use Rattle.std.specs.List.{All};
 ghost use Rattle.run_script.specs.Events.{script_data};
 ghost use Rattle.run_script.specs.Laying.{HasRoom};
 ghost use Rattle.board_model.specs.Laid.{may_be_laid};
@@ -29,4 +30,18 @@ pub(crate) fn lay(laid: &mut Script, script: &Script, arrival: &Script, time: u3
         }
     }
     true
+}
+
+/// How many turns from an arrival time on there may be events of the arrival: none is due that many turns after it, nor later.
+pub(crate) fn span(arrival: &Script) -> u32
+    ensures all { All (λ d. d.0 < result) (script_data arrival.now).events }
+    ensures few { result ≤ 1000000000 }
+{
+    let mut span = 0;
+    for place in 0..arrival.count() {
+        if let Some((turn, _event)) = arrival.listed_event(place) {
+            span = span.max(turn + 1);
+        }
+    }
+    span
 }

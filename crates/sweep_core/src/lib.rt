@@ -3,11 +3,15 @@
 
 mod comparing;
 mod laying;
+mod leader;
+mod meeting;
 mod outcome;
+mod saving;
 mod sweeper;
 mod tally;
 mod text;
 mod told;
+mod trail;
 
 pub use outcome::{Outcome, outcome_of};
 pub use sweeper::Sweeper;

@@ -1,30 +1,29 @@
 //! A board that goes on from arrival time to arrival time, and from each of them to the end of that run and back.
-ghost use Rattle.std.specs.Prelude.{ℕ, ◌≡◌, ◌≤◌, ◌<◌, min, true, false, List, length, IfOk};
+ghost use Rattle.std.specs.Prelude.{ℕ, ◌≡◌, ◌≤◌, ◌<◌, min, true, false, List, IfOk};
 ghost use Rattle.outside_io.specs.Outside.{Pushes, HasCause};
 ghost use Rattle.run_script.specs.Events.{script_data};
 ghost use Rattle.run_script.specs.Scripts.{Listed, ScriptData};
-ghost use Rattle.task_table.specs.State.{State};
-ghost use Rattle.board_model.specs.Alike.{reduced};
 ghost use Rattle.board_model.specs.Laid.{laid, may_be_laid};
 ghost use Rattle.board_model.specs.Script.{Scenario, start_of};
 ghost use Rattle.board_core.specs.Data.{boxed};
 ghost use Rattle.board_core.specs.Stands.{Stands};
-ghost use Rattle.snapshot.specs.Saved.{SpellsState, spelling};
+ghost use Rattle.sweep_core.specs.Leading.{GoesOnAs, IsLeading};
 ghost use Rattle.sweep_core.specs.Swept.{makes_difference, sweep_text};
-ghost use Rattle.sweep_core.specs.Sweeping.{HasTold, IsAt, IsBased, IsBefore, IsLooked, IsReady, PushesTimes, asked, own_script, run_of};
+ghost use Rattle.sweep_core.specs.Sweeping.{HasTold, IsAt, IsBased, IsBefore, IsLooked, IsReady, IsSweeping, PushesTimes, asked, own_script, run_of};
 ghost use Rattle.sweep_core.specs.Told.{IsTold};
 
 use crate::comparing::Compared;
-use crate::laying::lay;
+use crate::laying::{lay, span};
+use crate::leader::Leader;
 use crate::outcome::{Outcome, full};
+use crate::saving::save;
 use crate::tally::Tally;
 use crate::text::{Stretch, push_base};
-use crate::told::{Told, told_from};
-use board_core::{Board, Level};
-use board_run::play;
+use crate::told::{Told, play_to};
+use board_core::Board;
 use outside_io::{Failed, Sink};
 use run_script::Script;
-use snapshot::{load_into, save_into, saved_len, saved_states_are_accepted};
+use snapshot::{load_into, saved_len, saved_states_are_accepted};
 use std::alloc::{AllocError, Global};
 
 /// A board over which the events of an arrival are laid, one arrival time after the other.
@@ -45,15 +44,9 @@ pub struct Sweeper {
 
     /// What was heard up to where the board stands.
     front: Tally,
-}
 
-/// The state of a board, into room for it.
-fn save(board: &Board, saved: &mut Vec<u8>)
-    requires { (x : Scenario) × (s : State) × Stands (boxed shown) x board.now s × (length saved.old.items ≡ length (spelling (reduced s))) }
-    ensures spelled { (x : Scenario) (s : State) → Stands (boxed shown) x board.now s → SpellsState x.setup (reduced s) saved.new.items }
-    ensures long { length saved.new.items ≡ length saved.old.items }
-{
-    save_into(board, saved.as_mut_slice());
+    /// The run of an earlier arrival time that others may meet.
+    leader: Leader,
 }
 
 impl Sweeper {
@@ -71,7 +64,9 @@ impl Sweeper {
         requires { (x : Scenario) × Stands (boxed shown) x board (start_of x) × (x.script ≡ script_data script.now) }
         ensures { (x : Scenario) → Stands (boxed shown) x board (start_of x) → x.script ≡ script_data script.now → IfOk result (λ w. IsReady (boxed shown) x (script_data arrival.now).events w) }
     {
-        let saved = vec![in alloc; 0; saved_len(&board)]?;
+        let len = saved_len(&board);
+        let saved = vec![in alloc; 0; len]?;
+        let leader = Leader::open(alloc, len)?;
         let room = script.count() + arrival.count();
         let spare = Script::with_room(alloc, room)?;
         let mut own = Script::with_room(alloc, room)?;
@@ -84,21 +79,27 @@ impl Sweeper {
             spare,
             saved,
             front: Tally::new(),
+            leader,
         })
     }
 
-    /// The run that goes on from here, to its end. The board stands here again afterwards.
-    fn tell(&mut self, limit: u32, mem: bool) -> Told
-        requires at { (x : Scenario) × (arrival : List Listed) × (script : ScriptData) × (m : ℕ) × IsAt (boxed shown) x arrival script self.old m × (m ≤ limit) }
+    /// The run that goes on from here, to its end or to where it meets an earlier one, which it may from turn `over` on. The board stands
+    /// here again afterwards.
+    fn tell(&mut self, over: u32, limit: u32, mem: bool) -> Told
+        requires at { (x : Scenario) × (arrival : List Listed) × (script : ScriptData) × (m : ℕ) × IsAt (boxed shown) x arrival script self.old m × (m ≤ limit) × GoesOnAs x script over }
+        requires over { over ≤ 2000000000 }
         requires few { limit ≤ 1000000000 }
-        ensures told { (x : Scenario) (arrival : List Listed) (script : ScriptData) (m : ℕ) → IsAt (boxed shown) x arrival script self.old m → m ≤ limit → IsTold mem (run_of x script limit) result }
-        ensures same { (x : Scenario) (arrival : List Listed) (script : ScriptData) (m : ℕ) → IsAt (boxed shown) x arrival script self.old m → m ≤ limit → IsAt (boxed shown) x arrival script self.new m }
-        ensures own { (x : Scenario) (arrival : List Listed) (script : ScriptData) (m : ℕ) → IsAt (boxed shown) x arrival script self.old m → m ≤ limit → own_script self.new ≡ own_script self.old }
+        ensures told { (x : Scenario) (arrival : List Listed) (script : ScriptData) (m : ℕ) → IsAt (boxed shown) x arrival script self.old m → m ≤ limit → GoesOnAs x script over → IsLeading x limit mem self.old.leader → IsTold mem (run_of x script limit) result }
+        ensures leads { (x : Scenario) (arrival : List Listed) (script : ScriptData) (m : ℕ) → IsAt (boxed shown) x arrival script self.old m → m ≤ limit → GoesOnAs x script over → IsLeading x limit mem self.old.leader → IsLeading x limit mem self.new.leader }
+        ensures same { (x : Scenario) (arrival : List Listed) (script : ScriptData) (m : ℕ) → IsAt (boxed shown) x arrival script self.old m → m ≤ limit → GoesOnAs x script over → IsAt (boxed shown) x arrival script self.new m }
+        ensures own { (x : Scenario) (arrival : List Listed) (script : ScriptData) (m : ℕ) → IsAt (boxed shown) x arrival script self.old m → m ≤ limit → GoesOnAs x script over → own_script self.new ≡ own_script self.old }
         ensures script { self.new.script ≡ self.old.script }
     {
         saved_states_are_accepted();
         save(&self.board, &mut self.saved);
-        let told = told_from(&mut self.board, &self.front, limit, mem);
+        let told = self
+            .leader
+            .follow(&mut self.board, &self.front, over, limit, mem);
         load_into(&mut self.board, self.saved.as_slice());
         told
     }
@@ -106,7 +107,8 @@ impl Sweeper {
     /// The board is given the script that has room, with which it goes on.
     fn take_room(&mut self)
         requires { (x : Scenario) × (arrival : List Listed) × HasTold (boxed shown) x arrival self.old }
-        ensures { (x : Scenario) (arrival : List Listed) → HasTold (boxed shown) x arrival self.old → (time limit : ℕ) → IsBefore (boxed shown) x arrival self.new time limit }
+        ensures before { (x : Scenario) (arrival : List Listed) → HasTold (boxed shown) x arrival self.old → (time limit : ℕ) → IsBefore (boxed shown) x arrival self.new time limit }
+        ensures leader { self.new.leader ≡ self.old.leader }
     {
         self.board.exchange_script(&mut self.script);
     }
@@ -120,20 +122,14 @@ impl Sweeper {
         ensures made { (x : Scenario) (arrival : List Listed) → IsBefore (boxed shown) x arrival self.old time limit → result ≡ may_be_laid x.script arrival time }
         ensures at { result ≡ true → (x : Scenario) (arrival : List Listed) → IsBefore (boxed shown) x arrival self.old time limit → IsAt (boxed shown) x arrival (laid x.script arrival time) self.new (min time limit) }
         ensures stays { result ≡ false → (x : Scenario) (arrival : List Listed) → IsBefore (boxed shown) x arrival self.old time limit → IsBefore (boxed shown) x arrival self.new time limit }
+        ensures leader { self.new.leader ≡ self.old.leader }
     {
         if !lay(&mut self.spare, &self.script, &self.arrival, time) {
             return false;
         }
         self.board.exchange_script(&mut self.spare);
-        match play(
-            &mut self.board,
-            time.min(limit),
-            Level::Calls,
-            &mut self.front,
-        ) {
-            Ok(_) => true,
-            Err(_) => unreachable!(),
-        }
+        play_to(&mut self.board, &mut self.front, time.min(limit));
+        true
     }
 
     /// The outcome of an arrival time, which is compared where there is one.
@@ -145,16 +141,17 @@ impl Sweeper {
         base: &Told,
         compared: &mut Compared,
     ) -> Outcome
-        requires before { (x : Scenario) × (arrival : List Listed) × IsBefore (boxed shown) x arrival self.old time limit }
+        requires before { (x : Scenario) × (arrival : List Listed) × IsSweeping (boxed shown) x arrival self.old time limit mem }
         requires early { time ≤ 1000000000 }
         requires few { limit ≤ 1000000000 }
-        ensures before { (x : Scenario) (arrival : List Listed) → IsBefore (boxed shown) x arrival self.old time limit → IsBefore (boxed shown) x arrival self.new time limit }
-        ensures looked { (x : Scenario) (arrival : List Listed) → IsBefore (boxed shown) x arrival self.old time limit → IsLooked x (asked arrival time time limit mem) time base.now compared.old compared.new result }
+        ensures before { (x : Scenario) (arrival : List Listed) → IsSweeping (boxed shown) x arrival self.old time limit mem → IsSweeping (boxed shown) x arrival self.new time limit mem }
+        ensures looked { (x : Scenario) (arrival : List Listed) → IsSweeping (boxed shown) x arrival self.old time limit mem → IsLooked x (asked arrival time time limit mem) time base.now compared.old compared.new result }
     {
         if !self.go_to(time, limit) {
             return full();
         }
-        let told = self.tell(limit, mem);
+        let over = time + span(&self.arrival);
+        let told = self.tell(over, limit, mem);
         compared.add(base, &told);
         told.words
     }
@@ -213,7 +210,7 @@ impl Sweeper {
         ensures makes { (x : Scenario) (arrival : List Listed) → IsReady (boxed shown) x arrival self.old → IfOk result (λ d. d ≡ makes_difference x (asked arrival from to limit mem)) }
         ensures cause { HasCause (S.seen out.old).faults (S.seen out.new).faults result }
     {
-        let base = self.tell(limit, mem);
+        let base = self.tell(limit, limit, mem);
         push_base(&base.words, out)?;
         if from >= to {
             return Ok(false);

@@ -6,6 +6,7 @@ ghost use Rattle.board_model.specs.Run.{run};
 ghost use Rattle.board_model.specs.Script.{Scenario};
 ghost use Rattle.board_core.specs.Data.{boxed};
 ghost use Rattle.board_core.specs.Stands.{Stands, Stood, turns_of};
+ghost use Rattle.sweep_core.specs.Outcomes.{heard};
 ghost use Rattle.sweep_core.specs.Swept.{is_supervisors};
 ghost use Rattle.sweep_core.specs.Told.{IsToldFrom, IsToldAt, is_worse_told};
 
@@ -15,11 +16,20 @@ use board_core::{Board, End, Level};
 use board_run::play;
 
 /// What a sweep tells of a run, and what it compares.
-#[derive(Drop)]
+#[derive(Clone, Copy, Drop)]
 pub(crate) struct Told {
     pub(crate) words: Outcome,
     pub(crate) faults: u64,
     pub(crate) by_supervisor: bool,
+}
+
+/// Of no run.
+pub(crate) fn nothing_told() -> Told {
+    Told {
+        words: Outcome::new(),
+        faults: 0,
+        by_supervisor: false,
+    }
 }
 
 fn is_supervisors(end: End) -> bool
@@ -39,6 +49,21 @@ fn told_at(end: End, tally: &Tally, board: &Board, mem: bool) -> Told
         words: outcome_of(end, tally, board, mem),
         faults: tally.faults,
         by_supervisor: is_supervisors(end),
+    }
+}
+
+/// On to a turn, or to the end of the run before it, with what is heard on the way.
+pub(crate) fn play_to(board: &mut Board, tally: &mut Tally, to: u32)
+    requires stood { Stood (boxed shown) board.old }
+    requires from { turns_of board.old ≤ to }
+    requires few { to ≤ 1000000000 }
+    ensures last { (x : Scenario) (s : State) → Stands (boxed shown) x board.old s → Stands (boxed shown) x board.new (run Calls x (to - s.turn) s).last }
+    ensures heard { (x : Scenario) (s : State) → Stands (boxed shown) x board.old s → tally.new ≡ heard tally.old (run Calls x (to - s.turn) s).notes }
+    ensures within { turns_of board.new ≤ to }
+{
+    match play(board, to, Level::Calls, tally) {
+        Ok(_) => {}
+        Err(_) => unreachable!(),
     }
 }
 

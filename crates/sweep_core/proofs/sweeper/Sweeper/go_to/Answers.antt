@@ -21,15 +21,15 @@ exchange_script-requires g c =
     let few = h.few in
     omega (arith, within, few, c.requires.few)
 
-pub play-requires-clause-stood : goal.play-requires-clause-stood
-play-requires-clause-stood g c =
+pub play_to-requires-clause-stood : goal.play_to-requires-clause-stood
+play_to-requires-clause-stood g c =
     let x = c.requires.before.0 in
     let come = c.requires.before.2.come in
     let holds = c.exchange_script.ensures.holds (with_script x (own_script c.args.self.now)) come.state come.stands.holds in
     (with_script x (script_data c.lay.new.laid), come.state, record { holds = holds; sane = come.stands.sane; counted = come.stands.counted })
 
-pub play-requires-clause-from : goal.play-requires-clause-from
-play-requires-clause-from g c =
+pub play_to-requires-clause-from : goal.play_to-requires-clause-from
+play_to-requires-clause-from g c =
     let x = c.requires.before.0 in
     let h = c.requires.before.2 in
     let holds = c.exchange_script.ensures.holds (with_script x (own_script c.args.self.now)) h.come.state h.come.stands.holds in
@@ -39,13 +39,6 @@ play-requires-clause-from g c =
     let few = h.few in
     omega (arith, turns, within, early, few, c.min.ensures)
 
-pub unreachable-requires : goal.unreachable-requires
-unreachable-requires g c =
-    let x = c.requires.before.0 in
-    let come = c.requires.before.2.come in
-    let holds = c.exchange_script.ensures.holds (with_script x (own_script c.args.self.now)) come.state come.stands.holds in
-    (c.in-Err.ensures.broken (with_script x (script_data c.lay.new.laid)) come.state (record { holds = holds; sane = come.stands.sane; counted = come.stands.counted })).broken
-
 pub returns-clause-at : goal.returns-clause-at
 returns-clause-at g c = λ e x arrival h.
     let shown = boxed (λ p. (goal.Device-dyn g p).shown p.1) in
@@ -54,6 +47,6 @@ returns-clause-at g c = λ e x arrival h.
     let z = with_script x (script_data c.lay.new.laid) in
     let made = c.if-not-lay.false in
     let holds = c.exchange_script.ensures.holds (with_script x (own_script w)) u h.come.stands.holds in
-    arrived shown x arrival w c.args.time c.args.limit c.lay.new.laid c.exchange_script.new.script c.play.new.board c.play.new.teller c.min.result h c.min.ensures (c.lay.ensures.same made) (c.lay.ensures.count made) c.exchange_script.ensures.given
-    (c.in-Ok.ensures.last z u (record { holds = holds; sane = h.come.stands.sane; counted = h.come.stands.counted }))
-    (c.in-Ok.ensures.told z u (record { holds = holds; sane = h.come.stands.sane; counted = h.come.stands.counted }))
+    arrived shown x arrival w c.args.time c.args.limit c.lay.new.laid c.exchange_script.new.script c.play_to.new.board c.play_to.new.tally c.min.result h c.min.ensures (c.lay.ensures.same made) (c.lay.ensures.count made) c.exchange_script.ensures.given
+    (c.play_to.ensures.last z u (record { holds = holds; sane = h.come.stands.sane; counted = h.come.stands.counted }))
+    (c.play_to.ensures.heard z u (record { holds = holds; sane = h.come.stands.sane; counted = h.come.stands.counted }))

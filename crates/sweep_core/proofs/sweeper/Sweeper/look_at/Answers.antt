@@ -1,35 +1,52 @@
-use Rattle.std.proofs.Common.{◌∙◌, min, sym, arith}
+use Rattle.std.proofs.Common.{◌∙◌, ◌<◌, min, sym, subst, arith}
+use Rattle.std.specs.List.{All}
+use Rattle.run_script.specs.Scripts.{Listed}
 use Rattle.board_model.specs.Laid.{laid}
 use Rattle.board_core.specs.Data.{boxed}
+use Rattle.sweep_core.specs.Leading.{IsLeading}
+use Rattle.sweep_core.specs.declared.leader.Leader.{Leader}
 use Rattle.sweep_core.specs.Sweeping.{asked}
+use Rattle.sweep_core.proofs.Following.{over_behind}
 use Rattle.sweep_core.proofs.Looking.{looked, not_looked}
 use Rattle.sweep_core.proofs.Sweeps.{before_again}
 use Rattle.sweep_core.proofs.sweeper.Sweeper.look_at.Goals as goal
 
 pub returns-then-not-go_to-clause-before : goal.returns-then-not-go_to-clause-before
-returns-then-not-go_to-clause-before g c = λ x arrival h. c.go_to.ensures.stays c.if-not-go_to.true x arrival h
+returns-then-not-go_to-clause-before g c = λ x arrival h. record {
+  before = c.go_to.ensures.stays c.if-not-go_to.true x arrival h.before;
+  leads = subst (λ (w : Leader). IsLeading x c.args.limit c.args.mem w) (sym c.go_to.ensures.leader) h.leads;
+}
 
 pub returns-then-not-go_to-clause-looked : goal.returns-then-not-go_to-clause-looked
 returns-then-not-go_to-clause-looked g c = λ x arrival h.
     let a = asked arrival c.args.time c.args.time c.args.limit c.args.mem in
-    not_looked x a c.args.time c.args.base.now c.args.compared.now c.full.result (sym (c.go_to.ensures.made x arrival h) ∙ c.if-not-go_to.true) c.full.ensures
+    not_looked x a c.args.time c.args.base.now c.args.compared.now c.full.result (sym (c.go_to.ensures.made x arrival h.before) ∙ c.if-not-go_to.true) c.full.ensures
 
 pub tell-told-requires-clause-at : goal.tell-told-requires-clause-at
 tell-told-requires-clause-at g c =
     let r = c.requires.before in
-    (r.0, r.1, laid r.0.script r.1 c.args.time, min c.args.time c.args.limit, c.go_to.ensures.at c.if-not-go_to.false r.0 r.1 r.2, omega arith)
+    let at = c.go_to.ensures.at c.if-not-go_to.false r.0 r.1 r.2.before in
+    let all = subst (All (λ (d : Listed). d.0 < c.span.result)) at.scripts.arriving c.span.ensures.all in
+    (r.0, r.1, laid r.0.script r.1 c.args.time, min c.args.time c.args.limit, at, omega arith, over_behind r.0 r.1 c.args.time c.span.result all)
 
 pub returns-clause-before : goal.returns-clause-before
 returns-clause-before g c = λ x arrival h.
     let shown = boxed (λ p. (goal.Device-dyn g p).shown p.1) in
     let m = min c.args.time c.args.limit in
-    let at = c.go_to.ensures.at c.if-not-go_to.false x arrival h in
-    before_again shown x arrival c.tell-told.new.self c.args.time c.args.limit (c.tell-told.ensures.same x arrival (laid x.script arrival c.args.time) m at (omega arith))
+    let at = c.go_to.ensures.at c.if-not-go_to.false x arrival h.before in
+    let goes = over_behind x arrival c.args.time c.span.result (subst (All (λ (d : Listed). d.0 < c.span.result)) at.scripts.arriving c.span.ensures.all) in
+    let leads = subst (λ (w : Leader). IsLeading x c.args.limit c.args.mem w) (sym c.go_to.ensures.leader) h.leads in
+    record {
+      before = before_again shown x arrival c.tell-told.new.self c.args.time c.args.limit (c.tell-told.ensures.same x arrival (laid x.script arrival c.args.time) m at (omega arith) goes);
+      leads = c.tell-told.ensures.leads x arrival (laid x.script arrival c.args.time) m at (omega arith) goes leads;
+    }
 
 pub returns-clause-looked : goal.returns-clause-looked
 returns-clause-looked g c = λ x arrival h.
     let a = asked arrival c.args.time c.args.time c.args.limit c.args.mem in
     let m = min c.args.time c.args.limit in
-    let at = c.go_to.ensures.at c.if-not-go_to.false x arrival h in
-    looked x a c.args.time c.args.base.now c.tell-told.result c.args.compared.now c.add.new.self (sym (c.go_to.ensures.made x arrival h) ∙ c.if-not-go_to.false)
-    (c.tell-told.ensures.told x arrival (laid x.script arrival c.args.time) m at (omega arith)) c.add.ensures
+    let at = c.go_to.ensures.at c.if-not-go_to.false x arrival h.before in
+    let goes = over_behind x arrival c.args.time c.span.result (subst (All (λ (d : Listed). d.0 < c.span.result)) at.scripts.arriving c.span.ensures.all) in
+    let leads = subst (λ (w : Leader). IsLeading x c.args.limit c.args.mem w) (sym c.go_to.ensures.leader) h.leads in
+    looked x a c.args.time c.args.base.now c.tell-told.result c.args.compared.now c.add.new.self (sym (c.go_to.ensures.made x arrival h.before) ∙ c.if-not-go_to.false)
+    (c.tell-told.ensures.told x arrival (laid x.script arrival c.args.time) m at (omega arith) goes leads) c.add.ensures

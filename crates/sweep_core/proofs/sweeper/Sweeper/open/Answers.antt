@@ -15,9 +15,10 @@ returns g c = λ x st is.
         script = c.become_as.ensures.same ∙ sym is;
         arriving = ap (λ (s : ScriptData). s.events) c.in_ok-arrival.ensures;
         spare = omega (arith, events, spare, c.count.ensures, c.count-2.ensures);
-        saved = omega (arith, c.in_ok-saved.ensures.len, c.in_ok-saved.saved.ok.0, c.saved_len.ensures x (start_of x) st);
+        saved = omega (arith, c.in_ok-saved.ensures.len, c.in_ok-saved.saved.ok.0, c.saved_len-len.ensures x (start_of x) st);
       };
       own = omega (arith, events, own, c.count.ensures, c.count-2.ensures);
       stands = st;
       front = c.new.ensures;
+      none = c.in_ok-leader.ensures;
     }

@@ -6,7 +6,7 @@ use Rattle.sweep_core.specs.Swept.{outcome_at}
 use Rattle.sweep_core.specs.Sweeping.{asked}
 use Rattle.sweep_core.proofs.Lined.{begins, begins_before, last_done, last_failed, more_pushed, none_pushed, push_failed, pushed_so}
 use Rattle.sweep_core.proofs.Looking.{compared_first, compared_next, found_is}
-use Rattle.sweep_core.proofs.Sweeps.{later}
+use Rattle.sweep_core.proofs.Sweeps.{later_sweeping}
 use Rattle.sweep_core.proofs.Whole.{times_done, times_failed}
 use Rattle.sweep_core.proofs.sweeper.Sweeper.push_times.Goals as goal
 
@@ -16,7 +16,7 @@ loop-time-init g c =
     let from = c.args.from in
     let at = c.look_at.ensures in
     record {
-      before = λ x arrival h. later shown x arrival c.look_at.new.self from (from + 1) c.args.limit (omega arith) (at.before x arrival h.before);
+      before = λ x arrival h. later_sweeping shown x arrival c.look_at.new.self from (from + 1) c.args.limit c.args.mem (omega arith) (at.before x arrival h.before);
       pushed = λ x arrival h. none_pushed (outcome_at x (asked arrival from c.args.to c.args.limit c.args.mem)) c.args.base.now.words.bytes from c.args.to c.look_at.result.bytes _ c.requires.some (at.looked x arrival h.before).words;
       compared = λ x arrival h.
           let a = asked arrival from c.args.to c.args.limit c.args.mem in
@@ -53,7 +53,7 @@ loop-time-preserved g c =
     let on = c.in_ok-go_on.ensures in
     let before = begins_before (λ n. base) base s.first s.words.bytes time next i.first in
     record {
-      before = λ x arrival h. later shown x arrival c.look_at-words.new.self time (time + 1) c.args.limit (omega arith) (at.before x arrival (i.before x arrival h));
+      before = λ x arrival h. later_sweeping shown x arrival c.look_at-words.new.self time (time + 1) c.args.limit c.args.mem (omega arith) (at.before x arrival (i.before x arrival h));
       pushed = λ x arrival h.
           let f = outcome_at x (asked arrival c.args.from c.args.to c.args.limit c.args.mem) in
           let is = (at.looked x arrival (i.before x arrival h)).words in

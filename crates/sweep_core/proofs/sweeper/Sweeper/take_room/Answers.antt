@@ -12,8 +12,8 @@ exchange_script-requires g c =
     let start = turns_within shown r.0 r.1 r.0.script c.args.self.now 0 r.2.scripts.start r.2.come in
     omega (arith, start)
 
-pub returns : goal.returns
-returns g c = λ x arrival h.
+pub returns-clause-before : goal.returns-clause-before
+returns-clause-before g c = λ x arrival h.
     let shown = boxed (λ p. (goal.Device-dyn g p).shown p.1) in
     let w = c.args.self.now in
     let e = c.exchange_script in

@@ -1,0 +1,106 @@
+-- A run that leads: states of it are kept, and a run that comes to one of them ends as it does.
+use Rattle.std.specs.Prelude.{ℕ, ◌≡◌, ◌≤◌, ◌<◌, ◌+◌, ◌-◌, Bool, List, length, slice_set}
+use Rattle.std.specs.List.{AllWithin, HoldsAt}
+use Rattle.run_script.specs.Events.{script_data}
+use Rattle.run_script.specs.Scripts.{ScriptData}
+use Rattle.task_table.specs.State.{State}
+use Rattle.task_table.specs.Sane.{Sane, IsCounted}
+use Rattle.board_model.specs.declared.outcomes.Level.TheVariants.{Calls}
+use Rattle.board_model.specs.Alike.{reduced}
+use Rattle.board_model.specs.Laid.{with_script}
+use Rattle.board_model.specs.Run.{Run, run}
+use Rattle.board_model.specs.Script.{Scenario}
+use Rattle.board_core.specs.declared.board.Board.{Board}
+use Rattle.board_core.specs.Data.{Shows}
+use Rattle.board_core.specs.Stands.{Stands, script_of}
+use Rattle.snapshot.specs.Loaded.{sites}
+use Rattle.snapshot.specs.Saved.{SpellsState}
+use Rattle.sweep_core.specs.declared.leader.Leader.{Leader}
+use Rattle.sweep_core.specs.declared.tally.Tally.{Tally}
+use Rattle.sweep_core.specs.declared.told.Told.{Told}
+use Rattle.sweep_core.specs.declared.trail.Meeting.{Meeting}
+use Rattle.sweep_core.specs.declared.trail.Trail.{Trail}
+use Rattle.sweep_core.specs.Told.{IsToldFrom}
+
+-- ## states that are kept
+
+-- so much was heard of a run that has come to these bytes
+pub record IsSameAs (tally : Tally) (bytes : List ℕ) (m : Meeting) : Type 0 where
+  pub heard : m.heard ≡ tally
+  pub state : m.state.items ≡ bytes
+
+-- that one is kept
+pub record HasSame (tally : Tally) (bytes : List ℕ) (led : Trail) : Type 0 where
+  pub place : ℕ
+  pub inside : place < led.count
+  pub meeting : Meeting
+  pub at : HoldsAt (λ m. m ≡ meeting) led.states.items place
+  pub same : IsSameAs tally bytes meeting
+
+-- none is
+abbrev pub HasNone : Tally → List ℕ → Trail → Type 0
+HasNone tally bytes led = AllWithin (λ m. IsSameAs tally bytes m → ⊥) led.states.items 0 led.count
+
+-- with one of this turn more
+pub record IsOneMore (stop : ℕ) (tally : Tally) (bytes : List ℕ) (old new : Trail) : Type 0 where
+  pub meeting : Meeting
+  pub turn : meeting.turn ≡ stop
+  pub same : IsSameAs tally bytes meeting
+  pub states : new.states.items ≡ slice_set old.states.items old.count meeting
+  pub count : new.count ≡ old.count + 1
+
+-- ## runs from them
+
+-- the run from a state to a turn, with a script
+abbrev pub run_from : Scenario → ScriptData → ℕ → State → Run
+run_from x script limit s = run Calls (with_script x script) (limit - s.turn) s
+
+-- a state that bytes spell, beside the devices of a run
+pub record IsSpelledBy (x : Scenario) (bytes : List ℕ) (s : State) : Type 0 where
+  pub spelled : SpellsState x.setup s bytes
+  pub sane : Sane x.setup s
+  pub counted : IsCounted s
+  pub sites : sites s.devices ≡ sites x.devices
+
+-- with this script a run goes on from turn `over` on as it does with the scenario's own: an arrival that was laid is over
+abbrev pub GoesOnAs : Scenario → ScriptData → ℕ → Type 0
+GoesOnAs x script over = (n : ℕ) (s : State) → Sane x.setup s → over ≤ s.turn → run Calls (with_script x script) n s ≡ run Calls x n s
+
+-- this is told of each run from a state that the bytes spell, where so much was heard before: they spell states that differ in
+-- the order of calls and of listens
+abbrev pub IsMeeting : Scenario → ℕ → Bool → Told → Meeting → Type 0
+IsMeeting x limit mem told m = (s : State) → IsSpelledBy x m.state.items s → IsToldFrom mem m.heard (run Calls x (limit - s.turn) s) told
+
+abbrev pub IsLedBy : Scenario → ℕ → Bool → Told → Trail → Type 0
+IsLedBy x limit mem told led = AllWithin (IsMeeting x limit mem told) led.states.items 0 led.count
+
+abbrev pub IsLeading : Scenario → ℕ → Bool → Leader → Type 0
+IsLeading x limit mem w = IsLedBy x limit mem w.told w.led
+
+-- ## a run that follows
+
+-- a board stands for a state, with a script whose arrival is over from turn `over` on
+pub record IsUnderWay {X : Type 0} {H : X → Type 0} (shown : Shows X H) (x : Scenario) (over : ℕ) (b : Board X H) (s : State) : Type 0 where
+  pub stands : Stands shown (with_script x (script_data (script_of b))) b s
+  pub sites : sites s.devices ≡ sites x.devices
+  pub goes : GoesOnAs x (script_data (script_of b)) over
+
+-- it has gone on from there with this script
+abbrev pub HasGoneOn : {X : Type 0} {H : X → Type 0} → Shows X H → Scenario → ScriptData → State → Board X H → Type 0
+HasGoneOn shown x script s b = (n : ℕ) × Stands shown (with_script x script) b (run Calls (with_script x script) n s).last
+
+-- a state is one of those that are kept, with as much heard
+pub record HasMet (x : Scenario) (s : State) (tally : Tally) (led : Trail) : Type 0 where
+  pub bytes : List ℕ
+  pub spelled : SpellsState x.setup (reduced s) bytes
+  pub same : HasSame tally bytes led
+
+-- it is kept besides
+pub record HasPassed (x : Scenario) (s : State) (tally : Tally) (stop : ℕ) (old new : Trail) : Type 0 where
+  pub meeting : Meeting
+  pub heard : meeting.heard ≡ tally
+  pub spelled : SpellsState x.setup (reduced s) meeting.state.items
+  pub turn : s.turn ≡ stop
+  pub inside : old.count < length old.states.items
+  pub states : new.states.items ≡ slice_set old.states.items old.count meeting
+  pub count : new.count ≡ old.count + 1

@@ -1,0 +1,168 @@
+//! The run that was played to its end last, and runs that end as it does.
+ghost use Rattle.std.specs.Prelude.{◌≡◌, ◌<◌, ◌≤◌, ◌+◌, ◌-◌, ◌*◌, ◌⊎◌, true, false, length, IfOk, IfSome};
+ghost use Rattle.std.specs.Int.{IsNextPowerOfTwo};
+ghost use Rattle.task_table.specs.State.{State};
+ghost use Rattle.board_model.specs.declared.outcomes.Level.TheVariants.{Calls};
+ghost use Rattle.board_model.specs.Alike.{reduced};
+ghost use Rattle.board_model.specs.Run.{run};
+ghost use Rattle.board_model.specs.Script.{Scenario};
+ghost use Rattle.board_core.specs.Data.{boxed};
+ghost use Rattle.board_core.specs.Stands.{Stands, Stood, script_of, turns_of};
+ghost use Rattle.run_script.specs.Events.{script_data};
+ghost use Rattle.sweep_core.specs.Leading.{HasGoneOn, HasMet, HasNone, HasPassed, IsLeading, IsUnderWay, run_from};
+ghost use Rattle.snapshot.specs.Saved.{spelling};
+ghost use Rattle.sweep_core.specs.Told.{IsToldFrom};
+
+use crate::saving::save;
+use crate::tally::Tally;
+use crate::told::{Told, nothing_told, play_to, told_from};
+use crate::trail::Trail;
+use board_core::Board;
+use board_run::ending;
+use snapshot::saved_len;
+use std::alloc::{AllocError, Global};
+use std::mem::swap;
+
+/// How many states of a run are kept at most, and how many bytes they have together.
+const MOST: usize = 48;
+
+const MOST_BYTES: usize = 2 << 20;
+
+/// The run that was played to its end last, which leads, and the one that follows it.
+#[derive(Drop)]
+pub(crate) struct Leader {
+    /// What was told of the run that leads, and states that it came to.
+    pub(crate) told: Told,
+    pub(crate) led: Trail,
+
+    /// States of the run that follows.
+    pub(crate) passed: Trail,
+
+    /// Room for the state to which that has come.
+    pub(crate) here: Vec<u8>,
+}
+
+/// How many states of so many bytes are kept: at least two.
+fn room_for(len: usize) -> usize
+    ensures some { 2 ≤ result }
+    ensures most { result ≤ 48 }
+    ensures bytes { 2 < result → result * len ≤ 2097152 }
+{
+    (MOST_BYTES / len.max(1)).clamp(2, MOST)
+}
+
+/// The first turn behind this one that is a power of two behind turn `over`.
+fn own_stop(turn: u32, over: u32) -> u32
+    requires turn { turn ≤ 1000000000 }
+    requires over { over ≤ 2000000000 }
+    ensures behind { turn < result }
+    ensures over { over ≤ result }
+    ensures power { IsNextPowerOfTwo (turn + 1 - over) (result - over) }
+{
+    over + (turn + 1).saturating_sub(over).next_power_of_two()
+}
+
+impl Leader {
+    /// No run leads yet. All memory that is taken is taken here: for states of so many bytes.
+    ///
+    /// # Errors
+    ///
+    /// Only want of memory.
+    pub(crate) fn open(alloc: Global, len: usize) -> Result<Leader, AllocError>
+        ensures { IfOk result (λ w. w.led.count ≡ 0) }
+    {
+        let states = room_for(len);
+        Ok(Leader {
+            told: nothing_told(),
+            led: Trail::with_room(alloc, states, len)?,
+            passed: Trail::with_room(alloc, states, len)?,
+            here: vec![in alloc; 0; len]?,
+        })
+    }
+
+    /// The next turn, behind this one, before which the run of a board is looked at, where its arrival is over from turn `over` on:
+    /// where one is kept of the run that leads, or a power of two behind `over`. None where the run ends here, or before that.
+    fn stop(&self, board: &Board, turn: u32, over: u32, limit: u32) -> Option<u32>
+        requires stood { Stood (boxed shown) board.now }
+        requires within { turns_of board.now ≤ limit }
+        requires turn { turn ≤ 1000000000 }
+        requires over { over ≤ 2000000000 }
+        ensures behind { IfSome result (λ stop. turn < stop) }
+        ensures over { IfSome result (λ stop. over ≤ stop) }
+        ensures within { IfSome result (λ stop. stop < limit) }
+    {
+        if ending(board, limit).is_some() {
+            return None;
+        }
+        let stop = self.led.next(over.max(turn + 1)).min(own_stop(turn, over));
+        if stop < limit { Some(stop) } else { None }
+    }
+
+    /// Whether the run of a board, of which this was heard, has come to a state of the one that leads before turn `stop`. Else its state
+    /// is kept, where it has come there. A state of a run is as long at each turn, so it has room.
+    fn meets(&mut self, board: &Board, heard: &Tally, stop: u32) -> bool
+        requires { Stood (boxed shown) board.now }
+        ensures at { result ≡ true → turns_of board.now ≡ stop }
+        ensures met { result ≡ true → (x : Scenario) (s : State) → Stands (boxed shown) x board.now s → HasMet x s heard.now self.old.led }
+        ensures missed { result ≡ false → turns_of board.now ≡ stop → (x : Scenario) (s : State) → Stands (boxed shown) x board.now s → length self.old.here.items ≡ length (spelling (reduced s)) → HasNone heard.now (spelling (reduced s)) self.old.led }
+        ensures passed { result ≡ false → (x : Scenario) (s : State) → Stands (boxed shown) x board.now s → (self.new.passed ≡ self.old.passed) ⊎ HasPassed x s heard.now stop self.old.passed self.new.passed }
+        ensures led { self.new.led ≡ self.old.led }
+        ensures told { self.new.told ≡ self.old.told }
+    {
+        if board.turns() != stop || self.here.len() != saved_len(board) {
+            return false;
+        }
+        save(board, &mut self.here);
+        if self.led.has(heard, self.here.as_slice()) {
+            return true;
+        }
+        self.passed.keep(stop, heard, &mut self.here);
+        false
+    }
+
+    /// The run that goes on from here leads: it is played to its end.
+    fn lead(&mut self, board: &mut Board, heard: &Tally, limit: u32, mem: bool) -> Told
+        requires stood { Stood (boxed shown) board.old }
+        requires from { turns_of board.old ≤ limit }
+        requires few { limit ≤ 1000000000 }
+        ensures told { (x : Scenario) (s : State) → Stands (boxed shown) x board.old s → IsToldFrom mem heard.now (run Calls x (limit - s.turn) s) result }
+        ensures last { (x : Scenario) (s : State) → Stands (boxed shown) x board.old s → Stands (boxed shown) x board.new (run Calls x (limit - s.turn) s).last }
+        ensures led { self.new.led ≡ self.old.passed }
+        ensures kept { self.new.told ≡ result }
+    {
+        self.told = told_from(board, heard, limit, mem);
+        swap(&mut self.led, &mut self.passed);
+        self.told
+    }
+
+    /// What is told of the run that goes on from where the board stands, and of which this was heard up to there, where its arrival is
+    /// over from turn `over` on. The board goes on to its end, or to where it meets the run that leads, whose end is its own.
+    pub(crate) fn follow(
+        &mut self,
+        board: &mut Board,
+        front: &Tally,
+        over: u32,
+        limit: u32,
+        mem: bool,
+    ) -> Told
+        requires way { (x : Scenario) × (s : State) × IsUnderWay (boxed shown) x over board.old s }
+        requires from { turns_of board.old ≤ limit }
+        requires over { over ≤ 2000000000 }
+        requires few { limit ≤ 1000000000 }
+        ensures told { (x : Scenario) (s : State) → IsUnderWay (boxed shown) x over board.old s → IsLeading x limit mem self.old → IsToldFrom mem front.now (run_from x (script_data (script_of board.old)) limit s) result }
+        ensures leads { (x : Scenario) (s : State) → IsUnderWay (boxed shown) x over board.old s → IsLeading x limit mem self.old → IsLeading x limit mem self.new }
+        ensures last { (x : Scenario) (s : State) → IsUnderWay (boxed shown) x over board.old s → HasGoneOn (boxed shown) x (script_data (script_of board.old)) s board.new }
+    {
+        self.passed.clear();
+        let mut heard = *front;
+        let mut turn = board.turns();
+        'stops: while let Some(stop) = self.stop(board, turn, over, limit) {
+            turn = stop;
+            play_to(board, &mut heard, stop);
+            if self.meets(board, &heard, stop) {
+                return self.told;
+            }
+        }
+        self.lead(board, &heard, limit, mem)
+    }
+}

@@ -1,0 +1,46 @@
+//! Where a run meets another one.
+ghost use Rattle.std.specs.Prelude.{◌≡◌, ◌<◌, ◌≤◌, true, false, vec_len};
+ghost use Rattle.sweep_core.specs.Leading.{HasNone, HasSame, IsOneMore, IsSameAs};
+
+use crate::tally::Tally;
+use crate::trail::{Meeting, Trail};
+use std::mem::swap;
+
+impl Meeting {
+    /// Whether a run that has come to these bytes, and of which so much was heard, is as this one was.
+    fn is_same(&self, heard: &Tally, state: &[u8]) -> bool
+        ensures same { result ≡ true → IsSameAs heard.now state.now self.now }
+        ensures other { IsSameAs heard.now state.now self.now → result ≡ true }
+    {
+        self.heard == *heard && self.state.as_slice() == state
+    }
+}
+
+impl Trail {
+    /// Whether a state that is kept is this one, with as much heard.
+    pub(crate) fn has(&self, heard: &Tally, state: &[u8]) -> bool
+        ensures some { result ≡ true → HasSame heard.now state.now self.now }
+        ensures none { result ≡ false → HasNone heard.now state.now self.now }
+    {
+        for k in 0..self.count {
+            if self.states[k].is_same(heard, state) {
+                return true;
+            }
+        }
+        false
+    }
+
+    /// A state is kept besides, where there is room; the bytes change places with those that were kept there.
+    pub(crate) fn keep(&mut self, turn: u32, heard: &Tally, state: &mut Vec<u8>)
+        ensures more { self.old.count < vec_len self.old.states → IsOneMore turn heard.now state.old.items self.old self.new }
+        ensures full { vec_len self.old.states ≤ self.old.count → self.new ≡ self.old }
+    {
+        if self.count < self.states.len() {
+            let meeting = &mut self.states[self.count];
+            meeting.turn = turn;
+            meeting.heard = *heard;
+            swap(&mut meeting.state, state);
+            self.count += 1;
+        }
+    }
+}
