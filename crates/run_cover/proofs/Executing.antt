@@ -1,8 +1,9 @@
 -- A turn notes the instruction at an address once where it executes it, else not at all; so the notes of a run count its turns.
-use Rattle.std.proofs.Common.{◌≡◌, ◌+◌, ◌-◌, ℕ, zero, suc, Bool, true, false, cond, ◌&&◌, eqb, List, [], ◌∷◌, ◌++◌, length, Option, Some, None, refl, sym, ◌∙◌, ap, arith}
+use Rattle.std.proofs.Common.{◌≡◌, ◌+◌, ◌-◌, ◌≤◌, ℕ, zero, suc, Bool, true, false, cond, ◌&&◌, eqb, List, [], ◌∷◌, ◌++◌, length, Option, Some, None, refl, sym, ◌∙◌, ap, arith}
 use Rattle.std.specs.Prelude.{count_by, is_ok, Result, Ok, Err}
 use Rattle.std.specs.List.{range_with_len}
-use Rattle.std.proofs.lemmas.List.Sums.{sum_by-append, sum_by-cons, sum_by_push}
+use Rattle.std.proofs.lemmas.List.Sums.{count_by-le-length, sum_by-append, sum_by-cons, sum_by_push}
+use Rattle.std.proofs.lemmas.List.FromFn.{length-range_with_len}
 use Rattle.kernel_abi.specs.declared.Fault.{Fault}
 use Rattle.kernel_abi.specs.declared.Note.{Note}
 use Rattle.kernel_abi.specs.declared.Note.TheVariants as note
@@ -147,9 +148,32 @@ turns_made x (suc n) s h =
     let before = turns_made x n s h in
     omega (arith, one, before)
 
-pub in_run : (x : Scenario) (n : ℕ) (s : State) (a : ℕ) → Sane x.setup s → executed (run All x n s).notes a ≡ turns_executing x a ((run All x n s).last.turn - s.turn) s
-in_run x n s a h =
+-- the turns of a run are those in which its number of turns rose
+record IsCountedIn (x : Scenario) (n : ℕ) (s : State) (a : ℕ) : Type 0 where
+  turns : ℕ
+  few : turns ≤ n
+  made : (run All x n s).last.turn - s.turn ≡ turns
+  is : executed (run All x n s).notes a ≡ turns_executing x a turns s
+
+counted_in : (x : Scenario) (n : ℕ) (s : State) (a : ℕ) → Sane x.setup s → IsCountedIn x n s a
+counted_in x n s a h =
     let m = run_of_turns All x n s in
     let last = ap (λ (z : State). z.turn) m.last ∙ turns_made x m.turns s h in
-    let count : (run All x n s).last.turn - s.turn ≡ m.turns = omega (arith, last) in
-    without_turns a (run All x n s).notes ∙ ap (count_by (is_at a)) m.notes ∙ in_turns a x m.turns s ∙ ap (λ k. turns_executing x a k s) (sym count)
+    record {
+      turns = m.turns;
+      few = m.few;
+      made = omega (arith, last);
+      is = without_turns a (run All x n s).notes ∙ ap (count_by (is_at a)) m.notes ∙ in_turns a x m.turns s;
+    }
+
+pub in_run : (x : Scenario) (n : ℕ) (s : State) (a : ℕ) → Sane x.setup s → executed (run All x n s).notes a ≡ turns_executing x a ((run All x n s).last.turn - s.turn) s
+in_run x n s a h = let m = counted_in x n s a h in m.is ∙ ap (λ k. turns_executing x a k s) (sym m.made)
+
+-- so they are at most as many as the run may have
+pub few_in_run : (x : Scenario) (n : ℕ) (s : State) (a : ℕ) → Sane x.setup s → executed (run All x n s).notes a ≤ n
+unfolding turns_executing
+few_in_run x n s a h =
+    let m = counted_in x n s a h in
+    let few = m.few in
+    let most = count_by-le-length (λ (k : ℕ). is_executed x a (state_after All x k s)) (range_with_len 0 m.turns) in
+    omega (arith, few, most, m.is, length-range_with_len 0 m.turns)

@@ -1,4 +1,10 @@
-pub mod Growing
 mod Quiet
 mod QuietRows
+pub mod Adding
+pub mod Counting
 pub mod Executing
+pub mod Growing
+pub mod Knowing
+pub mod Marking
+pub mod Numbered
+pub mod Resting

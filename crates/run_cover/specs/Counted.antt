@@ -1,11 +1,18 @@
--- How often the instruction at each address was executed, as the notes of a run tell it.
-use Rattle.std.specs.Prelude.{◌≡◌, ℕ, ◌+◌, ◌*◌, ◌<◌, ◌==◌, Bool, false, List, length, slice_index, count_by, if◌then◌else◌}
+-- How often the instruction at each address was executed, taken and faulted at, as the notes of a run tell it.
+use Rattle.std.specs.Prelude.{◌≡◌, ℕ, ◌+◌, ◌^◌, ◌-◌, ◌<◌, ◌==◌, ◌&&◌, ◌||◌, not, Bool, false, nat_lt, min, List, [], ◌∷◌, length, slice_index, slice_index_or, count_by, if◌then◌else◌, Option, Some, None}
 use Rattle.kernel_abi.specs.declared.Note.{Note}
 use Rattle.kernel_abi.specs.declared.Note.TheVariants as note
-use Rattle.outside_io.specs.Outside.{raised}
-use Rattle.board_run.specs.Counting.{Grew}
-use Rattle.run_cover.specs.declared.places.Places.{Places}
+use Rattle.run_cover.specs.declared.counts.Begun.{Begun}
+use Rattle.run_cover.specs.declared.counts.Count.{Count}
+use Rattle.run_cover.specs.declared.counts.Counts.{Counts}
+use Rattle.run_cover.specs.declared.counts.What.{What}
+use Rattle.run_cover.specs.declared.counts.What.TheVariants.{Executed, Taken, Faulted}
 use Rattle.run_cover.specs.declared.covering.Cover.{Cover}
+use Rattle.run_cover.specs.Marked.{IsUnmarked}
+use Rattle.run_cover.specs.Places.{place_of, is_place, address_of}
+use Rattle.run_cover.specs.Ways.{decoded, is_conditional}
+
+-- ## executed
 
 -- the note tells of the instruction at an address
 abbrev pub is_at : ℕ → Note → Bool
@@ -16,39 +23,124 @@ is_at a _ = false
 abbrev pub executed : List (ℕ × Note) → ℕ → ℕ
 executed notes a = count_by (λ n. is_at a n.1) notes
 
--- ## a table of counts: the k-th is that of the address `base + 2 * k`
+-- ## taken and faulted: what the other notes of a turn tell of the instruction that a task has begun in it
 
-abbrev pub count_at : Places → ℕ → ℕ
-count_at p k = slice_index p.counts.items k
+-- the instruction that is begun after a note: the task's fault ends it, and so do its registers, which are noted last
+abbrev pub begun_after : Option Begun → Note → Option Begun
+begun_after o (note.Insn task at code) = Some record { task = task; at = at; code = code }
+begun_after (Some b) (note.Fault task fault) = if b.task == task then None else Some b
+begun_after o (note.High registers n z c v) = None
+begun_after o _ = o
 
--- so many places from a base on, and nothing was counted
-pub record IsBlank (base places : ℕ) (p : Places) : Type 0 where
-  pub base_is : p.base ≡ base
-  pub as_many : length p.counts.items ≡ places
-  pub none : (k : ℕ) → count_at p k ≡ 0
+-- the task faulted at the instruction at an address
+abbrev pub faults_at : ℕ → Note → Option Begun → Bool
+faults_at a (note.Fault task fault) (Some b) = b.at == a && b.task == task
+faults_at a _ _ = false
 
--- an instruction at an address more
-pub record IsCounted (before : Places) (at : ℕ) (now : Places) : Type 0 where
-  pub base_is : now.base ≡ before.base
+-- a conditional branch behind which the task does not stand afterwards, when its PC is that one
+abbrev pub is_taken : Begun → ℕ → Bool
+is_taken b pc = not (pc == b.at + 2) && is_conditional (decoded b.code)
+
+-- the branch at an address was taken: its registers end with its PC
+abbrev pub takes_at : ℕ → Note → Option Begun → Bool
+takes_at a (note.High registers n z c v) (Some b) = b.at == a && is_taken b (slice_index registers 7)
+takes_at a _ _ = false
+
+-- how many notes pass a test of themselves and of the instruction that is begun then
+unfoldable pub times : (Note → Option Begun → Bool) → Option Begun → List (ℕ × Note) → ℕ
+times p o [] = 0
+times p o (n ∷ notes) = (if p n.1 o then 1 else 0) + times p (begun_after o n.1) notes
+
+-- in so many turns of a run the task faulted at the instruction at an address, and in so many the branch there was taken
+abbrev pub faulted : List (ℕ × Note) → ℕ → ℕ
+faulted notes a = times (faults_at a) None notes
+
+abbrev pub taken : List (ℕ × Note) → ℕ → ℕ
+taken notes a = times (takes_at a) None notes
+
+-- ## all three of an address; what is no place has none
+
+abbrev pub no_count : Count
+no_count = record { executed = 0; taken = 0; faulted = 0 }
+
+unfoldable pub counts : List (ℕ × Note) → ℕ → Count
+counts notes a = if is_place a then record { executed = executed notes a; taken = taken notes a; faulted = faulted notes a } else no_count
+
+-- one that was executed and faulted each time leads nowhere
+abbrev pub leads_on : Count → Bool
+leads_on c = c.executed == 0 || nat_lt c.faulted c.executed
+
+-- ## a table of counts, by the numbers of places
+
+abbrev pub item_at : Counts → ℕ → Count
+item_at t k = slice_index_or t.counts.items k no_count
+
+abbrev pub count_at : Counts → Option ℕ → Count
+count_at t None = no_count
+count_at t (Some k) = item_at t k
+
+-- what it tells of an address
+unfoldable pub count_of : Counts → ℕ → Count
+count_of t a = count_at t (place_of a)
+
+-- nothing was counted
+pub record IsNewlyCounted (t : Counts) : Type 0 where
+  pub as_many : length t.counts.items ≡ 655360
+  pub none : (k : ℕ) → item_at t k ≡ no_count
+  pub begun : t.begun ≡ None
+
+-- one more in 32 bits, and at most to their end
+abbrev pub raised : ℕ → ℕ
+raised n = min (n + 1) (2 ^ 32 - 1)
+
+abbrev pub raised_in : What → Count → Count
+raised_in Executed c = record c { executed = raised c.executed }
+raised_in Taken c = record c { taken = raised c.taken }
+raised_in Faulted c = record c { faulted = raised c.faulted }
+
+-- one more at an address
+pub record IsCounted (before : Counts) (at : ℕ) (what : What) (now : Counts) : Type 0 where
+  pub begun : now.begun ≡ before.begun
   pub as_many : length now.counts.items ≡ length before.counts.items
-  pub counts : (k : ℕ) → k < length before.counts.items → count_at now k ≡ (if at == before.base + 2 * k then raised (count_at before k) 1 else count_at before k)
+  pub counts : (k : ℕ) → k < length before.counts.items → k < 655360 → item_at now k ≡ (if at == address_of k then raised_in what (item_at before k) else item_at before k)
 
--- each count rose by the notes of its address
-pub record HaveGrown (before : Places) (notes : List (ℕ × Note)) (now : Places) : Type 0 where
-  pub base_is : now.base ≡ before.base
+-- one more where a test holds
+abbrev pub raised_if : Bool → ℕ → ℕ
+raised_if b n = if b then raised n else n
+
+-- what a note tells of an address, where an instruction was begun before it
+abbrev pub counted_in : Option Begun → Note → ℕ → Count → Count
+counted_in o n a c = record { executed = raised_if (is_at a n) c.executed; taken = raised_if (takes_at a n o) c.taken; faulted = raised_if (faults_at a n o) c.faulted }
+
+-- a note was told
+pub record HeardNote (before : Counts) (n : Note) (now : Counts) : Type 0 where
+  pub begun : now.begun ≡ begun_after before.begun n
   pub as_many : length now.counts.items ≡ length before.counts.items
-  pub counts : (k : ℕ) → k < length before.counts.items → Grew (count_at before k) (executed notes (before.base + 2 * k)) (count_at now k)
+  pub counts : (k : ℕ) → k < length before.counts.items → k < 655360 → item_at now k ≡ counted_in before.begun n (address_of k) (item_at before k)
 
--- each count is what a function tells of its address
-pub record Tells (p : Places) (f : ℕ → ℕ) : Type 0 where
-  pub counts : (k : ℕ) → k < length p.counts.items → count_at p k ≡ f (p.base + 2 * k)
+-- it rose by so many, where 32 bits hold it
+abbrev pub Grew : ℕ → ℕ → ℕ → Type 0
+Grew before by now = before + by < 2 ^ 32 → now ≡ before + by
 
--- ## those of flash, at most 2^20 bytes from 0x08000000 on, and of RAM, at most 2^18 from 0x20000000 on
+-- a count rose by what notes tell of its address, where an instruction was begun before them
+pub record HasGrown (o : Option Begun) (notes : List (ℕ × Note)) (a : ℕ) (before now : Count) : Type 0 where
+  pub executed : Grew before.executed (executed notes a) now.executed
+  pub taken : Grew before.taken (times (takes_at a) o notes) now.taken
+  pub faulted : Grew before.faulted (times (faults_at a) o notes) now.faulted
+
+-- the instruction that is begun after notes
+unfoldable pub begun_at_end : Option Begun → List (ℕ × Note) → Option Begun
+begun_at_end o [] = o
+begun_at_end o (n ∷ notes) = begun_at_end (begun_after o n.1) notes
+
+-- these notes were told
+pub record Heard (before : Counts) (notes : List (ℕ × Note)) (now : Counts) : Type 0 where
+  pub begun : now.begun ≡ begun_at_end before.begun notes
+  pub as_many : length now.counts.items ≡ length before.counts.items
+  pub counts : (k : ℕ) → k < length before.counts.items → k < 655360 → HasGrown before.begun notes (address_of k) (item_at before k) (item_at now k)
+
+-- ## before a run
 
 pub record IsNew (c : Cover) : Type 0 where
-  pub flash : IsBlank 0x08000000 524288 c.flash
-  pub ram : IsBlank 0x20000000 131072 c.ram
-
-pub record Heard (before : Cover) (notes : List (ℕ × Note)) (now : Cover) : Type 0 where
-  pub flash : HaveGrown before.flash notes now.flash
-  pub ram : HaveGrown before.ram notes now.ram
+  pub counts : IsNewlyCounted c.counts
+  pub marks : IsUnmarked c.marks

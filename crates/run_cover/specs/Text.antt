@@ -1,6 +1,7 @@
--- The text of a cover: each different region of code, by ascending base, with how often what stands there was executed (docs/FORMATS.md, Cover).
-use Rattle.std.specs.Prelude.{ℕ, ◌+◌, ◌-◌, ◌*◌, ◌/◌, ◌^◌, ◌==◌, ◌&&◌, ◌||◌, not, Bool, if◌then◌else◌, List, [], ◌++◌, codes, decimal, min, Option, find}
-use Rattle.std.specs.List.{flat_map, range_with_len}
+-- The text of a cover: each different region of code, by ascending base, with how often each known instruction was executed
+-- (docs/FORMATS.md, Cover). Counts and what is known are told by functions of the address.
+use Rattle.std.specs.Prelude.{ℕ, ◌+◌, ◌-◌, ◌*◌, ◌/◌, ◌==◌, ◌&&◌, ◌||◌, not, Bool, nat_lt, if◌then◌else◌, List, [], ◌++◌, codes, decimal, min, Option, find, fold}
+use Rattle.std.specs.List.{flat_map, position_or_len, range_with_len}
 use Rattle.std.specs.Option.{option_map_or}
 use Rattle.region_check.specs.declared.Region.{Region}
 use Rattle.mem_banks.specs.Memory.{Memory}
@@ -8,69 +9,108 @@ use Rattle.thumb_insn.specs.Table.{is_wide}
 use Rattle.trace_text.specs.Text.{hex, code_decoded, decoded_text}
 use Rattle.task_table.specs.State.{Setup}
 use Rattle.board_model.specs.Run.{Run}
-use Rattle.board_run.specs.MemoryText.{byte_of, regions_of}
-use Rattle.run_cover.specs.Counted.{executed}
+use Rattle.board_run.specs.MemoryText.{regions_of}
+use Rattle.run_cover.specs.declared.counts.Count.{Count}
+use Rattle.run_cover.specs.declared.totals.Totals.{Totals}
+use Rattle.run_cover.specs.Counted.{counts}
+use Rattle.run_cover.specs.Totals.{added, no_totals, totals_in}
+use Rattle.run_cover.specs.Ways.{half_at, insn_code, is_conditional, stands_at}
 
--- ## a place
-
-abbrev pub half_at : Memory → ℕ → ℕ
-half_at m a = byte_of m a + 256 * byte_of m (a + 1)
-
--- the code of what stands at an address: of one halfword, or of two with the first in the high half
-abbrev pub insn_code : Memory → ℕ → ℕ
-insn_code m a = if is_wide (half_at m a) then half_at m a * 2 ^ 16 + half_at m (a + 2) else half_at m a
+-- ## a known instruction
 
 -- a stroke where it was never executed
 abbrev pub count_text : ℕ → List ℕ
 count_text n = if n == 0 then codes "-" else decimal n
 
+-- `; taken <k>` of a conditional branch that was executed
+abbrev pub taken_text : Bool → Count → List ℕ
+taken_text conditional c = if conditional && nat_lt 0 c.executed then codes "; taken " ++ decimal c.taken else []
+
+-- `; faulted <k>` where the task faulted at it
+abbrev pub faulted_text : ℕ → List ℕ
+faulted_text n = if n == 0 then [] else codes "; faulted " ++ decimal n
+
 -- `<count> <address h> <text>`
-unfoldable pub place_line : Memory → ℕ → ℕ → List ℕ
-place_line m n a = count_text n ++ codes " " ++ hex a ++ codes " " ++ decoded_text a (code_decoded (insn_code m a)) ++ codes "\n"
+unfoldable pub insn_line : Memory → Count → ℕ → List ℕ
+insn_line m c a = count_text c.executed ++ codes " " ++ hex a ++ codes " " ++ decoded_text a (code_decoded (insn_code m a)) ++ taken_text (is_conditional (stands_at m a)) c ++ faulted_text c.faulted ++ codes "\n"
 
--- where it was not executed, a halfword of zeros has no line, and none that is behind the first of two, unless it is the first of the region
-abbrev pub is_silent : Memory → Bool → ℕ → Bool
-is_silent m first a = half_at m a == 0 || (not first && is_wide (half_at m (a - 2)))
+-- ## what belongs to none
 
-abbrev pub place_text : Memory → ℕ → Bool → ℕ → List ℕ
-place_text m n first a = if n == 0 && is_silent m first a then [] else place_line m n a
+-- the halfword at an address belongs to a known instruction: it is its first or its second
+abbrev pub is_taken_up : Memory → (ℕ → Bool) → ℕ → Bool
+is_taken_up m k a = k a || (k (a - 2) && is_wide (half_at m (a - 2)))
 
--- ## a region, where the counts are told by a function of the address
+-- how many of n halfwords from an address on belong to none in a row
+unfoldable pub rest_len : Memory → (ℕ → Bool) → ℕ → ℕ → ℕ
+rest_len m k a n = position_or_len (λ i. is_taken_up m k (a + 2 * i)) (range_with_len 0 n)
 
-abbrev pub row_at : Memory → (ℕ → ℕ) → ℕ → ℕ → List ℕ
-row_at m f base j = place_text m (f (base + 2 * j)) (j == 0) (base + 2 * j)
+-- `rest <address h> <n>`
+unfoldable pub rest_line : ℕ → ℕ → List ℕ
+rest_line a n = codes "rest " ++ hex a ++ codes " " ++ decimal n ++ codes "\n"
 
-unfoldable pub rows_text : Memory → (ℕ → ℕ) → ℕ → ℕ → List ℕ
-rows_text m f base n = flat_map (row_at m f base) (range_with_len 0 n)
+-- there begin some: the halfword is the first of the region, or the one before belongs to an instruction
+abbrev pub begins_rest : Memory → (ℕ → Bool) → ℕ → ℕ → Bool
+begins_rest m k a j = not (is_taken_up m k a) && (j == 0 || is_taken_up m k (a - 2))
+
+-- ## a region
+
+-- the lines of the j-th of n places from a base on
+abbrev pub place_text : Memory → (ℕ → Count) → (ℕ → Bool) → ℕ → ℕ → ℕ → List ℕ
+place_text m c k n j a = if k a then insn_line m (c a) a else (if begins_rest m k a j then rest_line a (2 * rest_len m k a (n - j)) else [])
+
+abbrev pub row_at : Memory → (ℕ → Count) → (ℕ → Bool) → ℕ → ℕ → ℕ → List ℕ
+row_at m c k base n j = place_text m c k n j (base + 2 * j)
+
+unfoldable pub rows_text : Memory → (ℕ → Count) → (ℕ → Bool) → ℕ → ℕ → List ℕ
+rows_text m c k base n = flat_map (row_at m c k base n) (range_with_len 0 n)
 
 -- `code <base h> <size>`
 unfoldable pub code_line : Region → List ℕ
 code_line r = codes "code " ++ hex r.base ++ codes " " ++ decimal r.size ++ codes "\n"
 
--- its places, of so many that are left in its bank
-abbrev pub place_count : Region → ℕ → ℕ
-place_count r left = min (r.size / 2) left
+-- `<a> of <b> instructions, <c> of <d> ways`
+unfoldable pub totals_text : Totals → List ℕ
+totals_text t = decimal t.executed ++ codes " of " ++ decimal t.known ++ codes " instructions, " ++ decimal t.gone ++ codes " of " ++ decimal t.ways ++ codes " ways\n"
 
-unfoldable pub region_text : Memory → (ℕ → ℕ) → Region → ℕ → List ℕ
-region_text m f r left = code_line r ++ rows_text m f r.base (place_count r left)
+-- its places: no region of code is longer than the flash, which has at most 2^20 bytes
+abbrev pub place_count : Region → ℕ
+place_count r = min r.size 1048576 / 2
+
+abbrev pub region_totals : Memory → (ℕ → Count) → (ℕ → Bool) → Region → Totals
+region_totals m c k r = totals_in m c k r.base (place_count r)
+
+unfoldable pub region_text : Memory → (ℕ → Count) → (ℕ → Bool) → Region → List ℕ
+region_text m c k r = code_line r ++ (rows_text m c k r.base (place_count r) ++ (codes "covered " ++ totals_text (region_totals m c k r)))
 
 -- ## which regions
 
-abbrev pub is_code : ℕ → Region → Bool
-is_code base r = r.base == base && r.rights.execute
+abbrev pub is_code_at : ℕ → Region → Bool
+is_code_at base r = r.base == base && r.rights.execute
 
 -- the region of code that begins at an address: where several tasks have it, it is one region
 unfoldable pub code_at : Setup → ℕ → Option Region
-code_at g base = find (is_code base) (regions_of g)
+code_at g base = find (is_code_at base) (regions_of g)
 
--- of the k-th multiple of 256 bytes in a bank of so many places
-abbrev pub base_text : Setup → Memory → (ℕ → ℕ) → ℕ → ℕ → ℕ → List ℕ
-base_text g m f base places k = option_map_or (λ r. region_text m f r (places - 128 * k)) (code_at g (base + 256 * k)) []
+-- where a region may begin: at a multiple of 256 bytes, 4096 of the flash and then 1024 of the RAM
+unfoldable pub base_of : ℕ → ℕ
+base_of i = if nat_lt i 4096 then 0x08000000 + 256 * i else 0x20000000 + 256 * (i - 4096)
 
--- a bank of so many multiples of 256 bytes
-unfoldable pub places_text : Setup → Memory → (ℕ → ℕ) → ℕ → ℕ → List ℕ
-places_text g m f base n = flat_map (base_text g m f base (128 * n)) (range_with_len 0 n)
+abbrev pub base_text : Setup → Memory → (ℕ → Count) → (ℕ → Bool) → ℕ → List ℕ
+base_text g m c k i = option_map_or (region_text m c k) (code_at g (base_of i)) []
 
--- what a run executed: the flash, and then the RAM
-unfoldable pub cover_text : Setup → Run → List ℕ
-cover_text g r = places_text g r.last.memory (executed r.notes) 0x08000000 4096 ++ places_text g r.last.memory (executed r.notes) 0x20000000 1024
+unfoldable pub bases_text : Setup → Memory → (ℕ → Count) → (ℕ → Bool) → ℕ → List ℕ
+bases_text g m c k n = flat_map (base_text g m c k) (range_with_len 0 n)
+
+-- of all regions; what lies in two counts twice
+abbrev pub base_totals : Setup → Memory → (ℕ → Count) → (ℕ → Bool) → ℕ → Totals
+base_totals g m c k i = option_map_or (region_totals m c k) (code_at g (base_of i)) no_totals
+
+unfoldable pub all_totals : Setup → Memory → (ℕ → Count) → (ℕ → Bool) → ℕ → Totals
+all_totals g m c k n = fold (λ t i. added t (base_totals g m c k i)) no_totals (range_with_len 0 n)
+
+unfoldable pub listing_text : Setup → Memory → (ℕ → Count) → (ℕ → Bool) → List ℕ
+listing_text g m c k = bases_text g m c k 5120 ++ (codes "in all " ++ totals_text (all_totals g m c k 5120))
+
+-- what a run executed, where a test tells what is known of it
+abbrev pub cover_text : Setup → Run → (ℕ → Bool) → List ℕ
+cover_text g r k = listing_text g r.last.memory (counts r.notes) k

@@ -1,30 +1,30 @@
 //! A run, and how often each instruction was executed in it.
-ghost use Rattle.std.specs.Prelude.{◌≡◌, ◌≤◌, ◌-◌, IfOk};
+ghost use Rattle.std.specs.Prelude.{◌≡◌, ◌≤◌, ◌-◌, ℕ, Bool, IfOk};
 ghost use Rattle.outside_io.specs.Outside.{Pushes, HasCause};
 ghost use Rattle.task_table.specs.State.{State};
 ghost use Rattle.board_model.specs.declared.outcomes.Level.TheVariants.{All};
 ghost use Rattle.board_model.specs.Script.{Scenario};
-ghost use Rattle.board_model.specs.Run.{run, at_turn};
+ghost use Rattle.board_model.specs.Run.{run};
 ghost use Rattle.board_core.specs.Stands.{Stands, Stood, turns_of};
 ghost use Rattle.board_core.specs.Data.{boxed};
-ghost use Rattle.run_cover.specs.Counted.{IsNew, Heard};
+ghost use Rattle.run_cover.specs.Counted.{IsNew};
+ghost use Rattle.run_cover.specs.Known.{IsKnownOf};
 ghost use Rattle.run_cover.specs.Text.{cover_text};
 
-use crate::listing::push_places;
-use crate::places::Places;
+use crate::counts::Counts;
+use crate::known::Marks;
+use crate::listing::push_listing;
 use board_core::{Board, End, Level};
-use board_run::{Teller, play};
-use kernel_abi::Note;
-use mem_banks::{FLASH, RAM};
+use board_run::play;
 use outside_io::{Failed, Sink};
 use std::alloc::{AllocError, Global};
-use trace_text::TurnLines;
 
-/// How often a run executed what stands at each even address of the flash and of the RAM: eight bytes each, 5 MiB together.
+/// What a run executed at each even address of the flash and of the RAM, twelve bytes each, 7.5 MiB together; and which of these are
+/// known to be code. All of it is made once.
 #[derive(Drop)]
 pub struct Cover {
-    pub flash: Places,
-    pub ram: Places,
+    pub counts: Counts,
+    pub marks: Marks,
 }
 
 impl Cover {
@@ -36,43 +36,16 @@ impl Cover {
     pub fn open(alloc: Global) -> Result<Cover, AllocError>
         ensures { IfOk result IsNew }
     {
-        let flash = Places::open(alloc, FLASH, 524_288)?;
-        let ram = Places::open(alloc, RAM, 131_072)?;
-        Ok(Cover { flash, ram })
+        let counts = Counts::open(alloc)?;
+        let marks = Marks::open(alloc)?;
+        Ok(Cover { counts, marks })
     }
-
-    // The notes of a turn.
-    fn hear_all(&mut self, turn: u32, notes: &[Note])
-        ensures { Heard self.old (at_turn turn notes.now) self.new }
-    {
-        for note in notes {
-            self.flash.hear(note);
-            self.ram.hear(note);
-        }
-    }
-}
-
-/// Counting never fails.
-impl Teller for Cover {
-    ghost heard = { Heard };
-
-    ghost broke = { λ _ _ _. ⊥ };
-
-    fn tell(&mut self, turn: u32, notes: &[Note], _lines: &mut TurnLines) -> Result<(), Failed> {
-        self.hear_all(turn, notes);
-        Ok(())
-    }
-
-    fn pass_on(&mut self) -> Result<(), Failed> {
-        Ok(())
-    }
-
-    fn hears_in_parts() {}
 }
 
 /// Turns up to the end of the run, of which none is told, and then its cover (docs/FORMATS.md, Cover): each region of code, and
-/// what stands in it with how often it was executed, a line and a push each. That number is the number of turns in which a task
-/// executed it, by `each_count_is_a_number_of_turns`. After a failing push nothing more is pushed; the run was made whole.
+/// what is known to be an instruction in it with how often it was executed, a line and a push each. That number is the number of
+/// turns in which a task executed it, by `each_count_is_a_number_of_turns`; what is known is what was executed, and what the direct
+/// ways of known instructions lead to, and nothing else. After a failing push nothing more is pushed; the run was made whole.
 ///
 /// # Errors
 ///
@@ -89,7 +62,7 @@ pub fn write_cover<S: Sink>(
     requires new { IsNew cover.old }
 
     ensures text { (x : Scenario) (s : State) → Stands (boxed shown) x board.old s →
-        Pushes (S.seen out.old).written (S.seen out.new).written (cover_text x.setup (run All x (limit - s.turn) s)) result }
+        (k : ℕ → Bool) × IsKnownOf x.setup (run All x (limit - s.turn) s) k × Pushes (S.seen out.old).written (S.seen out.new).written (cover_text x.setup (run All x (limit - s.turn) s) k) result }
     ensures end { (x : Scenario) (s : State) → Stands (boxed shown) x board.old s →
         IfOk result (λ e. e ≡ (run All x (limit - s.turn) s).end) }
 
@@ -98,8 +71,8 @@ pub fn write_cover<S: Sink>(
     ensures within { turns_of board.new ≤ limit }
     ensures cause { HasCause (S.seen out.old).faults (S.seen out.new).faults result }
 {
-    let end = play(board, limit, Level::All, cover)?;
-    push_places(board, &cover.flash, 4096, out)?;
-    push_places(board, &cover.ram, 1024, out)?;
+    let end = play(board, limit, Level::All, &mut cover.counts)?;
+    cover.marks.find(board, &cover.counts);
+    push_listing(board, cover, out)?;
     Ok(end)
 }

@@ -1,11 +1,15 @@
-//! How often each instruction of an image was executed in a run (docs/FORMATS.md, Cover).
+//! How often each instruction of an image was executed in a run, and what of it is known to be code (docs/FORMATS.md, Cover).
 #![tactic(auto)]
 
+mod counts;
 mod covering;
+mod known;
 mod laws;
 mod line;
 mod listing;
 mod places;
+mod totals;
+mod ways;
 
 pub use covering::{Cover, write_cover};
-pub use laws::each_count_is_a_number_of_turns;
+pub use laws::{each_count_is_a_number_of_turns, taken_and_faulted_are_executed};

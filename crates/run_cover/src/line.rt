@@ -1,16 +1,17 @@
 //! Lines of a cover, each built in a buffer of 160 bytes that is empty before.
-ghost use Rattle.std.specs.Prelude.{◌≡◌, ◌≤◌, ◌<◌, ◌+◌, ◌^◌, ◌++◌, [], Bool, ℕ, length};
+ghost use Rattle.std.specs.Prelude.{◌≡◌, ◌≤◌, ◌<◌, ◌+◌, ◌^◌, ◌++◌, []};
 ghost use Rattle.arrayvec.specs.ArrayString.{array_string_len};
-ghost use Rattle.thumb_insn.specs.Table.{is_wide};
 ghost use Rattle.task_table.specs.State.{State};
 ghost use Rattle.board_model.specs.Script.{Scenario};
 ghost use Rattle.board_core.specs.Stands.{Stands};
 ghost use Rattle.board_core.specs.Data.{boxed};
-ghost use Rattle.run_cover.specs.Text.{code_line, count_text, half_at, insn_code, place_line};
+ghost use Rattle.run_cover.specs.Text.{code_line, count_text, faulted_text, insn_line, rest_line, taken_text, totals_text};
 
+use crate::counts::Count;
+use crate::totals::Totals;
+use crate::ways::{insn_code, is_conditional, stands_at};
 use arrayvec::ArrayString;
 use board_core::Board;
-use board_run::byte_at;
 use region_check::Region;
 use trace_text::{push_decimal, push_hex, push_text};
 
@@ -29,8 +30,37 @@ pub fn code_line(region: &Region, out: &mut Line)
     out.push_str("\n");
 }
 
+/// The line of bytes that belong to no known instruction.
+#[tactic(auto, unfolding(crate::specs::Text::rest_line))]
+pub fn rest_line(addr: u32, bytes: u32, out: &mut Line)
+    requires { out.old.bytes ≡ [] }
+    ensures { out.new.bytes ≡ rest_line addr bytes }
+{
+    out.push_str("rest ");
+    push_hex(out, addr);
+    out.push_str(" ");
+    push_decimal(out, u64::from(bytes));
+    out.push_str("\n");
+}
+
+/// How much was executed, behind so much text.
+#[tactic(auto, unfolding(crate::specs::Text::totals_text))]
+pub fn push_totals(totals: Totals, out: &mut Line)
+    requires { array_string_len out.old ≤ 20 }
+    ensures { out.new.bytes ≡ out.old.bytes ++ totals_text totals }
+{
+    push_decimal(out, totals.executed);
+    out.push_str(" of ");
+    push_decimal(out, totals.known);
+    out.push_str(" instructions, ");
+    push_decimal(out, totals.gone);
+    out.push_str(" of ");
+    push_decimal(out, totals.ways);
+    out.push_str(" ways\n");
+}
+
 // A count, or a stroke where there was none.
-fn push_count(count: u64, out: &mut Line)
+fn push_count(count: u32, out: &mut Line)
     requires { array_string_len out.old + 20 ≤ 160 }
     ensures bytes { out.new.bytes ≡ out.old.bytes ++ count_text count }
     ensures len { array_string_len out.new ≤ array_string_len out.old + 20 }
@@ -38,50 +68,50 @@ fn push_count(count: u64, out: &mut Line)
     if count == 0 {
         out.push_str("-");
     } else {
-        push_decimal(out, count);
+        push_decimal(out, u64::from(count));
     }
 }
 
-/// The halfword at an address.
-pub fn half_at(board: &Board, addr: u32) -> u16
-    requires { addr + 1 < 2 ^ 32 }
-    ensures { (x : Scenario) (s : State) → Stands (boxed shown) x board.now s → result ≡ half_at s.memory addr }
+// How often a conditional branch that was executed was taken.
+fn push_taken(conditional: bool, count: Count, out: &mut Line)
+    requires { array_string_len out.old + 28 ≤ 160 }
+    ensures bytes { out.new.bytes ≡ out.old.bytes ++ taken_text conditional count }
+    ensures len { array_string_len out.new ≤ array_string_len out.old + 28 }
 {
-    u16::from(byte_at(board, addr)) + 256 * u16::from(byte_at(board, addr + 1))
-}
-
-/// Whether a halfword is the first of two.
-pub fn is_wide(first: u16) -> bool
-    ensures { result ≡ is_wide first }
-{
-    first / 2048 >= 29
-}
-
-// The code of what stands at an address: of one halfword, or of two with the first in the high half.
-fn insn_code(board: &Board, addr: u32) -> u32
-    requires { addr + 3 < 2 ^ 32 }
-    ensures { (x : Scenario) (s : State) → Stands (boxed shown) x board.now s → result ≡ insn_code s.memory addr }
-{
-    let first = half_at(board, addr);
-    if is_wide(first) {
-        u32::from(first) * 0x1_0000 + u32::from(half_at(board, addr + 2))
-    } else {
-        u32::from(first)
+    if conditional && 0 < count.executed {
+        out.push_str("; taken ");
+        push_decimal(out, u64::from(count.taken));
     }
 }
 
-/// The line of a place: how often it was executed, its address, and what stands there.
-#[tactic(auto, unfolding(crate::specs::Text::place_line))]
-pub fn place_line(board: &Board, count: u64, addr: u32, out: &mut Line)
+// How often the task faulted, if it did.
+fn push_faulted(count: u32, out: &mut Line)
+    requires { array_string_len out.old + 30 ≤ 160 }
+    ensures bytes { out.new.bytes ≡ out.old.bytes ++ faulted_text count }
+    ensures len { array_string_len out.new ≤ array_string_len out.old + 30 }
+{
+    if count != 0 {
+        out.push_str("; faulted ");
+        push_decimal(out, u64::from(count));
+    }
+}
+
+/// The line of a known instruction: how often it was executed, its address, what stands there, and how often a conditional branch
+/// was taken, or the task faulted.
+#[tactic(auto, unfolding(crate::specs::Text::insn_line))]
+pub fn insn_line(board: &Board, count: Count, addr: u32, out: &mut Line)
     requires inside { addr + 3 < 2 ^ 32 }
     requires empty { out.old.bytes ≡ [] }
-    ensures { (x : Scenario) (s : State) → Stands (boxed shown) x board.now s → out.new.bytes ≡ place_line s.memory count addr }
+    ensures { (x : Scenario) (s : State) → Stands (boxed shown) x board.now s → out.new.bytes ≡ insn_line s.memory count addr }
 {
     let code = insn_code(board, addr);
-    push_count(count, out);
+    let conditional = is_conditional(stands_at(board, addr));
+    push_count(count.executed, out);
     out.push_str(" ");
     push_hex(out, addr);
     out.push_str(" ");
     push_text(out, addr, code);
+    push_taken(conditional, count, out);
+    push_faulted(count.faulted, out);
     out.push_str("\n");
 }

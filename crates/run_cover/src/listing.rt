@@ -1,17 +1,22 @@
-//! The regions of code, place by place.
-ghost use Rattle.std.specs.Prelude.{◌≡◌, ◌≤◌, ◌<◌, ◌+◌, ◌*◌, ◌-◌, ◌^◌, ℕ, Bool, ◌&&◌, not, length, find, IfSome};
+//! The regions of code, line by line.
+ghost use Rattle.std.specs.Prelude.{◌≡◌, ◌≤◌, ◌<◌, ◌+◌, ◌*◌, ◌-◌, ◌^◌, ◌++◌, codes, IfSome};
 ghost use Rattle.outside_io.specs.Outside.{Pushes, HasCause};
 ghost use Rattle.task_table.specs.State.{State};
 ghost use Rattle.board_model.specs.Script.{Scenario};
 ghost use Rattle.board_core.specs.Stands.{Stands};
 ghost use Rattle.board_core.specs.Data.{boxed};
-ghost use Rattle.run_cover.specs.Counted.{Tells};
-ghost use Rattle.run_cover.specs.Text.{base_text, code_line, code_at, is_code, is_silent, place_count, place_text, places_text, region_text, rows_text};
+ghost use Rattle.run_cover.specs.Counted.{count_of};
+ghost use Rattle.run_cover.specs.Marked.{known_of};
+ghost use Rattle.run_cover.specs.Text.{all_totals, base_of, base_text, base_totals, bases_text, begins_rest, code_at, code_line, insn_line, is_code_at, is_taken_up, listing_text, place_count, place_text, region_text, region_totals, rest_len, rest_line, rows_text, totals_text};
+ghost use Rattle.run_cover.specs.Totals.{AreAtMost};
 
-use crate::line::{Line, code_line, half_at, is_wide, place_line};
-use crate::places::Places;
+use crate::covering::Cover;
+use crate::line::{Line, code_line, insn_line, push_totals, rest_line};
+use crate::totals::{Totals, totals_in};
+use crate::ways::{half_at, is_wide};
 use board_core::Board;
 use board_run::{RegionTest, first_region};
+use mem_banks::{FLASH, RAM};
 use outside_io::{Failed, Sink};
 use region_check::Region;
 
@@ -22,7 +27,7 @@ struct CodeAt {
 }
 
 impl RegionTest for CodeAt {
-    ghost holds = { λ t r. is_code t.base r };
+    ghost holds = { λ t r. is_code_at t.base r };
 
     fn passes(&self, region: &Region) -> bool {
         region.base == self.base && region.rights.execute
@@ -38,54 +43,97 @@ fn code_at(board: &Board, base: u32) -> Option<Region>
     first_region(board, &CodeAt { base })
 }
 
-// Whether the halfword at an address has no line where it was not executed: it is zero, or behind the first of two.
-fn is_silent(board: &Board, first: bool, addr: u32) -> bool
+// Whether the halfword at an address belongs to a known instruction.
+fn is_taken_up(board: &Board, cover: &Cover, addr: u32) -> bool
     requires above { 2 ≤ addr }
     requires inside { addr + 3 < 2 ^ 32 }
-    ensures { (x : Scenario) (s : State) → Stands (boxed shown) x board.now s → result ≡ is_silent s.memory first addr }
+    ensures { (x : Scenario) (s : State) → Stands (boxed shown) x board.now s → result ≡ is_taken_up s.memory (known_of cover.now.marks) addr }
 {
-    half_at(board, addr) == 0 || (!first && is_wide(half_at(board, addr - 2)))
+    cover.marks.has(addr) || (cover.marks.has(addr - 2) && is_wide(half_at(board, addr - 2)))
 }
 
-// The line of a place, if it has one.
-fn push_place<S: Sink>(
-    board: &Board,
-    count: u64,
-    first: bool,
-    addr: u32,
-    out: &mut S,
-) -> Result<(), Failed>
+// How many of so many halfwords from an address on belong to none in a row.
+fn rest_len(board: &Board, cover: &Cover, addr: u32, most: u32) -> u32
     requires above { 2 ≤ addr }
+    requires inside { addr + 2 * most + 3 < 2 ^ 32 }
+    ensures len { (x : Scenario) (s : State) → Stands (boxed shown) x board.now s → result ≡ rest_len s.memory (known_of cover.now.marks) addr most }
+    ensures few { result ≤ most }
+{
+    for i in 0..most {
+        if is_taken_up(board, cover, addr + 2 * i) {
+            return i;
+        }
+    }
+    most
+}
+
+// Whether some begin at an address, which is that of a region's first halfword, or not.
+fn begins_rest(board: &Board, cover: &Cover, addr: u32, j: u32) -> bool
+    requires above { 4 ≤ addr }
     requires inside { addr + 3 < 2 ^ 32 }
-    ensures bytes { (x : Scenario) (s : State) → Stands (boxed shown) x board.now s → Pushes (S.seen out.old).written (S.seen out.new).written (place_text s.memory count first addr) result }
+    ensures { (x : Scenario) (s : State) → Stands (boxed shown) x board.now s → result ≡ begins_rest s.memory (known_of cover.now.marks) addr j }
+{
+    !is_taken_up(board, cover, addr) && (j == 0 || is_taken_up(board, cover, addr - 2))
+}
+
+fn push_insn<S: Sink>(board: &Board, cover: &Cover, addr: u32, out: &mut S) -> Result<(), Failed>
+    requires inside { addr + 3 < 2 ^ 32 }
+    ensures bytes { (x : Scenario) (s : State) → Stands (boxed shown) x board.now s → Pushes (S.seen out.old).written (S.seen out.new).written (insn_line s.memory (count_of cover.now.counts addr) addr) result }
     ensures cause { HasCause (S.seen out.old).faults (S.seen out.new).faults result }
 {
-    if count == 0 && is_silent(board, first, addr) {
-        return Ok(());
-    }
     let mut line = Line::new();
-    place_line(board, count, addr, &mut line);
+    insn_line(board, cover.counts.at(addr), addr, &mut line);
     out.push(line.as_str().as_bytes())
 }
 
-// So many places from the one with a number on.
-fn push_rows<S: Sink>(
+fn push_rest<S: Sink>(addr: u32, bytes: u32, out: &mut S) -> Result<(), Failed>
+    ensures bytes { Pushes (S.seen out.old).written (S.seen out.new).written (rest_line addr bytes) result }
+    ensures cause { HasCause (S.seen out.old).faults (S.seen out.new).faults result }
+{
+    let mut line = Line::new();
+    rest_line(addr, bytes, &mut line);
+    out.push(line.as_str().as_bytes())
+}
+
+// The line of the j-th of so many places, if it has one.
+fn push_place<S: Sink>(
     board: &Board,
-    places: &Places,
-    from: usize,
-    count: usize,
+    cover: &Cover,
+    count: u32,
+    j: u32,
+    addr: u32,
     out: &mut S,
 ) -> Result<(), Failed>
-    requires inside { from + count ≤ length places.now.counts.items }
-    requires above { 2 ≤ places.now.base }
-    requires below { places.now.base + 2 * length places.now.counts.items + 3 < 2 ^ 32 }
-    ensures bytes { (f : ℕ → ℕ) → Tells places.now f → (x : Scenario) (s : State) → Stands (boxed shown) x board.now s → Pushes (S.seen out.old).written (S.seen out.new).written (rows_text s.memory f (places.now.base + 2 * from) count) result }
+    requires one { j < count }
+    requires above { 4 ≤ addr }
+    requires inside { addr + 2 * (count - j) + 3 < 2 ^ 32 }
+    ensures bytes { (x : Scenario) (s : State) → Stands (boxed shown) x board.now s → Pushes (S.seen out.old).written (S.seen out.new).written (place_text s.memory (count_of cover.now.counts) (known_of cover.now.marks) count j addr) result }
+    ensures cause { HasCause (S.seen out.old).faults (S.seen out.new).faults result }
+{
+    if cover.marks.has(addr) {
+        return push_insn(board, cover, addr, out);
+    }
+    if begins_rest(board, cover, addr, j) {
+        return push_rest(addr, 2 * rest_len(board, cover, addr, count - j), out);
+    }
+    Ok(())
+}
+
+// So many places from a base on.
+fn push_rows<S: Sink>(
+    board: &Board,
+    cover: &Cover,
+    base: u32,
+    count: u32,
+    out: &mut S,
+) -> Result<(), Failed>
+    requires above { 4 ≤ base }
+    requires inside { base + 2 * count + 3 < 2 ^ 32 }
+    ensures bytes { (x : Scenario) (s : State) → Stands (boxed shown) x board.now s → Pushes (S.seen out.old).written (S.seen out.new).written (rows_text s.memory (count_of cover.now.counts) (known_of cover.now.marks) base count) result }
     ensures cause { HasCause (S.seen out.old).faults (S.seen out.new).faults result }
 {
     for j in 0..count {
-        let k = from + j;
-        let addr = places.base + 2 * (k as u32);
-        push_place(board, places.at(k), j == 0, addr, out)?;
+        push_place(board, cover, count, j, base + 2 * j, out)?;
     }
     Ok(())
 }
@@ -99,68 +147,136 @@ fn push_code_line<S: Sink>(region: &Region, out: &mut S) -> Result<(), Failed>
     out.push(line.as_str().as_bytes())
 }
 
-// How many of the places that are left are a region's.
-fn place_count(region: &Region, left: usize) -> usize
-    ensures count { result ≡ place_count region.now left }
-    ensures few { result ≤ left }
+fn push_covered<S: Sink>(totals: Totals, out: &mut S) -> Result<(), Failed>
+    ensures bytes { Pushes (S.seen out.old).written (S.seen out.new).written (codes "covered " ++ totals_text totals) result }
+    ensures cause { HasCause (S.seen out.old).faults (S.seen out.new).faults result }
 {
-    ((region.size / 2) as usize).min(left)
+    let mut line = Line::new();
+    line.push_str("covered ");
+    push_totals(totals, &mut line);
+    out.push(line.as_str().as_bytes())
 }
 
-// The lines of a region that begins at the place with a number.
+fn push_in_all<S: Sink>(totals: Totals, out: &mut S) -> Result<(), Failed>
+    ensures bytes { Pushes (S.seen out.old).written (S.seen out.new).written (codes "in all " ++ totals_text totals) result }
+    ensures cause { HasCause (S.seen out.old).faults (S.seen out.new).faults result }
+{
+    let mut line = Line::new();
+    line.push_str("in all ");
+    push_totals(totals, &mut line);
+    out.push(line.as_str().as_bytes())
+}
+
+// How many places a region has.
+fn place_count(region: &Region) -> u32
+    ensures count { result ≡ place_count region.now }
+    ensures few { result ≤ 524288 }
+{
+    region.size.min(1_048_576) / 2
+}
+
+fn region_totals(board: &Board, cover: &Cover, region: &Region) -> Totals
+    requires below { region.now.base < 2 ^ 31 }
+    ensures is { (x : Scenario) (s : State) → Stands (boxed shown) x board.now s → result ≡ region_totals s.memory (count_of cover.now.counts) (known_of cover.now.marks) region.now }
+    ensures few { AreAtMost 1048576 result }
+{
+    totals_in(board, cover, region.base, place_count(region))
+}
+
+// The lines of a region.
 fn push_region<S: Sink>(
     board: &Board,
-    places: &Places,
+    cover: &Cover,
     region: &Region,
-    from: usize,
     out: &mut S,
 ) -> Result<(), Failed>
-    requires inside { from ≤ length places.now.counts.items }
-    requires at { region.now.base ≡ places.now.base + 2 * from }
-    requires above { 2 ≤ places.now.base }
-    requires below { places.now.base + 2 * length places.now.counts.items + 3 < 2 ^ 32 }
-    ensures bytes { (f : ℕ → ℕ) → Tells places.now f → (x : Scenario) (s : State) → Stands (boxed shown) x board.now s → Pushes (S.seen out.old).written (S.seen out.new).written (region_text s.memory f region.now (length places.now.counts.items - from)) result }
+    requires above { 4 ≤ region.now.base }
+    requires below { region.now.base < 2 ^ 31 }
+    ensures bytes { (x : Scenario) (s : State) → Stands (boxed shown) x board.now s → Pushes (S.seen out.old).written (S.seen out.new).written (region_text s.memory (count_of cover.now.counts) (known_of cover.now.marks) region.now) result }
     ensures cause { HasCause (S.seen out.old).faults (S.seen out.new).faults result }
 {
     push_code_line(region, out)?;
-    let count = place_count(region, places.counts.len() - from);
-    push_rows(board, places, from, count, out)
+    push_rows(board, cover, region.base, place_count(region), out)?;
+    push_covered(region_totals(board, cover, region), out)
 }
 
-// The lines of the region that begins at the k-th multiple of 256 bytes, if one does.
-fn push_base<S: Sink>(board: &Board, places: &Places, k: usize, out: &mut S) -> Result<(), Failed>
-    requires inside { 128 * k ≤ length places.now.counts.items }
-    requires above { 2 ≤ places.now.base }
-    requires below { places.now.base + 2 * length places.now.counts.items + 3 < 2 ^ 32 }
-    ensures bytes { (f : ℕ → ℕ) → Tells places.now f → (x : Scenario) (s : State) → Stands (boxed shown) x board.now s → Pushes (S.seen out.old).written (S.seen out.new).written (base_text x.setup s.memory f places.now.base (length places.now.counts.items) k) result }
-    ensures cause { HasCause (S.seen out.old).faults (S.seen out.new).faults result }
+/// So many multiples of 256 bytes the flash has.
+const FLASH_BASES: u32 = 4096;
+
+/// So many both banks have.
+const BASES: u32 = 5120;
+
+// The i-th address where a region may begin.
+#[tactic(auto, unfolding(crate::specs::Text::base_of))]
+fn base_of(i: u32) -> u32
+    requires { i < 5120 }
+    ensures is { result ≡ base_of i }
+    ensures above { 4 ≤ result }
+    ensures below { result < 2 ^ 31 }
 {
-    match code_at(board, places.base + 256 * (k as u32)) {
-        None => Ok(()),
-        Some(region) => push_region(board, places, &region, 128 * k, out),
+    if i < FLASH_BASES {
+        FLASH + 256 * i
+    } else {
+        RAM + 256 * (i - FLASH_BASES)
     }
 }
 
-/// Each different region of code among these places by ascending base: a line `code <base> <size>`, and then a line for each
-/// place that was executed or is not zero (docs/FORMATS.md, Cover), one push each. After a failing push nothing more is pushed.
+// The lines of the region that begins there, if one does.
+fn push_base<S: Sink>(board: &Board, cover: &Cover, i: u32, out: &mut S) -> Result<(), Failed>
+    requires inside { i < 5120 }
+    ensures bytes { (x : Scenario) (s : State) → Stands (boxed shown) x board.now s → Pushes (S.seen out.old).written (S.seen out.new).written (base_text x.setup s.memory (count_of cover.now.counts) (known_of cover.now.marks) i) result }
+    ensures cause { HasCause (S.seen out.old).faults (S.seen out.new).faults result }
+{
+    match code_at(board, base_of(i)) {
+        None => Ok(()),
+        Some(region) => push_region(board, cover, &region, out),
+    }
+}
+
+// What of it was executed.
+fn base_totals(board: &Board, cover: &Cover, i: u32) -> Totals
+    requires inside { i < 5120 }
+    ensures is { (x : Scenario) (s : State) → Stands (boxed shown) x board.now s → result ≡ base_totals x.setup s.memory (count_of cover.now.counts) (known_of cover.now.marks) i }
+    ensures few { AreAtMost 1048576 result }
+{
+    match code_at(board, base_of(i)) {
+        None => Totals::none(),
+        Some(region) => region_totals(board, cover, &region),
+    }
+}
+
+fn push_bases<S: Sink>(board: &Board, cover: &Cover, out: &mut S) -> Result<(), Failed>
+    ensures bytes { (x : Scenario) (s : State) → Stands (boxed shown) x board.now s → Pushes (S.seen out.old).written (S.seen out.new).written (bases_text x.setup s.memory (count_of cover.now.counts) (known_of cover.now.marks) 5120) result }
+    ensures cause { HasCause (S.seen out.old).faults (S.seen out.new).faults result }
+{
+    for i in 0..BASES {
+        push_base(board, cover, i, out)?;
+    }
+    Ok(())
+}
+
+#[tactic(auto, unfolding(crate::specs::Text::all_totals))]
+fn all_totals(board: &Board, cover: &Cover) -> Totals
+    ensures { (x : Scenario) (s : State) → Stands (boxed shown) x board.now s → result ≡ all_totals x.setup s.memory (count_of cover.now.counts) (known_of cover.now.marks) 5120 }
+{
+    let mut totals = Totals::none();
+    for i in 0..BASES {
+        totals = totals.added(base_totals(board, cover, i));
+    }
+    totals
+}
+
+/// Each different region of code by ascending base: a line `code <base> <size>`, a line for each known instruction and for bytes of
+/// none, and a line that says how much was executed; and then a line that says so of all (docs/FORMATS.md, Cover), one push each.
+/// After a failing push nothing more is pushed.
 ///
 /// # Errors
 ///
 /// Only where a push failed.
-pub fn push_places<S: Sink>(
-    board: &Board,
-    places: &Places,
-    bases: usize,
-    out: &mut S,
-) -> Result<(), Failed>
-    requires all { 128 * bases ≡ length places.now.counts.items }
-    requires above { 2 ≤ places.now.base }
-    requires below { places.now.base + 2 * length places.now.counts.items + 3 < 2 ^ 32 }
-    ensures bytes { (f : ℕ → ℕ) → Tells places.now f → (x : Scenario) (s : State) → Stands (boxed shown) x board.now s → Pushes (S.seen out.old).written (S.seen out.new).written (places_text x.setup s.memory f places.now.base bases) result }
+pub fn push_listing<S: Sink>(board: &Board, cover: &Cover, out: &mut S) -> Result<(), Failed>
+    ensures bytes { (x : Scenario) (s : State) → Stands (boxed shown) x board.now s → Pushes (S.seen out.old).written (S.seen out.new).written (listing_text x.setup s.memory (count_of cover.now.counts) (known_of cover.now.marks)) result }
     ensures cause { HasCause (S.seen out.old).faults (S.seen out.new).faults result }
 {
-    for k in 0..bases {
-        push_base(board, places, k, out)?;
-    }
-    Ok(())
+    push_bases(board, cover, out)?;
+    push_in_all(all_totals(board, cover), out)
 }

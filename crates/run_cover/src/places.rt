@@ -1,63 +1,40 @@
-//! A count for each place where an instruction may stand.
-ghost use Rattle.std.specs.Prelude.{◌≡◌, ◌≤◌, ◌<◌, ℕ, ◌∷◌, [], length, IfOk};
-ghost use Rattle.board_model.specs.Run.{at_turn};
-ghost use Rattle.run_cover.specs.Counted.{IsBlank, IsCounted, HaveGrown, count_at};
+//! Where an instruction may stand: the even addresses of the flash and of the RAM, and their numbers in a table.
+ghost use Rattle.std.specs.Prelude.{◌≡◌, ◌<◌};
+ghost use Rattle.run_cover.specs.Places.{address_of, place_of};
 
-use kernel_abi::Note;
-use std::alloc::{AllocError, Global};
+use mem_banks::{FLASH, RAM};
 
-/// How often the instruction at each even address from a base on was executed: up to 2^64 - 1, which no run comes near.
-#[derive(Drop)]
-pub struct Places {
-    pub base: u32,
-    pub counts: Vec<u64>,
+/// So many places the flash has, of 2^20 bytes at most.
+const FLASH_PLACES: usize = 524_288;
+
+/// So many both banks have together: the RAM has 2^18 bytes at most.
+pub const PLACES: usize = 655_360;
+
+/// The number of the place at an address, where there is one: those of the flash come first.
+pub fn place_of(addr: u32) -> Option<usize>
+    ensures { result ≡ place_of addr }
+{
+    if addr % 2 != 0 {
+        return None;
+    }
+    if FLASH <= addr && addr < FLASH + 0x10_0000 {
+        return Some(((addr - FLASH) / 2) as usize);
+    }
+    if RAM <= addr && addr < RAM + 0x4_0000 {
+        return Some(FLASH_PLACES + ((addr - RAM) / 2) as usize);
+    }
+    None
 }
 
-impl Places {
-    /// So many places, of which none was counted yet.
-    ///
-    /// # Errors
-    ///
-    /// Only want of memory.
-    pub fn open(alloc: Global, base: u32, places: usize) -> Result<Places, AllocError>
-        ensures { IfOk result (IsBlank base places) }
-    {
-        let counts = Vec::from_elem(alloc, 0u64, places)?;
-        Ok(Places { base, counts })
-    }
-
-    /// How often the instruction at the k-th place was executed.
-    pub fn at(&self, k: usize) -> u64
-        requires { k < length self.now.counts.items }
-        ensures { result ≡ count_at self.now k }
-    {
-        self.counts[k]
-    }
-
-    // The instruction at an address was executed.
-    fn count(&mut self, at: u32)
-        ensures { IsCounted self.old at self.new }
-    {
-        if at < self.base {
-            return;
-        }
-        let offset = at - self.base;
-        if offset % 2 != 0 {
-            return;
-        }
-        let k = (offset / 2) as usize;
-        if k < self.counts.len() {
-            self.counts[k] = self.counts[k].saturating_add(1);
-        }
-    }
-
-    /// A note was told.
-    pub fn hear(&mut self, note: &Note)
-        ensures { (turn : ℕ) → HaveGrown self.old ((turn, note.now) ∷ []) self.new }
-    {
-        match note {
-            Note::Insn { at, .. } => self.count(*at),
-            _ => {}
-        }
+/// The address of the place with a number.
+#[tactic(auto, unfolding(crate::specs::Places::address_of))]
+pub fn address_of(place: usize) -> u32
+    requires { place < 655360 }
+    ensures { result ≡ address_of place }
+{
+    if place < FLASH_PLACES {
+        FLASH + 2 * (place as u32)
+    } else {
+        RAM + 2 * ((place - FLASH_PLACES) as u32)
     }
 }

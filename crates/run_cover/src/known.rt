@@ -1,0 +1,201 @@
+//! What is known to be code: what was executed, and what the direct ways of known instructions lead to.
+ghost use Rattle.std.specs.Prelude.{◌≡◌, ◌≤◌, ◌<◌, ◌+◌, ◌^◌, ◌&&◌, true, false, IfOk};
+ghost use Rattle.task_table.specs.State.{State};
+ghost use Rattle.board_model.specs.Script.{Scenario};
+ghost use Rattle.board_core.specs.Stands.{Stands};
+ghost use Rattle.board_core.specs.Data.{boxed};
+ghost use Rattle.region_check.specs.declared.Right.TheVariants.{Execute};
+ghost use Rattle.region_check.specs.Rights.{gives};
+ghost use Rattle.run_cover.specs.Counted.{count_of};
+ghost use Rattle.run_cover.specs.Known.{HasBegun, HasFollowed, HasLed, HaveBegun, IsKnown, is_code, is_in_code, is_insn, is_whole, lies_in_code};
+ghost use Rattle.run_cover.specs.Marked.{AreMarks, IsMarked, IsNext, IsUnmarked, known_of, work};
+ghost use Rattle.run_cover.specs.Places.{is_place};
+
+use crate::counts::Counts;
+use crate::places::{PLACES, address_of, place_of};
+use crate::ways::{half_at, is_wide, stands_at, ways_at};
+use board_core::Board;
+use board_run::{RegionTest, first_region};
+use region_check::Region;
+use std::alloc::{AllocError, Global};
+
+/// Those in which a task may execute the byte at an address.
+#[derive(Drop)]
+struct CodeAround {
+    addr: u32,
+}
+
+impl RegionTest for CodeAround {
+    ghost holds = { λ t r. gives Execute t.addr r };
+
+    fn passes(&self, region: &Region) -> bool {
+        region.base <= self.addr && self.addr - region.base < region.size && region.rights.execute
+    }
+}
+
+// Whether some task may execute the byte at an address.
+fn is_in_code(board: &Board, addr: u32) -> bool
+    ensures { (x : Scenario) (s : State) → Stands (boxed shown) x board.now s → result ≡ is_in_code x.setup addr }
+{
+    first_region(board, &CodeAround { addr }).is_some()
+}
+
+// Whether the second halfword of what stands at an address may be executed too, if it has a second.
+fn is_whole(board: &Board, addr: u32) -> bool
+    requires { addr + 2 < 2 ^ 32 }
+    ensures { (x : Scenario) (s : State) → Stands (boxed shown) x board.now s → result ≡ is_whole x.setup s.memory addr }
+{
+    !is_wide(half_at(board, addr)) || is_in_code(board, addr + 2)
+}
+
+// Whether each of its halfwords may be.
+fn lies_in_code(board: &Board, addr: u32) -> bool
+    requires { addr + 2 < 2 ^ 32 }
+    ensures { (x : Scenario) (s : State) → Stands (boxed shown) x board.now s → result ≡ lies_in_code x.setup s.memory addr }
+{
+    is_in_code(board, addr) && is_whole(board, addr)
+}
+
+// Whether an instruction stands there that is not a halfword of zeros.
+fn is_insn(board: &Board, addr: u32) -> bool
+    requires { addr + 3 < 2 ^ 32 }
+    ensures { (x : Scenario) (s : State) → Stands (boxed shown) x board.now s → result ≡ is_insn s.memory addr }
+{
+    half_at(board, addr) != 0 && stands_at(board, addr).is_some()
+}
+
+// Whether it does so, and in regions of code.
+fn is_insn_in_code(board: &Board, addr: u32) -> bool
+    requires { addr + 3 < 2 ^ 32 }
+    ensures { (x : Scenario) (s : State) → Stands (boxed shown) x board.now s → result ≡ (is_insn s.memory addr && lies_in_code x.setup s.memory addr) }
+{
+    is_insn(board, addr) && lies_in_code(board, addr)
+}
+
+// Whether one stands at a place of a region of code.
+fn is_code(board: &Board, addr: u32) -> bool
+    ensures code { (x : Scenario) (s : State) → Stands (boxed shown) x board.now s → result ≡ is_code x.setup s.memory addr }
+    ensures place { result ≡ true → is_place addr ≡ true }
+{
+    match place_of(addr) {
+        None => false,
+        Some(_) => is_insn_in_code(board, addr),
+    }
+}
+
+/// Which places are known, and those of them whose ways are still to be followed. Each is put there at most once, so there is room
+/// for all of them from the start.
+#[derive(Drop)]
+pub struct Marks {
+    pub known: Vec<bool>,
+    pub todo: Vec<u32>,
+}
+
+impl Marks {
+    /// Nothing is known yet.
+    ///
+    /// # Errors
+    ///
+    /// Only want of memory.
+    pub fn open(alloc: Global) -> Result<Marks, AllocError>
+        ensures { IfOk result IsUnmarked }
+    {
+        let known = Vec::from_elem(alloc, false, PLACES)?;
+        let todo = Vec::with_capacity(alloc, PLACES)?;
+        Ok(Marks { known, todo })
+    }
+
+    /// Whether the place at an address is known; what is no place is not.
+    pub fn has(&self, addr: u32) -> bool
+        ensures { result ≡ known_of self.now addr }
+    {
+        match place_of(addr) {
+            None => false,
+            Some(k) => k < self.known.len() && self.known[k],
+        }
+    }
+
+    // A place that was not known is known from now on.
+    fn mark(&mut self, addr: u32)
+        requires marks { AreMarks self.old }
+        requires place { is_place addr ≡ true }
+        requires new { known_of self.old addr ≡ false }
+        ensures { IsMarked self.old addr self.new }
+    {
+        if let Some(k) = place_of(addr) {
+            self.known[k] = true;
+            self.todo.push_reserved(addr);
+        }
+    }
+
+    // A place where an instruction was executed is known.
+    fn begin(&mut self, counts: &Counts, addr: u32)
+        requires marks { AreMarks self.old }
+        requires place { is_place addr ≡ true }
+        ensures { HasBegun (count_of counts.now) self.old addr self.new }
+    {
+        if counts.at(addr).executed > 0 && !self.has(addr) {
+            self.mark(addr);
+        }
+    }
+
+    // All such places are.
+    fn begin_all(&mut self, counts: &Counts)
+        requires { IsUnmarked self.old }
+        ensures { HaveBegun (count_of counts.now) self.new }
+    {
+        for place in 0..PLACES {
+            self.begin(counts, address_of(place));
+        }
+    }
+
+    // A way leads to a place, which is known from now on if an instruction stands there.
+    fn lead(&mut self, board: &Board, way: Option<u32>)
+        requires marks { AreMarks self.old }
+        ensures marks { AreMarks self.new }
+        ensures less { work self.new ≤ work self.old }
+        ensures led { (x : Scenario) (s : State) → Stands (boxed shown) x board.now s → HasLed x.setup s.memory way self.old self.new }
+    {
+        let Some(addr) = way else {
+            return;
+        };
+        if !self.has(addr) && is_code(board, addr) {
+            self.mark(addr);
+        }
+    }
+
+    // The ways of a known instruction are followed.
+    fn follow(&mut self, board: &Board, counts: &Counts, addr: u32)
+        requires marks { AreMarks self.old }
+        requires known { known_of self.old addr ≡ true }
+        ensures marks { AreMarks self.new }
+        ensures less { work self.new ≤ work self.old }
+        ensures followed { (x : Scenario) (s : State) → Stands (boxed shown) x board.now s → HasFollowed x.setup s.memory (count_of counts.now) addr self.old self.new }
+    {
+        if !counts.at(addr).leads_on() {
+            return;
+        }
+        let ways = ways_at(board, addr);
+        self.lead(board, ways.behind);
+        self.lead(board, ways.target);
+    }
+
+    // A known place whose ways are still to be followed.
+    fn next(&mut self) -> Option<u32>
+        requires { AreMarks self.old }
+        ensures { IsNext self.old result self.new }
+    {
+        self.todo.pop()
+    }
+
+    /// What is known, once a run was counted.
+    pub fn find(&mut self, board: &Board, counts: &Counts)
+        requires { IsUnmarked self.old }
+        ensures { (x : Scenario) (s : State) → Stands (boxed shown) x board.now s → IsKnown x.setup s.memory (count_of counts.now) (known_of self.new) }
+    {
+        self.begin_all(counts);
+        while let Some(addr) = self.next() {
+            self.follow(board, counts, addr);
+        }
+    }
+}
