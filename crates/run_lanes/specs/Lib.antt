@@ -1,4 +1,5 @@
 pub mod Kept
+pub mod Names
 pub mod Seen
 pub mod Stretches
 pub mod Timeline

@@ -5,7 +5,6 @@ use Rattle.std.specs.List.{flat_map, range_with_len}
 use Rattle.serde_json.specs.Data.{Data, unsigned, string, object, member, no_members}
 use Rattle.serde_json.specs.Data as json
 use Rattle.serde_json.specs.Written.{compact_text}
-use Rattle.kernel_abi.specs.declared.Fault.{Fault}
 use Rattle.kernel_abi.specs.declared.Fed.{Fed}
 use Rattle.kernel_abi.specs.declared.Handled.{Handled}
 use Rattle.kernel_abi.specs.declared.Note.{Note}
@@ -17,6 +16,7 @@ use Rattle.run_lanes.specs.declared.lanes.Offer.{Offer}
 use Rattle.run_lanes.specs.declared.lanes.Stretch.{Stretch}
 use Rattle.run_lanes.specs.declared.word.Word.{Word}
 use Rattle.run_lanes.specs.declared.word.Word.TheVariants as word
+use Rattle.run_lanes.specs.Names.{fault_name, syscall_name}
 use Rattle.run_lanes.specs.Words.{Sight, is_same, sights}
 
 -- ## events, each behind the `,` and the LF that end the line before it
@@ -72,7 +72,7 @@ unfoldable pub server_in : ℕ → List (Option Offer) → ℕ
 server_in call [] = 0
 server_in call (offer ∷ offers) = if is_of_call call offer then server_thread_of offer else server_in call offers
 
--- the names of what happens at once
+-- the names of what happens at once, those of system calls and faults aside
 abbrev pub tick_name : ℕ → List ℕ
 tick_name now = codes "tick " ++ decimal now
 
@@ -85,14 +85,8 @@ in_name device byte fed = codes "in " ++ decimal device ++ codes " " ++ byte_hex
 abbrev pub out_name : ℕ → ℕ → List ℕ
 out_name device byte = codes "out " ++ decimal device ++ codes " " ++ byte_hex byte
 
-abbrev pub syscall_name : ℕ → List ℕ
-syscall_name number = codes "call " ++ decimal number
-
 abbrev pub post_name : ℕ → List ℕ
 post_name bits = codes "post" ++ spaced_hex bits
-
-abbrev pub fault_name : Fault → List ℕ
-fault_name fault = codes "fault " ++ decimal fault.number ++ spaced_hex fault.x ++ spaced_hex fault.y
 
 abbrev pub restart_name : ℕ → List ℕ
 restart_name generation = codes "restart " ++ decimal generation

@@ -6,6 +6,7 @@ mod laws;
 mod line;
 mod naming;
 mod pushing;
+mod telling;
 mod timeline;
 mod watching;
 mod word;

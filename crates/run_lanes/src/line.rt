@@ -3,9 +3,11 @@
 ghost use Rattle.std.specs.Prelude.{◌≡◌, ◌≤◌, ◌+◌, ◌++◌, ◌^◌, ◌<◌, [], length, codes};
 ghost use Rattle.arrayvec.specs.ArrayString.{array_string_len};
 ghost use Rattle.trace_text.specs.Text.{fed_name, handled_name};
-ghost use Rattle.run_lanes.specs.Timeline.{arrow_text, fault_name, in_name, instant_text, irq_name, note_text, order_text, out_name, place_text, post_name, restart_name, stretch_text, syscall_name, thread_of, tick_name};
+ghost use Rattle.run_lanes.specs.Names.{fault_name, syscall_name};
+ghost use Rattle.run_lanes.specs.Timeline.{arrow_text, in_name, instant_text, irq_name, note_text, order_text, out_name, place_text, post_name, restart_name, stretch_text, thread_of, tick_name};
 
 use crate::lanes::{Offer, client_thread, server_thread};
+use crate::telling::{push_call, push_fault};
 use crate::word::Word;
 use arrayvec::ArrayString;
 use kernel_abi::{Fault, Fed, Handled, Note};
@@ -160,8 +162,7 @@ fn syscall_line(turn: u32, task: u16, number: u32, out: &mut Line)
     ensures { out.new.bytes ≡ instant_text (syscall_name number) (thread_of task) turn }
 {
     begin_instant(out);
-    out.push_str("call ");
-    push_decimal(out, u64::from(number));
+    push_call(number, out);
     end_instant(thread_of(task), turn, out);
 }
 
@@ -182,10 +183,7 @@ fn fault_line(turn: u32, task: u16, fault: &Fault, out: &mut Line)
     ensures { out.new.bytes ≡ instant_text (fault_name fault.now) (thread_of task) turn }
 {
     begin_instant(out);
-    out.push_str("fault ");
-    push_decimal(out, u64::from(fault.number));
-    push_spaced_hex(out, fault.x);
-    push_spaced_hex(out, fault.y);
+    push_fault(fault, out);
     end_instant(thread_of(task), turn, out);
 }
 
