@@ -8,7 +8,6 @@ use Rattle.mem_banks.specs.Memory.{Memory, byte_at, is_held}
 use Rattle.task_table.specs.State.{State, Turn}
 use Rattle.board_model.specs.declared.outcomes.End.{End}
 use Rattle.board_model.specs.declared.outcomes.Level.TheVariants.{All, Calls}
-use Rattle.board_model.specs.declared.outcomes.Turned.{Turned}
 use Rattle.board_model.specs.Run.{ending, state_after, turn_after}
 use Rattle.board_model.specs.Script.{Scenario}
 use Rattle.board_model.specs.Turn.{turn, turned}
@@ -16,6 +15,9 @@ use Rattle.board_model.proofs.Further.{last_turn}
 use Rattle.board_model.proofs.Views.{less_noted-turn}
 use Rattle.board_core.specs.declared.board.Board.{Board}
 use Rattle.board_core.specs.Advanced.{IsAdvanced}
+use Rattle.board_core.specs.Changes.{change_in, runner_of}
+use Rattle.board_core.specs.declared.changes.Change.{Change}
+use Rattle.board_core.proofs.Changing.{change_told, no_change_in}
 use Rattle.board_core.specs.Data.{Shows}
 use Rattle.board_core.specs.Stands.{Stands, notes_of, turns_of}
 use Rattle.debug_core.specs.declared.answer.Answer.{Answer}
@@ -25,7 +27,7 @@ use Rattle.debug_core.specs.declared.command.Sought.{Sought}
 use Rattle.debug_core.specs.declared.command.Sought.TheVariants as sought
 use Rattle.debug_core.specs.declared.timeline.Timeline.{Timeline}
 use Rattle.debug_core.specs.Runs.{most_turns, state_at}
-use Rattle.debug_core.specs.Searched.{change_of, found, is_found, is_sought, last_found, last_of, runner_of}
+use Rattle.debug_core.specs.Searched.{found, is_found, is_sought, last_found, last_of}
 use Rattle.debug_core.specs.Searches.{CameFor, IsLastFound, WentBackFor, WentFor}
 use Rattle.debug_core.specs.Times.{IsAt}
 use Rattle.debug_core.proofs.Ahead.{ending_same, next, reaches, same_memory, same_next, same_notes, sane_at, turned_same}
@@ -59,35 +61,6 @@ module _ {X : Type 0} {H : X → Type 0} (shown : Shows X H) (x : Scenario) wher
   whole_notes t n h = same_notes All x h.state.0 (state_at x n) h.state.1.sane (sane_at x h.start n) h.state.2
 
   -- ---- what is found in a turn
-
-  -- by what the byte was and is on a board
-  changed : (t t' : Timeline X H) (n at : ℕ) (before after : Option ℕ) (ran : Turned) (answer : Option Answer) → (h : IsAt shown x t n) → IsAt shown x t' (n + 1) →
-      before ≡ byte_at h.state.0.memory at → after ≡ byte_at (next x h.state.0).memory at → ran ≡ turned x h.state.0 →
-      answer ≡ option_map (λ change. Changed n (runner_of ran) at change.0 change.1) (change_of before after) → WentFor shown x (sought.Change at) n t' answer
-  changed t t' n at before after ran answer h there b a r is =
-      let u = h.state.0 in
-      let s = state_at x n in
-      let old : before ≡ byte_at s.memory at = b ∙ ap (λ (m : Memory). byte_at m at) (same_memory u s h.state.2) in
-      let last = same_next x u s h.state.1.sane (sane_at x h.start n) h.state.2 in
-      let new : after ≡ byte_at (next x s).memory at = a ∙ ap (λ (m : Memory). byte_at m at) (same_memory (next x u) (next x s) last) in
-      let ran_same : ran ≡ turned x s = r ∙ turned_same x u s h.state.2 in
-      record {
-        last = n;
-        later = omega arith;
-        at = there;
-        none = λ turn a b. absurd (omega (arith, a, b));
-        is = is ∙ (λ i. option_map (λ change. Changed n (runner_of (ran_same i)) at change.0 change.1) (change_of (old i) (new i)));
-      }
-
-  pub changed_none : (t t' : Timeline X H) (n at : ℕ) (before after : Option ℕ) (ran : Turned) (answer : Option Answer) → (h : IsAt shown x t n) → IsAt shown x t' (n + 1) → before ≡ byte_at h.state.0.memory at → after ≡ byte_at (next x h.state.0).memory at → ran ≡ turned x h.state.0 →
-      None ≡ change_of before after → answer ≡ None → WentFor shown x (sought.Change at) n t' answer
-  changed_none t t' n at before after ran answer h there b a r is none = changed t t' n at before after ran answer h there b a r (none ∙ ap (λ o. option_map (λ change. Changed n (runner_of ran) at change.0 change.1) o) is)
-
-  pub changed_some : (t t' : Timeline X H) (n at : ℕ) (before after : Option ℕ) (ran : Turned) (k old new : ℕ) (task : Option ℕ) → (h : IsAt shown x t n) → IsAt shown x t' (n + 1) → before ≡ byte_at h.state.0.memory at → after ≡ byte_at (next x h.state.0).memory at →
-      ran ≡ turned x h.state.0 → k ≡ n → task ≡ runner_of ran → Some (old, new) ≡ change_of before after → WentFor shown x (sought.Change at) n t' (Some (Changed k task at old new))
-  changed_some t t' n at before after ran k old new task h there b a r turn who is =
-      changed t t' n at before after ran (Some (Changed k task at old new)) h there b a r
-      ((λ i. Some (Changed (turn i) (who i) at old new)) ∙ ap (λ o. option_map (λ change. Changed n (runner_of ran) at change.0 change.1) o) is)
 
   -- by what is noted of the last of some turns, where those before noted nothing
   noted : (t t' : Timeline X H) (from n : ℕ) (kind : NoteKind) (number : Option ℕ) (notes : List Note) (answer : Option Answer) → (h : IsAt shown x t from) → IsAt shown x t' (from + n + 1) → ending x 1 h.state.0 ≡ None →
@@ -127,6 +100,32 @@ module _ {X : Type 0} {H : X → Type 0} (shown : Shows X H) (x : Scenario) wher
     pub noted_some : (kind : NoteKind) (number : Option ℕ) (notes : List Note) (k : ℕ) (note : Note) → notes ≡ notes_of b → Some note ≡ find (is_sought kind number) notes → k ≡ from + n → WentFor shown x (sought.Note kind number) from record t { board = b } (Some (Told k note))
     noted_some kind number notes k note same is turn =
         noted t record t { board = b } from n kind number notes (Some (Told k note)) h there_then on a.goes_on a.nothing (same ∙ a.notes) (ap (λ m. Some (Told m note)) turn ∙ ap (λ o. option_map (λ note. Told (from + n) note) o) is)
+
+  -- of turns on end, none of which before the last changed the byte at an address
+  module _ (t : Timeline X H) (from n at : ℕ) (b : Board X H) (h : IsAt shown x t from) (first : ending x 1 (state_at x from) ≡ None) (a : IsAdvanced shown Calls x n h.state.0 b) (few : from + n < most_turns)
+      (untouched : (k : ℕ) → k < n → byte_at (turn_after Calls x k h.state.0).state.memory at ≡ byte_at h.state.0.memory at) where
+    change_as : (k : ℕ) → k ≤ n → change_in x at (state_after Calls x k h.state.0) ≡ change_in x at (state_at x (from + k))
+    change_as k le =
+        let f = follows_after shown x t from n h (ending_same x 1 h.state.0 (state_at x from) h.state.2 ∙ first) a.goes_on k le in
+        let u = state_after Calls x k h.state.0 in
+        let s = state_at x (from + k) in
+        let old = same_memory u s f.same in
+        let new = same_memory (next x u) (next x s) (same_next x u s f.sane (sane_at x h.start (from + k)) f.same) in
+        change_told x at s (runner_of (turned x u)) (byte_at u.memory at) (byte_at (next x u).memory at) (ap runner_of (turned_same x u s f.same)) (ap (λ (m : Memory). byte_at m at) old) (ap (λ (m : Memory). byte_at m at) new)
+
+    pub changed : (change : Option Change) (answer : Option Answer) → change ≡ change_in x at (state_after Calls x n h.state.0) → answer ≡ option_map (λ change. Changed (from + n) change.task at change.old change.new) change → WentFor shown x (sought.Change at) from record t { board = b } answer
+    changed change answer told is =
+        record {
+          last = from + n;
+          later = omega arith;
+          at = there_then t from n b h first a few;
+          none = λ turn low high.
+              let k : ℕ = turn - from in
+              let same : from + k ≡ turn = omega (arith, low) in
+              subst (λ m. found x (sought.Change at) m ≡ None) same
+              (ap (λ o. option_map (λ change. Changed (from + k) change.task at change.old change.new) o) (sym (change_as k (omega (arith, low, high))) ∙ sym (no_change_in x h.state.0 n at untouched k (omega (arith, low, high)))));
+          is = is ∙ ap (λ o. option_map (λ change. Changed (from + n) change.task at change.old change.new) o) (told ∙ change_as n (omega arith));
+        }
 
   module _ (what : Sought) where
     -- ---- on to the first turn in which it is found

@@ -1,10 +1,10 @@
 -- Turns that a search finds, and what stands since then.
-use Rattle.std.proofs.Common.{◌≡◌, ◌∙◌, ℕ, zero, suc, ◌+◌, ◌-◌, ◌≤◌, ◌<◌, inl, inr, eqb, leb, Bool, true, false, cond, is_some, List, [], ◌∷◌, ◌++◌, length, Option, Some, None, refl, sym, ap, subst, arith}
+use Rattle.std.proofs.Common.{◌≡◌, ◌∙◌, ℕ, zero, suc, ◌+◌, ◌-◌, ◌≤◌, ◌<◌, eqb, leb, Bool, true, false, cond, is_some, List, [], ◌∷◌, ◌++◌, length, Option, Some, None, refl, sym, ap, subst, arith}
 use Rattle.std.specs.Prelude.{Contains, find, min, slice_get}
 use Rattle.std.specs.List.{range_with_len}
 use Rattle.std.specs.Option.{option_map}
 use Rattle.std.proofs.Math.ListN.{get_or-map}
-use Rattle.std.proofs.lemmas.Bool.{cases_lt, eqb-true}
+use Rattle.std.proofs.lemmas.Bool.{eqb-true}
 use Rattle.std.proofs.lemmas.List.{length-map}
 use Rattle.std.proofs.lemmas.List.Elements.{Contains-append_left, Contains-append_right}
 use Rattle.kernel_abi.specs.declared.Note.{Note}
@@ -17,17 +17,18 @@ use Rattle.board_model.specs.declared.outcomes.Level.TheVariants.{Calls}
 use Rattle.board_model.specs.Cut.{left_of}
 use Rattle.board_model.specs.Run.{Run, at_turn, ending, run, unless, with_front}
 use Rattle.board_model.specs.Script.{Scenario, start_of}
-use Rattle.board_model.specs.Turn.{turn}
+use Rattle.board_model.specs.Turn.{turn, turned}
 use Rattle.board_model.proofs.Changes.{ram_turn}
 use Rattle.board_model.proofs.RunCuts.{cut}
 use Rattle.board_model.proofs.TurnChains.{found_in, sane-after}
+use Rattle.board_core.specs.Changes.{change_by, change_of, runner_of}
 use Rattle.debug_core.specs.declared.answer.Answer.TheVariants.{Told}
 use Rattle.debug_core.specs.declared.command.Command.TheVariants.{BackFor, GoFor}
 use Rattle.debug_core.specs.declared.command.NoteKind.{NoteKind}
 use Rattle.debug_core.specs.declared.command.Sought.{Sought}
 use Rattle.debug_core.specs.declared.command.Sought.TheVariants.{Change}
 use Rattle.debug_core.specs.Runs.{forward, most_turns, state_at}
-use Rattle.debug_core.specs.Searched.{can_be, change_of, first_found, is_found, is_sought, last_found, last_of, told_at}
+use Rattle.debug_core.specs.Searched.{can_be, first_found, is_found, is_sought, last_found, last_of, told_at}
 use Rattle.debug_core.specs.Session.{Session, after, ahead, behind, gone, gone_back}
 use Rattle.debug_core.proofs.Ahead.{first_turn, makes, reaches, sane_at}
 use Rattle.debug_core.proofs.Lasts.{IsLast, last_is}
@@ -89,7 +90,9 @@ no_change f (Some a) e = absurd (cc)
 pub unchanged_since : (x : Scenario) (s : Session) (n at t u : ℕ) → behind x s n (Change at) ≡ Some t → t < u → u < s.cursor → change_of (byte_at (state_at x u).memory at) (byte_at (turn Calls x (state_at x u)).state.memory at) ≡ None
 unchanged_since x s n at t u e later lt =
     let l = behind_is x s n t (Change at) e in
-    no_change _ (change_of (byte_at (state_at x u).memory at) (byte_at (turn Calls x (state_at x u)).state.memory at)) (l.none u later (omega arith))
+    let before = byte_at (state_at x u).memory at in
+    let after = byte_at (turn Calls x (state_at x u)).state.memory at in
+    no_change _ (change_of before after) (ap is_some (no_change _ (change_by (runner_of (turned x (state_at x u))) before after) (l.none u later (omega arith))))
 
 same_byte : (a b : Option ℕ) → is_some a ≡ is_some b → change_of a b ≡ None → a ≡ b
 same_byte None None s e = refl

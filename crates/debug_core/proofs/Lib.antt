@@ -1,6 +1,7 @@
 pub mod Ahead
 pub mod Bytes
 pub mod Carried
+pub mod Cutting
 pub mod Finding
 pub mod Gone
 pub mod Hitting
@@ -15,4 +16,6 @@ pub mod Ranges
 pub mod Seen
 pub mod SoughtFor
 pub mod Standing
+pub mod Taking
+pub mod Telling
 pub mod Walk

@@ -13,6 +13,7 @@ use Rattle.debug_core.specs.declared.command.NoteKind.{NoteKind}
 use Rattle.debug_core.specs.declared.command.Sought.{Sought}
 use Rattle.debug_core.specs.declared.command.Sought.TheVariants as sought
 use Rattle.debug_core.specs.Lines.{Said, address_in, device_in, form_said, is_search, kind_in, kind_said, length_in, line_in, mem_said, named, number_in, numbered_said, said, search_of_number, search_said, task_in, turns_in, two_said, with_number, words_said}
+use Rattle.debug_core.specs.Live.{live_said}
 use Rattle.debug_core.specs.Reading.{AsksForFew, go_on, with_lines, with_said}
 use Rattle.debug_core.proofs.Walk.{no_line, one_line}
 
@@ -145,3 +146,16 @@ short_lines (line ∷ lines) cs ds number h all =
 
 pub short_read : (lines : List (List ℕ)) (ds : List Command) → with_lines [] 1 lines ≡ Ok ds → All AsksForFew ds
 short_read lines ds h = short_lines lines [] ds 1 h (λ i d lt. absurd (omega arith))
+
+-- ---- of a line that comes alone
+
+pub said_few : (line : List ℕ) (command : Command) → said line ≡ Ok (Some command) → AsksForFew command
+said_few line command e = few command (subst IsShort e (short_said line))
+
+few_where : (long : Bool) (line : List ℕ) (command : Command) → ◌≡◌ {A = Said} (if long then Err 5 else said line) (Ok (Some command)) → AsksForFew command
+few_where true line command e = absurd (cc)
+few_where false line command e = said_few line command e
+
+pub live_few : (line : List ℕ) (command : Command) → live_said line ≡ Ok (Some command) → AsksForFew command
+unfolding live_said
+live_few line command e = few_where (nat_lt 1024 (length line)) line command e

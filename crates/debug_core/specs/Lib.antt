@@ -9,3 +9,5 @@ pub mod Times
 pub mod Hits
 pub mod Searches
 pub mod Sessions
+pub mod Live
+pub mod UnderWay

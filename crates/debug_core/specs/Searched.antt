@@ -4,12 +4,11 @@ use Rattle.std.specs.List.{range_with_len}
 use Rattle.std.specs.Option.{option_map}
 use Rattle.kernel_abi.specs.declared.Note.{Note}
 use Rattle.kernel_abi.specs.declared.Note.TheVariants as note
-use Rattle.mem_banks.specs.Memory.{Memory, byte_at, is_held}
+use Rattle.mem_banks.specs.Memory.{Memory, is_held}
 use Rattle.board_model.specs.declared.outcomes.Level.TheVariants.{Calls}
-use Rattle.board_model.specs.declared.outcomes.Turned.{Turned}
-use Rattle.board_model.specs.declared.outcomes.Turned.TheVariants.{Idle, Ran}
 use Rattle.board_model.specs.Script.{Scenario}
-use Rattle.board_model.specs.Turn.{turn, turned}
+use Rattle.board_model.specs.Turn.{turn}
+use Rattle.board_core.specs.Changes.{change_in}
 use Rattle.debug_core.specs.declared.command.NoteKind.{NoteKind}
 use Rattle.debug_core.specs.declared.command.NoteKind.TheVariants as kind
 use Rattle.debug_core.specs.declared.command.Sought.{Sought}
@@ -68,18 +67,6 @@ agrees (Some wanted) (Some number) = wanted == number
 abbrev pub is_sought : NoteKind → Option ℕ → Note → Bool
 is_sought kind number note = is_of_kind kind note && agrees number (first_number note)
 
--- ---- a byte
-
--- what it was and what it is, where these are two
-abbrev pub change_of : Option ℕ → Option ℕ → Option (ℕ × ℕ)
-change_of (Some old) (Some new) = if old == new then None else Some (old, new)
-change_of _ _ = None
-
--- the task that ran
-abbrev pub runner_of : Turned → Option ℕ
-runner_of Idle = None
-runner_of (Ran task at) = Some task
-
 -- ---- a turn
 
 -- what is found in a turn of the run, as it is answered
@@ -87,10 +74,7 @@ abbrev pub told_at : Scenario → NoteKind → Option ℕ → ℕ → Option Ans
 told_at x kind number n = option_map (λ note. Told n note) (find (is_sought kind number) (turn Calls x (state_at x n)).notes)
 
 abbrev pub changed_at : Scenario → ℕ → ℕ → Option Answer
-changed_at x at n =
-    let s = state_at x n in
-    option_map (λ change. Changed n (runner_of (turned x s)) at change.0 change.1)
-    (change_of (byte_at s.memory at) (byte_at (turn Calls x s).state.memory at))
+changed_at x at n = option_map (λ change. Changed n change.task at change.old change.new) (change_in x at (state_at x n))
 
 abbrev pub found : Scenario → Sought → ℕ → Option Answer
 found x (sought.Note kind number) n = told_at x kind number n

@@ -12,13 +12,14 @@ ghost use Rattle.board_model.specs.declared.outcomes.Level.TheVariants.{Calls};
 ghost use Rattle.board_model.specs.Run.{ending, run};
 ghost use Rattle.board_model.specs.Script.{Scenario, start_of};
 ghost use Rattle.board_model.specs.Turn.{turn};
+ghost use Rattle.board_core.specs.Changes.{change_of};
 ghost use Rattle.debug_core.specs.declared.answer.Answer.TheVariants.{Told};
 ghost use Rattle.debug_core.specs.declared.command.Command.TheVariants.{BackFor, GoFor};
 ghost use Rattle.debug_core.specs.declared.command.NoteKind.{NoteKind};
 ghost use Rattle.debug_core.specs.declared.command.Sought.{Sought};
 ghost use Rattle.debug_core.specs.declared.command.Sought.TheVariants.{Change};
 ghost use Rattle.debug_core.specs.Runs.{most_turns, state_at};
-ghost use Rattle.debug_core.specs.Searched.{can_be, change_of, told_at};
+ghost use Rattle.debug_core.specs.Searched.{can_be, told_at};
 ghost use Rattle.debug_core.specs.Session.{Session, after, ahead, behind};
 
 /// Where a search back finds a turn that changed a byte, the byte at the cursor is what that turn left, and no turn since

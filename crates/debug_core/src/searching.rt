@@ -8,14 +8,14 @@ ghost use Rattle.board_model.specs.Turn.{turn};
 ghost use Rattle.board_core.specs.Data.{boxed};
 ghost use Rattle.board_core.specs.Stands.{notes_of, turns_of};
 ghost use Rattle.debug_core.specs.Runs.{state_at};
-ghost use Rattle.debug_core.specs.Searched.{agrees, can_be, change_of, first_number, is_of_kind, is_sought, runner_of};
+ghost use Rattle.debug_core.specs.Searched.{agrees, can_be, first_number, is_of_kind, is_sought};
 ghost use Rattle.debug_core.specs.Searches.{CameFor, IsLastFound, WentBackFor, WentFor};
 ghost use Rattle.debug_core.specs.Times.{IsAt};
 
 use crate::answer::Answer;
 use crate::command::{NoteKind, Sought};
 use crate::timeline::{Timeline, stop_before};
-use board_core::{Level, Turned};
+use board_core::Level;
 use kernel_abi::Note;
 
 fn is_of_kind(kind: NoteKind, note: &Note) -> bool
@@ -93,24 +93,6 @@ fn first_sought(kind: NoteKind, number: Option<u32>, notes: &[Note]) -> Option<N
         .find(|note| is_sought(kind, number, note))
 }
 
-/// The task that ran.
-fn runner_of(turned: Turned) -> Option<u16>
-    ensures { result ≡ runner_of turned }
-{
-    match turned {
-        Turned::Idle => None,
-        Turned::Ran { task, .. } => Some(task),
-    }
-}
-
-/// What a byte was and what it is, where these are two.
-fn change_of(before: Option<u8>, after: Option<u8>) -> Option<(u8, u8)>
-    ensures { result ≡ change_of before after }
-{
-    let (old, new) = (before?, after?);
-    if old == new { None } else { Some((old, new)) }
-}
-
 impl Timeline {
     /// There can be such a turn.
     pub(crate) fn can_find(&self, sought: &Sought) -> bool
@@ -146,24 +128,23 @@ impl Timeline {
         Some(Answer::Told { turn, note })
     }
 
-    /// One turn on, and what it changed of the byte at an address.
-    fn advance_past_change(&mut self, at: u32) -> Option<Answer>
-        requires from { (x : Scenario) × (turn : ℕ) × IsAt (boxed shown) x self.old turn × (ending x 1 (state_at x turn) ≡ None) × (turn < 1000000000) }
+    /// Some turns on, none of them from turn `stop` on: what the last of them changed of the byte at an address. No turn before
+    /// changed it.
+    fn advance_past_change(&mut self, at: u32, stop: u32) -> Option<Answer>
+        requires from { (x : Scenario) × (turn : ℕ) × IsAt (boxed shown) x self.old turn × (ending x 1 (state_at x turn) ≡ None) }
+        requires left { turns_of self.old.board < stop }
+        requires few { stop ≤ 1000000000 }
         ensures went { (x : Scenario) (turn : ℕ) → IsAt (boxed shown) x self.old turn → ending x 1 (state_at x turn) ≡ None → WentFor (boxed shown) x (Sought.Change at) turn self.new result }
-        ensures turns { turns_of self.new.board ≡ turns_of self.old.board + 1 }
+        ensures more { turns_of self.old.board < turns_of self.new.board }
+        ensures within { turns_of self.new.board ≤ stop }
     {
-        let turn = self.board.turns();
-        let before = self.board.byte(at);
-        let turned = self.board.turn_at(Level::Calls);
-        let after = self.board.byte(at);
-        let (old, new) = change_of(before, after)?;
-        let task = runner_of(turned);
+        let change = self.board.advance_watching(at, stop)?;
         Some(Answer::Changed {
-            turn,
-            task,
+            turn: self.board.turns() - 1,
+            task: change.task,
             at,
-            old,
-            new,
+            old: change.old,
+            new: change.new,
         })
     }
 
@@ -178,7 +159,7 @@ impl Timeline {
     {
         match sought {
             Sought::Note { kind, number } => self.advance_to_note(*kind, *number, stop),
-            Sought::Change { at } => self.advance_past_change(*at),
+            Sought::Change { at } => self.advance_past_change(*at, stop),
         }
     }
 

@@ -240,3 +240,15 @@ pub(crate) fn push_answer<S: Sink>(answer: &Answer, out: &mut S) -> Result<(), F
     }
     out.push(line.as_str().as_bytes())
 }
+
+/// The answer to a line that is refused.
+pub(crate) fn push_refused<S: Sink>(cause: u8, out: &mut S) -> Result<(), Failed>
+    ensures bytes { Pushes (S.seen out.old).written (S.seen out.new).written (codes "refused " ++ decimal cause ++ codes "\n") result }
+    ensures cause { HasCause (S.seen out.old).faults (S.seen out.new).faults result }
+{
+    let mut line = Line::new();
+    line.push_str("refused ");
+    push_small(cause, &mut line);
+    line.push_str("\n");
+    out.push(line.as_str().as_bytes())
+}
