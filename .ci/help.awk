@@ -50,6 +50,13 @@ function tell_causes(constant, of, place, from,    k, words_of, number) {
     }
     tell(constant, "The causes of " of ".")
 }
+# the causes of a line that is answered with its cause alone: those of a text that are a line's own, and further ones
+function tell_line_causes(constant, of, own, further,    k) {
+    say("", "", "causes of a line of " of ", which is answered by `refused <cause>`")
+    for (k = 1; k <= own; k++) say(sprintf("    %-4d", cause["Commands", k]), "        ", because["Commands", k])
+    for (k = 1; k <= causes[further]; k++) say(sprintf("    %-4d", cause[further, k]), "        ", because[further, k])
+    tell(constant, "The causes of a line of " of " that is carried out as it comes.")
+}
 BEGIN { statuses = 0 }
 END {
     print "//! What `help` says, made of the tables of docs/FORMATS.md by .ci/help.awk: not to be changed by hand."
@@ -78,5 +85,6 @@ END {
     tell_causes("TRACE_CAUSES", "TRACE", "a line of it, from 1 on", "Audit")
     tell_causes("STATE_CAUSES", "STATE", "a byte of it", "Saved state")
     tell_causes("COMMANDS_CAUSES", "COMMANDS", "a line of it, from 1 on", "Commands")
+    tell_line_causes("LINE_CAUSES", "COMMANDS", 3, "Live")
     tell_causes("ARRIVAL_CAUSES", "ARRIVAL", "a line of it, from 1 on, or 0", "Sweep")
 }

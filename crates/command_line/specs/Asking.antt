@@ -1,6 +1,6 @@
 -- What a job of the code asks for.
 use Rattle.std.specs.Prelude.{ℕ, max}
-use Rattle.command_line.specs.CommandLine.{Asked, build, run, go, list, sample, migrate, audit, save, resume, debug, cover, sweep, timeline, help}
+use Rattle.command_line.specs.CommandLine.{Asked, build, run, go, list, sample, migrate, audit, save, resume, debug, cover, sweep, timeline, live, help}
 use Rattle.command_line.specs.declared.job.Job.{Job}
 use Rattle.command_line.specs.declared.job.Job.TheVariants as job
 
@@ -18,6 +18,7 @@ asked (job.Debug image script commands) = debug image.now script.now commands.no
 asked (job.Cover image script steps) = cover image.now script.now steps
 asked (job.Timeline image script steps) = timeline image.now script.now steps
 asked (job.Sweep image script arrival from to steps memory) = sweep image.now script.now arrival.now from to steps memory
+asked (job.Live image script commands) = live image.now script.now commands.now
 asked (job.Help about) = help about
 
 -- how many turns it may take, or the greatest number of turns that it names
@@ -35,4 +36,5 @@ steps_of (job.Debug image script commands) = 0
 steps_of (job.Cover image script steps) = steps
 steps_of (job.Timeline image script steps) = steps
 steps_of (job.Sweep image script arrival from to steps memory) = max (max from to) steps
+steps_of (job.Live image script commands) = 0
 steps_of (job.Help about) = 0

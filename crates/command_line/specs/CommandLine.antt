@@ -94,6 +94,7 @@ pub data Asked : Type 0 where
   cover : Text → Text → ℕ → Asked
   sweep : Text → Text → Text → ℕ → ℕ → ℕ → Bool → Asked
   timeline : Text → Text → ℕ → Asked
+  live : Text → Text → Text → Asked
   help : Option CommandName → Asked
 
 -- `--all` and `--mem`
@@ -215,11 +216,20 @@ timeline_form = record {
   asks = λ rows. Some (timeline (text_in (codes "image") rows) (text_in (codes "script") rows) (number_in (codes "steps") rows));
 }
 
+-- `live IMAGE SCRIPT COMMANDS`
+abbrev pub live_form : Form
+live_form = record {
+  name = codes "live";
+  rules = positional_rule (codes "image") ∷ positional_rule (codes "script") ∷ positional_rule (codes "commands") ∷ [];
+  asks = λ rows. Some (live (text_in (codes "image") rows) (text_in (codes "script") rows) (text_in (codes "commands") rows));
+}
+
 -- the commands by their names
 abbrev pub commands : List (Text × CommandName)
 commands = (codes "build", command.Build) ∷ (codes "run", command.Run) ∷ (codes "go", command.Go) ∷ (codes "list", command.List)
     ∷ (codes "sample", command.Sample) ∷ (codes "migrate", command.Migrate) ∷ (codes "audit", command.Audit) ∷ (codes "save", command.Save)
-    ∷ (codes "resume", command.Resume) ∷ (codes "debug", command.Debug) ∷ (codes "cover", command.Cover) ∷ (codes "sweep", command.Sweep) ∷ (codes "timeline", command.Timeline) ∷ (codes "help", command.Help) ∷ []
+    ∷ (codes "resume", command.Resume) ∷ (codes "debug", command.Debug) ∷ (codes "cover", command.Cover) ∷ (codes "sweep", command.Sweep) ∷ (codes "timeline", command.Timeline)
+    ∷ (codes "live", command.Live) ∷ (codes "help", command.Help) ∷ []
 
 -- the command that a word names
 abbrev pub command_by : Text → Option CommandName
@@ -239,7 +249,7 @@ help_form = record {
 }
 
 abbrev pub forms : List Form
-forms = build_form ∷ run_form ∷ go_form ∷ list_form ∷ sample_form ∷ migrate_form ∷ audit_form ∷ save_form ∷ resume_form ∷ debug_form ∷ cover_form ∷ sweep_form ∷ timeline_form ∷ help_form ∷ []
+forms = build_form ∷ run_form ∷ go_form ∷ list_form ∷ sample_form ∷ migrate_form ∷ audit_form ∷ save_form ∷ resume_form ∷ debug_form ∷ cover_form ∷ sweep_form ∷ timeline_form ∷ live_form ∷ help_form ∷ []
 
 -- ---- the program
 

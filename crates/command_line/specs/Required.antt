@@ -79,7 +79,8 @@ pub record IsWholeResume (rows : List Row) : Type 0 where
   pub all : IsSwitch (first_of (codes "all") rows)
   pub mem : IsSwitch (first_of (codes "mem") rows)
 
-pub record IsWholeDebug (rows : List Row) : Type 0 where
+-- of a command that carries out commands over a run
+pub record IsWholeSession (rows : List Row) : Type 0 where
   pub image : HasText (codes "image") rows
   pub script : HasText (codes "script") rows
   pub commands : HasText (codes "commands") rows
@@ -115,8 +116,9 @@ IsWhole (Some p) = ((p.0 ≡ codes "build") × IsWholeBuild p.1)
     ⊎ (((p.0 ≡ codes "audit") × IsWholeAudit p.1)
     ⊎ (((p.0 ≡ codes "save") × IsWholeSave p.1)
     ⊎ (((p.0 ≡ codes "resume") × IsWholeResume p.1)
-    ⊎ (((p.0 ≡ codes "debug") × IsWholeDebug p.1)
+    ⊎ (((p.0 ≡ codes "debug") × IsWholeSession p.1)
     ⊎ (((p.0 ≡ codes "cover") × IsWholePlay p.1)
     ⊎ (((p.0 ≡ codes "sweep") × IsWholeSweep p.1)
     ⊎ (((p.0 ≡ codes "timeline") × IsWholePlay p.1)
-    ⊎ (p.0 ≡ codes "help")))))))))))))
+    ⊎ (((p.0 ≡ codes "live") × IsWholeSession p.1)
+    ⊎ (p.0 ≡ codes "help"))))))))))))))

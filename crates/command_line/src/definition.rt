@@ -4,7 +4,7 @@ ghost use Rattle.clap.specs.Words.{app_of, rule_of};
 ghost use Rattle.clap.specs.Simple.{new_rule};
 ghost use Rattle.clap.specs.declared.builder.command.Command.TheViews.{out-Command as fields_of};
 ghost use Rattle.command_line.specs.Adding.{AddsForm};
-ghost use Rattle.command_line.specs.CommandLine.{bare_app, hubris_app, most_seed, most_steps, positional_rule, number_parser, number_rule, turn_rule, steps_rule, flag_rule, app_of_form, build_form, run, running_form, run_form, go_form, list_form, sample_form, migrate_form, audit_form, save_form, resume_form, debug_form, cover_form, sweep_form, timeline_form, help_form};
+ghost use Rattle.command_line.specs.CommandLine.{bare_app, hubris_app, most_seed, most_steps, positional_rule, number_parser, number_rule, turn_rule, steps_rule, flag_rule, app_of_form, build_form, run, running_form, run_form, go_form, list_form, sample_form, migrate_form, audit_form, save_form, resume_form, debug_form, cover_form, sweep_form, timeline_form, live_form, help_form};
 
 use clap::builder::ValueParser;
 use clap::{Arg, ArgAction, Command};
@@ -201,6 +201,16 @@ fn timeline_command<'a>(alloc: Global) -> Result<Command<'a>, AllocError>
         .arg(steps(alloc))
 }
 
+fn live_command<'a>(alloc: Global) -> Result<Command<'a>, AllocError>
+    ensures shape { IfOk result (λ c. app_of c ≡ app_of_form live_form) }
+    ensures local { IfOk result (λ c. (fields_of c).has_globals ≡ false) }
+{
+    Command::new(alloc, "live")
+        .arg(positional(alloc, "image"))?
+        .arg(positional(alloc, "script"))?
+        .arg(positional(alloc, "commands"))
+}
+
 // The word behind `help`: any, or none. Which command it names is looked up where the job is made.
 fn help_command<'a>(alloc: Global) -> Result<Command<'a>, AllocError>
     ensures shape { IfOk result (λ c. app_of c ≡ app_of_form help_form) }
@@ -246,5 +256,6 @@ pub fn hubris_command<'a>(alloc: Global) -> Result<Command<'a>, AllocError>
     let hubris = with_command(hubris, cover_command(alloc))?;
     let hubris = with_command(hubris, sweep_command(alloc))?;
     let hubris = with_command(hubris, timeline_command(alloc))?;
+    let hubris = with_command(hubris, live_command(alloc))?;
     with_command(hubris, help_command(alloc))
 }

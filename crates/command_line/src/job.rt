@@ -1,7 +1,7 @@
 //! What the matches of a command ask for.
 ghost use Rattle.std.specs.Prelude.{◌≡◌, ◌≤◌, ◌<◌, ◌^◌, ℕ, Some, IfSome, option_map, codes};
 ghost use Rattle.clap.specs.Words.{rows_of, found_of, one_of};
-ghost use Rattle.command_line.specs.CommandLine.{asked_by, build_form, run_form, go_form, list_form, sample_form, migrate_form, audit_form, save_form, resume_form, debug_form, cover_form, sweep_form, timeline_form, help_form, command_by, text_in, is_set, detail_in, number_in, most_steps};
+ghost use Rattle.command_line.specs.CommandLine.{asked_by, build_form, run_form, go_form, list_form, sample_form, migrate_form, audit_form, save_form, resume_form, debug_form, cover_form, sweep_form, timeline_form, live_form, help_form, command_by, text_in, is_set, detail_in, number_in, most_steps};
 ghost use Rattle.command_line.specs.Required.{IsNumber, HasSeed, HasSteps, HasTurns, AreTurns, IsWhole};
 ghost use Rattle.command_line.specs.Asking.{asked, steps_of};
 
@@ -31,6 +31,7 @@ pub enum CommandName {
     Cover,
     Sweep,
     Timeline,
+    Live,
     Help,
 }
 
@@ -117,6 +118,12 @@ pub enum Job<'a> {
         image: &'a str,
         script: &'a str,
         steps: u32,
+    },
+    /// Carry out the lines of COMMANDS over the run of IMAGE with SCRIPT as they come.
+    Live {
+        image: &'a str,
+        script: &'a str,
+        commands: &'a str,
     },
     /// Say what the commands are, or what one of them takes and answers.
     Help {
@@ -325,6 +332,17 @@ fn timeline_by<'a>(matches: &ArgMatches<'a>) -> Job<'a>
     }
 }
 
+fn live_by<'a>(matches: &ArgMatches<'a>) -> Job<'a>
+    ensures job { Some (asked result) ≡ live_form.asks (rows_of (found_of matches.now)) }
+    ensures few { steps_of result ≡ 0 }
+{
+    Job::Live {
+        image: text_of(matches, "image"),
+        script: text_of(matches, "script"),
+        commands: text_of(matches, "commands"),
+    }
+}
+
 /// The command that a word names, if it names one.
 fn command_named(word: &str) -> Option<CommandName>
     ensures { result ≡ command_by word.now }
@@ -355,6 +373,8 @@ fn command_named(word: &str) -> Option<CommandName>
         Some(CommandName::Sweep)
     } else if word == "timeline" {
         Some(CommandName::Timeline)
+    } else if word == "live" {
+        Some(CommandName::Live)
     } else if word == "help" {
         Some(CommandName::Help)
     } else {
@@ -406,6 +426,8 @@ pub fn job_by<'a>(name: &str, matches: &ArgMatches<'a>) -> Option<Job<'a>>
         Some(sweep_by(matches))
     } else if name == "timeline" {
         Some(timeline_by(matches))
+    } else if name == "live" {
+        Some(live_by(matches))
     } else {
         help_by(matches)
     }

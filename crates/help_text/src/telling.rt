@@ -5,8 +5,8 @@ ghost use Rattle.help_text.specs.Help.{help_text, parts_of, parts_on};
 
 use crate::texts::{
     APPLICATION_CAUSES, ARRIVAL_CAUSES, AUDIT, BUILD, COMMANDS, COMMANDS_CAUSES, COVER, DEBUG, GO,
-    HELP, IMAGE_CAUSES, LIMITS, LIST, MIGRATE, RESUME, RUN, SAMPLE, SAVE, SCRIPT_CAUSES,
-    SOURCE_CAUSES, STATE_CAUSES, STATUSES, SWEEP, TIMELINE, TRACE_CAUSES,
+    HELP, IMAGE_CAUSES, LIMITS, LINE_CAUSES, LIST, LIVE, MIGRATE, RESUME, RUN, SAMPLE, SAVE,
+    SCRIPT_CAUSES, SOURCE_CAUSES, STATE_CAUSES, STATUSES, SWEEP, TIMELINE, TRACE_CAUSES,
 };
 use command_line::CommandName;
 use outside_io::{Failed, Sink, push_lines};
@@ -57,6 +57,14 @@ fn parts_on(command: CommandName) -> &'static [&'static [&'static str]]
             ARRIVAL_CAUSES,
         ],
         CommandName::Timeline => &[TIMELINE, LIMITS, STATUSES, IMAGE_CAUSES, SCRIPT_CAUSES],
+        CommandName::Live => &[
+            LIVE,
+            LIMITS,
+            STATUSES,
+            IMAGE_CAUSES,
+            SCRIPT_CAUSES,
+            LINE_CAUSES,
+        ],
         CommandName::Help => &[HELP, STATUSES],
     }
 }

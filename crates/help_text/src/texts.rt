@@ -15,6 +15,7 @@ pub(crate) const COMMANDS: &[&str] = &[
     "cover IMAGE SCRIPT --steps N                          counts how often a run executed each instruction\n",
     "sweep IMAGE SCRIPT ARRIVAL FROM TO --steps N [--mem]  tries every arrival time of some events\n",
     "timeline IMAGE SCRIPT --steps N                       writes a run for a viewer of timelines, as JSON\n",
+    "live IMAGE SCRIPT COMMANDS                            the same as `debug`, line by line as they come\n",
     "help [COMMAND]                                        says this, or what one command takes and answers\n",
     "\n",
     "hubris help COMMAND says what one of them takes and answers. docs/FORMATS.md has the formats, docs/GUIDE.md a\n",
@@ -109,7 +110,7 @@ pub(crate) const DEBUG: &[&str] = &[
 pub(crate) const COVER: &[&str] = &[
     "hubris cover IMAGE SCRIPT --steps N\n",
     "    plays SCRIPT on IMAGE for at most N turns, of which nothing is told, and lists the code with how often\n",
-    "    each instruction was executed (Cover)\n",
+    "    each instruction was executed, which ways branches took and what was never reached (Cover)\n",
     "takes   IMAGE, then SCRIPT\n",
     "writes  the listing of the code (Cover)\n",
 ];
@@ -132,6 +133,15 @@ pub(crate) const TIMELINE: &[&str] = &[
     "writes  the events, as JSON (Timeline)\n",
 ];
 
+/// The command `live`.
+pub(crate) const LIVE: &[&str] = &[
+    "hubris live IMAGE SCRIPT COMMANDS\n",
+    "    carries out the lines of COMMANDS, which may be a pipe or a terminal, as they come, and answers each\n",
+    "    before it reads on (Live)\n",
+    "takes   IMAGE, then SCRIPT, then COMMANDS line by line\n",
+    "writes  the answer to each line (Live)\n",
+];
+
 /// The command `help`.
 pub(crate) const HELP: &[&str] = &[
     "hubris help [COMMAND]\n",
@@ -152,7 +162,8 @@ pub(crate) const LIMITS: &[&str] = &[
     "    tasks, interrupt lines, devices      512, 64, 8\n",
     "    regions, notifications of a task     8, 32\n",
     "    events of SCRIPT, of one turn        65536, 8 and a tick of `every`\n",
-    "    COMMANDS, breakpoints                1024, 16\n",
+    "    commands of COMMANDS, breakpoints    1024, 16\n",
+    "    COMMANDS of live, a line of it       4294967295 bytes, of which the first are read; 1024 bytes\n",
     "    events of ARRIVAL                    256\n",
 ];
 
@@ -163,8 +174,9 @@ pub(crate) const STATUSES: &[&str] = &[
     "        by the supervisor\n",
     "    1   a file was read and is refused; writes `refused <name> <cause> <place>`\n",
     "    2   the words are not taken; writes `usage: hubris build, run, go, list, sample, migrate, audit, save,\n",
-    "        resume, debug, cover, sweep, timeline or help`\n",
-    "    3   a file cannot be read; writes `cannot read <name>`\n",
+    "        resume, debug, cover, sweep, timeline, live or help`\n",
+    "    3   a file cannot be read; writes `cannot read <name>`, of COMMANDS of `live` behind the answers to the\n",
+    "        lines that came\n",
     "    4   the output failed, and what is put is under OUT; or its put failed, and there are the old contents or\n",
     "        the beginning of the new ones\n",
     "    5   memory is short, always before the first byte is pushed or put; writes nothing\n",
@@ -290,6 +302,16 @@ pub(crate) const COMMANDS_CAUSES: &[&str] = &[
     "        where a kind stands is none\n",
     "    3   a number is none of the form, or out of its range\n",
     "    4   it is the 1,025th command\n",
+];
+
+/// The causes of a line of COMMANDS that is carried out as it comes.
+pub(crate) const LINE_CAUSES: &[&str] = &[
+    "causes of a line of COMMANDS, which is answered by `refused <cause>`\n",
+    "    1   it has a byte other than a tab and 32 to 126\n",
+    "    2   its first word is no command, there are more or fewer words behind it than one of its forms has, or\n",
+    "        where a kind stands is none\n",
+    "    3   a number is none of the form, or out of its range\n",
+    "    5   it has more than 1,024 bytes, whatever they are, its LF and a CR before that aside\n",
 ];
 
 /// The causes of ARRIVAL.

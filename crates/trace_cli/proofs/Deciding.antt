@@ -6,7 +6,7 @@ use Rattle.kernel_abi.specs.Devices.{DeviceData}
 use Rattle.outside_io.specs.Outside.{WhereSeen}
 use Rattle.image_format.specs.Picture.{Picture}
 use Rattle.sample_gen.specs.Sample.{sample_app, sample_sources}
-use Rattle.command_line.specs.CommandLine.{Asked, build, run, go, list, sample, migrate, audit, save, resume, debug, cover, sweep, timeline, help, is_accepted, job_of}
+use Rattle.command_line.specs.CommandLine.{Asked, build, run, go, list, sample, migrate, audit, save, resume, debug, cover, sweep, timeline, live, help, is_accepted, job_of}
 use Rattle.debug_core.specs.declared.command.Command.{Command}
 use Rattle.debug_core.specs.Reading.{commands_or_fault}
 use Rattle.build_laws.proofs.OnePicture.{one_picture}
@@ -16,8 +16,11 @@ use Rattle.outside_io.specs.Seen.{FilesSeen}
 use Rattle.trace_cli.specs.Words.{job_in}
 use Rattle.trace_cli.specs.Sources.{File, files_by, MayBe, Are, Reaches, TakesAll, IsBuilt, first_of, described, sources_in, script_in, scenario_in}
 use Rattle.trace_cli.specs.Verdict as verdict
-use Rattle.trace_cli.specs.Verdict.{Verdict, IsVerdict, Does, usage, refused, unread, ran, built, sampled, debugged, audited}
+use Rattle.trace_cli.specs.Verdict.{Verdict, IsVerdict, Does, usage, refused, unread, ran, built, sampled, debugged, audited, covered, run_of}
 use Rattle.trace_cli.specs.Answer.{JobReason, cannot_read, refuses, does, IsUnread, IsRefused, Reason, no_job, of_job}
+use Rattle.board_model.specs.declared.outcomes.Level.TheVariants.{All}
+use Rattle.run_cover.specs.Counted.{counts}
+use Rattle.run_cover.proofs.Knowing.{one_known}
 use Rattle.trace_cli.proofs.Faulting.{where_seen}
 use Rattle.trace_cli.proofs.Agreeing.{same_files, seen_further, may_further, same_contents}
 
@@ -43,9 +46,13 @@ same_done devices (save image script out steps) cs u v p q = p ∙ sym q
 same_done devices (resume image script state steps detail) cs u v p q = p ∙ sym q
 same_done devices (debug image script name) cs u v p q =
     p.2 ∙ ap (debugged (scenario_in devices cs)) (same_commands (commands_or_fault (slice_index_or cs 2 [])) p.0 q.0 p.1 q.1) ∙ sym q.2
-same_done devices (cover image script steps) cs u v p q = p ∙ sym q
+same_done devices (cover image script steps) cs u v p q =
+    let x = scenario_in devices cs in
+    let r = run_of All steps x in
+    p.2 ∙ ap (covered steps x) (one_known x.setup r.last.memory (counts r.notes) p.0 q.0 p.1 q.1) ∙ sym q.2
 same_done devices (sweep image script arrival from to steps memory) cs u v p q = p ∙ sym q
 same_done devices (timeline image script steps) cs u v p q = p ∙ sym q
+same_done devices (live image script commands) cs u v p q = p ∙ sym q
 same_done devices (help about) cs u v p q = p ∙ sym q
 
 -- ## three ways in which lengths meet
@@ -152,7 +159,7 @@ all_same {devices} seen job cs ds u v are may p q = by_length (meets (length cs)
 -- ## the verdict
 
 abbrev CannotRead : List DeviceData → Asked → FilesSeen → FilesSeen → Verdict → Type 0
-CannotRead devices job before after v = (f : File) × IsUnread devices job before after f × (v ≡ unread f.name)
+CannotRead devices job before after v = (f : File) × (is : IsUnread devices job before after f) × (v ≡ unread is.told f.name)
 
 on_refusal : {devices : List DeviceData} (job : Asked) (before after : FilesSeen) (v u : Verdict) (cs : List (List ℕ)) (g : File) (c : List ℕ) (why : Why) → JobReason devices job before after v
     → Reaches (Are before.contents) devices job cs g → before.contents g.name ≡ Some c → g.refusal c ≡ Some why → u ≡ refused g.name why → (v ≡ u) ⊎ CannotRead devices job before after v
@@ -190,7 +197,7 @@ on_no_job words seen v u none e (verdict.does job cs is all p) = absurd (no_job_
 -- a verdict that was told is the one verdict, or that a file cannot be read
 pub data Decided (devices : List DeviceData) (words : List (List ℕ)) (before after : FilesSeen) (v u : Verdict) : Type 0 where
   agreed : v ≡ u → Decided devices words before after v u
-  not_read : (job : Asked) (f : File) → job_in words ≡ Some job → IsUnread devices job before after f → v ≡ unread f.name → Decided devices words before after v u
+  not_read : (job : Asked) (f : File) → job_in words ≡ Some job → (is : IsUnread devices job before after f) → v ≡ unread is.told f.name → Decided devices words before after v u
 
 by_reason : {devices : List DeviceData} (words : List (List ℕ)) (job : Asked) (before after : FilesSeen) (v u : Verdict) → job_in words ≡ Some job → (v ≡ u) ⊎ CannotRead devices job before after v → Decided devices words before after v u
 by_reason words job before after v u is (inl e) = agreed e

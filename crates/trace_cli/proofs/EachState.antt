@@ -89,8 +89,8 @@ fault_each {devices} image script file m detail a b w w' (named_faults.CannotRea
     let at = h.at.fault in
     let told : TellsUnread devices (resume image script file m detail) a b w w' r = record {
       file = h.at.file;
-      is = record { contents = h.contents; reached = record { takes = h.at.takes; next = h.at.next }; rose = at.1.rose; named = at.1.named };
-      tells = subst (λ (n : List ℕ). Tells a b w w' (unread n) r) at.0 (said a b w w' (unread (string_bytes name)) r same refl s);
+      is = record { contents = h.contents; reached = record { takes = h.at.takes; next = h.at.next }; rose = at.1.rose; named = at.1.named; told = []; was_told = refl };
+      tells = subst (λ (n : List ℕ). Tells a b w w' (unread [] n) r) at.0 (said a b w w' (unread [] (string_bytes name)) r same refl s);
     } in
     record { starts = λ ib sb has_image has_script image_ok script_ok. inr (inl told); each = λ cs v all from. inr told }
 fault_each {devices} image script file m detail a b w w' (named_faults.Refused name cause place) r same few h unless s =

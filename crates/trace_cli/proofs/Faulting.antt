@@ -109,7 +109,7 @@ where_seen seen f why h = λ all is. ap f.refusal (sym (h.held all is)) ∙ h.re
 rose_earlier : (a b c : ℕ) → a ≤ b → Rose b c → Rose a c
 rose_earlier a b c le rose = omega arith
 
-read_earlier : (a b c : FilesSeen) (name : List ℕ) → a.read_faults ≤ b.read_faults → IsCannotRead b c name → IsCannotRead a c name
+pub read_earlier : (a b c : FilesSeen) (name : List ℕ) → a.read_faults ≤ b.read_faults → IsCannotRead b c name → IsCannotRead a c name
 read_earlier a b c name le h = record { rose = rose_earlier a.read_faults b.read_faults c.read_faults le h.rose; named = h.named }
 
 pub faults_earlier : (a b c : FilesSeen) (f : File) (named_fault : NamedFault) → b.contents ≡ a.contents → a.read_faults ≤ b.read_faults → IsNamedFaultOf b c f named_fault → IsNamedFaultOf a c f named_fault

@@ -1,6 +1,8 @@
 pub mod Agreeing
+pub mod Reaching
 pub mod Deciding
 pub mod Lists
+pub mod Living
 pub mod OneVerdict
 pub mod Readying
 pub mod Refusals

@@ -17,7 +17,7 @@ use Rattle.outside_io.specs.Outside.{Rose}
 use Rattle.audit_runs.specs.Last.{IsGoodText}
 use Rattle.trace_audit.specs.declared.verdict.Verdict as trace
 use Rattle.trace_audit.specs.declared.verdict.Verdict.TheVariants.{Yes, No}
-use Rattle.command_line.specs.CommandLine.{Asked, build, run, go, list, sample, migrate, audit, save, resume, debug, cover, sweep, timeline, help}
+use Rattle.command_line.specs.CommandLine.{Asked, build, run, go, list, sample, migrate, audit, save, resume, debug, cover, sweep, timeline, live, help}
 use Rattle.command_line.specs.declared.job.Detail.{Detail}
 use Rattle.debug_core.specs.declared.command.Command.{Command}
 use Rattle.trace_cli.specs.declared.file_faults.NamedFault.{NamedFault}
@@ -27,15 +27,19 @@ use Rattle.outside_io.specs.Seen.{FilesSeen, SinkSeen}
 use Rattle.trace_cli.specs.Sources.{File, image_file, script_file, state_file, trace_file, commands_file, arrival_file, files_of, files_by, files_to_build, first_of, MayBe, Takes, IsBuilt, script_in, scenario_in, state_by}
 use Rattle.trace_cli.specs.FileFaults.{IsNamedFaultOf}
 use Rattle.trace_cli.specs.Building.{IsImage, IsNamedFaultInApp}
-use Rattle.trace_cli.specs.Ready.{StartsWell, StartsSeen, IsImageFile, IsScriptFile, IsSet, RunsImage, IsReady, IsLoaded, IsStateSet, IsResumable, IsCommandsFile, IsDebugReady, IsArrivalFile, IsSweepReady, IsAuditOf, IsNamedFaultIn}
+use Rattle.trace_cli.specs.Ready.{StartsWell, StartsSeen, IsImageFile, IsScriptFile, IsSet, TakesImage, RunsImage, IsReady, IsLoaded, IsStateSet, IsResumable, IsCommandsFile, IsDebugReady, IsArrivalFile, IsSweepReady, IsAuditOf, IsNamedFaultIn}
 use Rattle.trace_cli.specs.Pushed.{Pushed, whole, cut, Says, pushed, silent, IsSilent, SaysNamedFault}
-use Rattle.trace_cli.specs.Verdict.{Verdict, Does, refused, unread, ran, listed, built, saved, resumed, debugged, covered, swept, timed, audited}
+use Rattle.trace_cli.specs.Verdict.{Verdict, Does, refused, unread, ran, listed, built, saved, resumed, debugged, swept, timed, audited}
 use Rattle.trace_cli.specs.Answer as answer
-use Rattle.trace_cli.specs.Answer.{JobReason, cannot_read, refuses, does, IsShort, HasPut, HasSpoiled, Tells, IsOfRun, TellsGood, AnswersJob}
+use Rattle.trace_cli.specs.Answer.{JobReason, cannot_read, refuses, does, IsShort, HasPut, HasSpoiled, Tells, IsOfRun, WasTold, TellsGood, AnswersJob}
 use Rattle.trace_cli.proofs.Lists.{at_end, longer, takes_none, takes_first, takes_wider, takes_last, get_more, get_last}
 use Rattle.trace_cli.proofs.Faulting.{faults_earlier}
 use Rattle.trace_cli.proofs.Starting.{told_from_start}
 use Rattle.trace_cli.proofs.Taking.{as_many_sources}
+
+-- a job that runs an image takes it and a script, and no more
+pub takes_of : {devices : List DeviceData} {job : Asked} {image script : List ℕ} {verdict : Scenario → Verdict} → RunsImage devices job image script verdict → TakesImage devices job image script
+takes_of runs = record { more = []; files = runs.files }
 
 -- a board that is ready, where there is one
 pub ready_there : {X : Type 0} {H : X → Type 0} {shown : Shows X H} {devices : List DeviceData} {job : Asked} {seen : List ℕ → Option (List ℕ)} {verdict : Scenario → Verdict} {r : Result (Board X H) NamedFault} {b : Board X H} → r ≡ Ok b → IfOk r (IsReady shown devices job seen verdict) → IsReady shown devices job seen verdict b
@@ -86,15 +90,15 @@ image_ready {X} {H} {shown} {devices} seen job verdict image script picture b ru
       turns = s.turns;
     }
 
-pub image_faults : {devices : List DeviceData} (a c : FilesSeen) (job : Asked) (verdict : Scenario → Verdict) (image script : List ℕ) (h : NamedFault) → RunsImage devices job image script verdict → IsNamedFaultOf a c (image_file image) h → IsNamedFaultIn devices job a c h
-image_faults a c job verdict image script h runs fault = faults_first job (image_file image) a c h (ap (λ (fs : List File). slice_get fs 0) (runs.files [])) fault
+pub image_faults : {devices : List DeviceData} (a c : FilesSeen) (job : Asked) (image script : List ℕ) (h : NamedFault) → TakesImage devices job image script → IsNamedFaultOf a c (image_file image) h → IsNamedFaultIn devices job a c h
+image_faults a c job image script h takes fault = faults_first job (image_file image) a c h (ap (λ (fs : List File). slice_get fs 0) (takes.files [])) fault
 
-pub script_faults : {devices : List DeviceData} (a b c : FilesSeen) (job : Asked) (verdict : Scenario → Verdict) (image script : List ℕ) (picture : Picture) (h : NamedFault) → RunsImage devices job image script verdict → IsImageFile a.contents image picture → b.contents ≡ a.contents
+pub script_faults : {devices : List DeviceData} (a b c : FilesSeen) (job : Asked) (image script : List ℕ) (picture : Picture) (h : NamedFault) → TakesImage devices job image script → IsImageFile a.contents image picture → b.contents ≡ a.contents
     → a.read_faults ≤ b.read_faults → IsNamedFaultOf b c (script_file script) h → IsNamedFaultIn devices job a c h
-script_faults a b c job verdict image script picture h runs i seen later fault =
+script_faults a b c job image script picture h takes i seen later fault =
     faults_at job (i.bytes ∷ []) (script_file script) a b c h
-    (subst (λ (fs : List File). Takes (MayBe a.contents) fs (i.bytes ∷ [])) (sym (runs.files i.bytes)) (one_file a.contents image picture (script_file script ∷ []) i))
-    (ap (λ (fs : List File). slice_get fs 1) (runs.files i.bytes)) seen later fault
+    (subst (λ (fs : List File). Takes (MayBe a.contents) fs (i.bytes ∷ [])) (sym (takes.files i.bytes)) (one_file a.contents image picture (script_file script ∷ takes.more) i))
+    (ap (λ (fs : List File). slice_get fs 1) (takes.files i.bytes)) seen later fault
 
 pub set_by_script : {X : Type 0} {H : X → Type 0} {shown : Shows X H} {devices : List DeviceData} (seen : List ℕ → Option (List ℕ)) (image : Picture) (name : List ℕ) (script : ScriptData) (b : Board X H) → IsScriptFile seen name script
     → Stands shown (opened.scenario_of image script devices) b (start_of (opened.scenario_of image script devices)) → turns_of b ≡ 0 → IsSet shown devices seen image name b
@@ -368,6 +372,7 @@ tells_good (debug image script commands) v r h = tt
 tells_good (cover image script steps) v r h = tt
 tells_good (sweep image script arrival from to steps memory) v r h = tt
 tells_good (timeline image script steps) v r h = tt
+tells_good (live image script commands) v r h = tt
 tells_good (help about) v r h = tt
 
 no_run : (r : ℕ) → 1 ≤ r → r ≤ 5 → IsOfRun r → ⊥
@@ -399,13 +404,31 @@ pub answers_said : {devices : List DeviceData} (job : Asked) (a b : FilesSeen) (
 answers_said job a b w w' v r same none why good (pushed p) = answers_pushed job a b w w' v r same none why good p
 answers_said job a b w w' v r same none why good (silent s) = inl (silent_short a b w w' r same s)
 
+-- before a file that is not accepted nothing was told
+nothing_told : (devices : List DeviceData) (job : Asked) (seen : List ℕ → Option (List ℕ)) (contents : List (List ℕ)) → WasTold devices job seen contents []
+nothing_told devices (build app out) seen contents = refl
+nothing_told devices (run image script steps detail) seen contents = refl
+nothing_told devices (go app script steps detail) seen contents = refl
+nothing_told devices (list image) seen contents = refl
+nothing_told devices (sample seed steps) seen contents = refl
+nothing_told devices (migrate image out) seen contents = refl
+nothing_told devices (audit trace) seen contents = refl
+nothing_told devices (save image script out steps) seen contents = refl
+nothing_told devices (resume image script state steps detail) seen contents = refl
+nothing_told devices (debug image script commands) seen contents = refl
+nothing_told devices (cover image script steps) seen contents = refl
+nothing_told devices (sweep image script arrival from to steps memory) seen contents = refl
+nothing_told devices (timeline image script steps) seen contents = refl
+nothing_told devices (live image script commands) seen contents = inl refl
+nothing_told devices (help about) seen contents = refl
+
 pub answers_named_fault : {devices : List DeviceData} (job : Asked) (a b : FilesSeen) (w w' : SinkSeen) (h : NamedFault) (r : ℕ) → b.contents ≡ a.contents → IsNamedFaultIn devices job a b h → SaysNamedFault w w' h r → AnswersJob devices job a b w w' r
 answers_named_fault job a b w w' named_faults.Memory r same h s = inl (silent_short a b w w' r same s)
 answers_named_fault job a b w w' (named_faults.CannotRead name) r same h s =
     let at = h.at.fault in
     let file = h.at.file in
-    let why = cannot_read file (record { contents = h.contents; reached = record { takes = h.at.takes; next = h.at.next }; rose = at.1.rose; named = at.1.named }) (ap unread at.0) in
-    answers_said job a b w w' (unread (string_bytes name)) r same refl why (fault_good job w w' (unread (string_bytes name)) r (omega arith) (omega arith) s) s
+    let why = cannot_read file (record { contents = h.contents; reached = record { takes = h.at.takes; next = h.at.next }; rose = at.1.rose; named = at.1.named; told = []; was_told = nothing_told _ job a.contents h.contents }) (ap (unread []) at.0) in
+    answers_said job a b w w' (unread [] (string_bytes name)) r same refl why (fault_good job w w' (unread [] (string_bytes name)) r (omega arith) (omega arith) s) s
 answers_named_fault job a b w w' (named_faults.Refused name cause place) r same h s =
     let at = h.at.fault in
     let file = h.at.file in
@@ -449,11 +472,6 @@ resumable_stood {devices = devices} job seen m detail bd h = ((scenario_in devic
 
 pub ready_stood : {X : Type 0} {H : X → Type 0} {shown : Shows X H} {devices : List DeviceData} (job : Asked) (seen : List ℕ → Option (List ℕ)) (verdict : Scenario → Verdict) (bd : Board X H) → IsReady shown devices job seen verdict bd → Stood shown bd × (turns_of bd ≡ 0)
 ready_stood job seen verdict bd h = ((h.scenario, start_of h.scenario, h.stands), h.turns)
-
-pub answers_covered : {X : Type 0} {H : X → Type 0} {shown : Shows X H} {devices : List DeviceData} (image script : List ℕ) (a b : FilesSeen) (w w' : SinkSeen) (n : ℕ) (bd : Board X H) (r : ℕ) → b.contents ≡ a.contents → IsReady shown devices (cover image script n) a.contents (covered n) bd
-    → ((x : Scenario) → Stands shown x bd (start_of x) → Says w w' (covered n x) r) → AnswersJob devices (cover image script n) a b w w' r
-answers_covered image script a b w w' n bd r same h says =
-    answers_said (cover image script n) a b w w' (covered n h.scenario) r same refl (does h.contents h.accepted h.done) tt (says h.scenario h.stands)
 
 pub answers_timed : {X : Type 0} {H : X → Type 0} {shown : Shows X H} {devices : List DeviceData} (image script : List ℕ) (a b : FilesSeen) (w w' : SinkSeen) (n : ℕ) (bd : Board X H) (r : ℕ) → b.contents ≡ a.contents → IsReady shown devices (timeline image script n) a.contents (timed n) bd
     → ((x : Scenario) → Stands shown x bd (start_of x) → Says w w' (timed n x) r) → AnswersJob devices (timeline image script n) a b w w' r

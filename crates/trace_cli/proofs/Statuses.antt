@@ -5,7 +5,7 @@ use Rattle.kernel_abi.specs.Devices.{DeviceData}
 use Rattle.outside_io.specs.Outside.{Rose}
 use Rattle.board_model.specs.declared.outcomes.End.{End}
 use Rattle.board_model.specs.declared.outcomes.End.TheVariants.{Bound, Still, Supervisor}
-use Rattle.command_line.specs.CommandLine.{Asked, build, run, go, list, sample, migrate, audit, save, resume, debug, cover, sweep, timeline, help, is_accepted, job_of}
+use Rattle.command_line.specs.CommandLine.{Asked, build, run, go, list, sample, migrate, audit, save, resume, debug, cover, sweep, timeline, live, help, is_accepted, job_of}
 use Rattle.trace_audit.specs.declared.verdict.Verdict as trace
 use Rattle.trace_audit.specs.declared.verdict.Verdict.TheVariants.{Yes, No}
 use Rattle.outside_io.specs.Seen.{FilesSeen, SinkSeen}
@@ -24,7 +24,7 @@ same_seen a b w w' v u r e t = let P : Verdict → Type 0 = λ x. Tells a b w w'
 
 by_decision : {devices : List DeviceData} (words : List (List ℕ)) (a b : FilesSeen) (w w' : SinkSeen) (v u : Verdict) (r : ℕ) → Decided devices words a b v u → Tells a b w w' v r → Answered devices words a b w w' u r
 by_decision words a b w w' v u r (agreed e) t = inl (same_seen a b w w' v u r e t)
-by_decision words a b w w' v u r (not_read job f at is e) t = inr (record { job = job; command = at; file = f; is = is; tells = same_seen a b w w' v (unread f.name) r e t })
+by_decision words a b w w' v u r (not_read job f at is e) t = inr (record { job = job; command = at; file = f; is = is; tells = same_seen a b w w' v (unread is.told f.name) r e t })
 
 pub answered : {devices : List DeviceData} (words : List (List ℕ)) (a b : FilesSeen) (w w' : SinkSeen) (u : Verdict) (r : ℕ) → Answers devices words a b w w' r → IsVerdict devices words a.contents u → Answered devices words a b w w' u r
 answered words a b w w' u r (inl s) is = inl (short s)
@@ -100,9 +100,10 @@ done_status devices (audit name) cs v p = of_audit v.status (audited p.0).status
 done_status devices (save image script out steps) cs v p = inl (status_as v _ p)
 done_status devices (resume image script state steps detail) cs v p = ran_as v _ _ p
 done_status devices (debug image script name) cs v p = inl (status_as v _ p.2)
-done_status devices (cover image script steps) cs v p = ran_as v _ _ p
+done_status devices (cover image script steps) cs v p = ran_as v _ _ p.2
 done_status devices (sweep image script arrival from to steps memory) cs v p = of_sweep v.status _ (status_as v _ p)
 done_status devices (timeline image script steps) cs v p = ran_as v _ _ p
+done_status devices (live image script commands) cs v p = inl (status_as v _ p)
 done_status devices (help about) cs v p = inl (status_as v _ p)
 
 not_done : (v : Verdict) (n : ℕ) → IsDone v.status → v.status ≡ n → (n ≡ 0 → ⊥) → (6 ≤ n → ⊥) → ⊥
@@ -221,7 +222,7 @@ was_no_command words a b w w' r h e =
 unread_by : {devices : List DeviceData} (words : List (List ℕ)) (a b : FilesSeen) (w w' : SinkSeen) (v : Verdict) → v.status ≡ 3 → Appends w.written w'.written v.text → Reason devices words a b v → HasUnread devices words a b w w'
 unread_by words a b w w' v e t (no_job none is) = let s : v.status ≡ 2 = ap (λ (u : Verdict). u.status) is in absurd (omega arith)
 unread_by words a b w w' v e t (of_job job at (cannot_read f h is)) =
-    record { job = job; command = at; file = f; is = h; line = same_text w w' v (unread f.name) is t }
+    record { job = job; command = at; file = f; is = h; line = same_text w w' v (unread h.told f.name) is t }
 unread_by words a b w w' v e t (of_job job at (refuses f why h is)) = let s : v.status ≡ 1 = ap (λ (u : Verdict). u.status) is in absurd (omega arith)
 unread_by words a b w w' v e t (of_job job at (does cs all p)) = absurd (not_done v 3 (done_status _ job cs v p) e (λ z. omega arith) (λ s. omega arith))
 
@@ -293,9 +294,10 @@ done_puts devices words (audit name) cs v at p = alone words v (audited p.0) p.2
 done_puts devices words (save image script out steps) cs v at p = under words v out _ _ p (ap out_of at)
 done_puts devices words (resume image script state steps detail) cs v at p = alone words v _ p refl
 done_puts devices words (debug image script name) cs v at p = alone words v _ p.2 refl
-done_puts devices words (cover image script steps) cs v at p = alone words v _ p refl
+done_puts devices words (cover image script steps) cs v at p = alone words v _ p.2 refl
 done_puts devices words (sweep image script arrival from to steps memory) cs v at p = alone words v _ p refl
 done_puts devices words (timeline image script steps) cs v at p = alone words v _ p refl
+done_puts devices words (live image script commands) cs v at p = alone words v _ p refl
 done_puts devices words (help about) cs v at p = alone words v _ p refl
 
 reason_puts : {devices : List DeviceData} (words : List (List ℕ)) (a b : FilesSeen) (v : Verdict) → Reason devices words a b v → Puts words v

@@ -1,5 +1,5 @@
 -- What an answer of the program says of the words, of the files and of the sink.
-use Rattle.std.specs.Prelude.{◌≡◌, ◌≢◌, ◌≤◌, ◌⊎◌, ℕ, false, List, [], slice_index_or, Option, Some, None}
+use Rattle.std.specs.Prelude.{◌≡◌, ◌≢◌, ◌≤◌, ◌⊎◌, ℕ, false, List, [], ◌++◌, length, slice_index_or, Option, Some, None}
 use Rattle.std.specs.Io.KnownBytes.{Appends}
 use Rattle.kernel_abi.specs.Devices.{DeviceData}
 use Rattle.outside_io.specs.Outside.{WhereSeen, Rose, AppendsFront, IsFront, short_name}
@@ -8,7 +8,9 @@ use Rattle.board_model.specs.Script.{Scenario, start_of}
 use Rattle.task_table.specs.State.{State}
 use Rattle.task_table.specs.Sane.{Sane}
 use Rattle.audit_runs.specs.Last.{IsGoodText}
-use Rattle.command_line.specs.CommandLine.{Asked, build, run, go, list, sample, migrate, audit, save, resume, debug, cover, sweep, timeline, help, is_accepted}
+use Rattle.debug_core.specs.Live.{begun_text}
+use Rattle.debug_core.specs.Session.{opened}
+use Rattle.command_line.specs.CommandLine.{Asked, build, run, go, list, sample, migrate, audit, save, resume, debug, cover, sweep, timeline, live, help, is_accepted}
 use Rattle.command_line.specs.declared.job.Detail.{Detail}
 use Rattle.trace_cli.specs.Contents.{Why, image_refusal, script_refusal, picture_of, scenario_of}
 use Rattle.outside_io.specs.Seen.{FilesSeen, SinkSeen}
@@ -19,12 +21,26 @@ use Rattle.trace_cli.specs.Ready.{StartsWell, IsSpelled}
 
 -- ## why a verdict was given on a job (the files: before and after the call; the devices: those of a run)
 
+-- the answers to the lines that came of the front of a file, where those are carried out over the run of a scenario
+pub record IsBegun (x : Scenario) (contents : Option (List ℕ)) (told : List ℕ) : Type 0 where
+  pub front : List ℕ
+  pub held : WhereSeen contents (IsFront front)
+  pub is : told ≡ begun_text x opened front
+
+-- What was told before a file could not be read, where the contents of the files before it are these: nothing, but where `live`
+-- reads its third one the answers to the lines that came.
+abbrev pub WasTold : List DeviceData → Asked → (List ℕ → Option (List ℕ)) → List (List ℕ) → List ℕ → Type 0
+WasTold devices (live image script name) seen contents told = (told ≡ []) ⊎ ((length contents ≡ 2) × IsBegun (scenario_in devices contents) (seen name) told)
+WasTold devices job seen contents told = told ≡ []
+
 -- each file before is accepted, and a read of this one failed, by the count and the name of the last failing call
 pub record IsUnread (devices : List DeviceData) (job : Asked) (before after : FilesSeen) (f : File) : Type 0 where
   pub contents : List (List ℕ)
   pub reached : Reaches (MayBe before.contents) devices job contents f
   pub rose : Rose before.read_faults after.read_faults
   pub named : WhereSeen after.last_failing (λ name. name ≡ short_name f.name)
+  pub told : List ℕ
+  pub was_told : WasTold devices job before.contents contents told
 
 -- each file before is accepted, and this one may hold contents that are refused so; where they are seen, it is those
 pub record IsRefused (devices : List DeviceData) (job : Asked) (seen : List ℕ → Option (List ℕ)) (f : File) (why : Why) : Type 0 where
@@ -37,7 +53,7 @@ abbrev pub IsAccepted : List DeviceData → Asked → (List ℕ → Option (List
 IsAccepted devices job seen contents = TakesAll (MayBe seen) devices job contents
 
 pub data JobReason (devices : List DeviceData) (job : Asked) (before after : FilesSeen) (v : Verdict) : Type 0 where
-  cannot_read : (f : File) → IsUnread devices job before after f → v ≡ unread f.name → JobReason devices job before after v
+  cannot_read : (f : File) (is : IsUnread devices job before after f) → v ≡ unread is.told f.name → JobReason devices job before after v
   refuses : (f : File) (why : Why) → IsRefused devices job before.contents f why → v ≡ refused f.name why → JobReason devices job before after v
   does : (contents : List (List ℕ)) → IsAccepted devices job before.contents contents → Does devices job contents v → JobReason devices job before after v
 
@@ -99,6 +115,7 @@ TellsGood (debug image script commands) v r = Unit {0}
 TellsGood (cover image script steps) v r = Unit {0}
 TellsGood (sweep image script arrival from to steps memory) v r = Unit {0}
 TellsGood (timeline image script steps) v r = Unit {0}
+TellsGood (live image script commands) v r = Unit {0}
 TellsGood (help about) v r = Unit {0}
 
 -- where the words ask for a job
@@ -142,13 +159,13 @@ pub record HasRefused (devices : List DeviceData) (words : List (List ℕ)) (see
   pub is : IsRefused devices job seen file why
   pub line : Appends w.written w'.written (refused_line file.name why.0 why.1)
 
--- 3: the line of the file that cannot be read
+-- 3: the line of the file that cannot be read, behind what was told before
 pub record HasUnread (devices : List DeviceData) (words : List (List ℕ)) (before after : FilesSeen) (w w' : SinkSeen) : Type 0 where
   pub job : Asked
   pub command : job_in words ≡ Some job
   pub file : File
   pub is : IsUnread devices job before after file
-  pub line : Appends w.written w'.written (unread_line file.name)
+  pub line : Appends w.written w'.written (is.told ++ unread_line file.name)
 
 -- 4: the file was put, if there is one, and a front of the text that was to be told was pushed; or its put failed, and
 -- nothing was pushed
@@ -170,7 +187,7 @@ pub record HasUnreadSeen (devices : List DeviceData) (words : List (List ℕ)) (
   pub command : job_in words ≡ Some job
   pub file : File
   pub is : IsUnread devices job before after file
-  pub tells : Tells before after w w' (unread file.name) r
+  pub tells : Tells before after w w' (unread is.told file.name) r
 
 abbrev pub Answered : List DeviceData → List (List ℕ) → FilesSeen → FilesSeen → SinkSeen → SinkSeen → Verdict → ℕ → Type 0
 Answered devices words before after w w' v r = Tells before after w w' v r ⊎ HasUnreadSeen devices words before after w w' r
@@ -190,7 +207,7 @@ IsComplete before after w w' v r =
 pub record TellsUnread (devices : List DeviceData) (job : Asked) (before after : FilesSeen) (w w' : SinkSeen) (r : ℕ) : Type 0 where
   pub file : File
   pub is : IsUnread devices job before after file
-  pub tells : Tells before after w w' (unread file.name) r
+  pub tells : Tells before after w w' (unread is.told file.name) r
 
 -- it is the run from a state that these bytes spell
 pub record IsFromSpelled (m : ℕ) (detail : Detail) (x : Scenario) (bytes : List ℕ) (v : Verdict) : Type 0 where

@@ -26,7 +26,7 @@ use Rattle.debug_core.specs.Reading.{commands_or_fault}
 use Rattle.trace_cli.specs.declared.file_faults.NamedFault.{NamedFault}
 use Rattle.trace_cli.specs.Contents.{image_refusal, script_refusal, state_refusal, commands_refusal, arrival_refusal, trace_refusal, picture_of, script_of, scenario_of, sample_scenario}
 use Rattle.outside_io.specs.Seen.{FilesSeen}
-use Rattle.trace_cli.specs.Sources.{MayBe, TakesAll, files_of, files_by, image_file, script_file, scenario_in, state_by}
+use Rattle.trace_cli.specs.Sources.{File, MayBe, TakesAll, files_of, files_by, image_file, script_file, scenario_in, state_by}
 use Rattle.trace_cli.specs.Verdict.{Verdict, Does, resumed, debugged, swept}
 use Rattle.trace_cli.specs.FileFaults.{IsNamedFaultOf}
 use Rattle.trace_cli.specs.Building.{IsNamedFaultAfter}
@@ -52,6 +52,17 @@ pub record IsSet {X : Type 0} {H : X → Type 0} (shown : Shows X H) (devices : 
   pub accepted : script_refusal script ≡ None
   pub stands : Stands shown (scenario_of image script devices) b (start_of (scenario_of image script devices))
   pub turns : turns_of b ≡ 0
+
+-- an image and a script of these names are accepted, and the board stands for the start of their run with these devices
+pub record IsRunSet {X : Type 0} {H : X → Type 0} (shown : Shows X H) (devices : List DeviceData) (image script : List ℕ) (seen : List ℕ → Option (List ℕ)) (b : Board X H) : Type 0 where
+  pub picture : Picture
+  pub of_image : IsImageFile seen image picture
+  pub set : IsSet shown devices seen picture script b
+
+-- the job takes this image, then this script, and then some more files
+pub record TakesImage (devices : List DeviceData) (job : Asked) (image script : List ℕ) : Type 0 where
+  pub more : List File
+  pub files : (first : List ℕ) → files_of devices job first ≡ image_file image ∷ script_file script ∷ more
 
 -- the job takes this image and then this script, and answers their run by this verdict
 pub record RunsImage (devices : List DeviceData) (job : Asked) (image script : List ℕ) (verdict : Scenario → Verdict) : Type 0 where

@@ -9,7 +9,8 @@ use Rattle.image_build.specs.Built.{Built}
 use Rattle.board_model.specs.Script.{Scenario}
 use Rattle.task_table.specs.State.{State}
 use Rattle.snapshot.specs.Restored.{state_in}
-use Rattle.command_line.specs.CommandLine.{Asked, build, run, go, list, sample, migrate, audit, save, resume, debug, cover, sweep, timeline, help}
+use Rattle.debug_core.specs.Live.{live_limit}
+use Rattle.command_line.specs.CommandLine.{Asked, build, run, go, list, sample, migrate, audit, save, resume, debug, cover, sweep, timeline, live, help}
 use Rattle.trace_cli.specs.Contents.{Why, file_limit, trace_limit, image_refusal, script_refusal, app_refusal, source_refusal, trace_refusal, state_refusal, commands_refusal, arrival_refusal, picture_of, application_of, scenario_of}
 
 -- a file, the most bytes that it may have, and why contents of it are refused
@@ -44,6 +45,10 @@ commands_file name = record { name = name; limit = file_limit; refusal = command
 abbrev pub arrival_file : List ℕ → File
 arrival_file name = record { name = name; limit = file_limit; refusal = arrival_refusal }
 
+-- lines that are carried out as they come, of which none refuses the file
+abbrev pub lines_file : List ℕ → File
+lines_file name = record { name = name; limit = live_limit; refusal = λ _. None }
+
 -- the sources of these tasks in their order, of which the first is the i-th
 abbrev pub sources_from : AppData → ℕ → List TaskData → List File
 sources_from app i [] = []
@@ -57,7 +62,7 @@ abbrev pub files_to_build : List ℕ → List ℕ → List File
 files_to_build app first = app_file app ∷ source_files (application_of first)
 
 -- The files of a job of which the first file holds these bytes: `build` takes those of its application, `go` too and then
--- its script; `run`, `save`, `cover` and `timeline` take their image and then their script, `resume` too and then its state, `debug` too and then its
+-- its script; `run`, `save`, `cover` and `timeline` take their image and then their script, `resume` too and then its state, `debug` and `live` too and then their
 -- commands, `sweep` too and then its arrival, `list` and `migrate` their image, `audit` its trace, `sample` and `help` none. The devices are those of a run.
 abbrev pub files_of : List DeviceData → Asked → List ℕ → List File
 files_of devices (build app out) first = files_to_build app first
@@ -73,6 +78,7 @@ files_of devices (debug image script commands) first = image_file image ∷ scri
 files_of devices (cover image script steps) first = image_file image ∷ script_file script ∷ []
 files_of devices (sweep image script arrival from to steps memory) first = image_file image ∷ script_file script ∷ arrival_file arrival ∷ []
 files_of devices (timeline image script steps) first = image_file image ∷ script_file script ∷ []
+files_of devices (live image script commands) first = image_file image ∷ script_file script ∷ lines_file commands ∷ []
 files_of devices (help about) first = []
 
 abbrev pub first_of : List (List ℕ) → List ℕ

@@ -1,5 +1,5 @@
 -- What the program answers: a status, its text, and the file that it puts.
-use Rattle.std.specs.Prelude.{◌≡◌, ℕ, ◌-◌, Bool, false, if◌then◌else◌, List, [], ◌++◌, length, map, slice_index_or, codes, decimal, Option, Some, None, Ok}
+use Rattle.std.specs.Prelude.{◌≡◌, ℕ, ◌-◌, Bool, false, if◌then◌else◌, List, [], ◌++◌, length, map, take, slice_index_or, codes, decimal, Option, Some, None, Ok}
 use Rattle.std.specs.List.{range_with_len}
 use Rattle.kernel_abi.specs.Devices.{DeviceData}
 use Rattle.serde_json.specs.Written.{compact_text}
@@ -20,17 +20,20 @@ use Rattle.snapshot.specs.Saved.{spelling as spelling_of_state}
 use Rattle.board_run.specs.Text.{trace_text}
 use Rattle.board_run.specs.Counts.{summary_text}
 use Rattle.board_run.specs.MemoryText.{memory_text}
+use Rattle.run_cover.specs.Known.{IsKnownOf}
 use Rattle.run_cover.specs.Text.{cover_text}
 use Rattle.run_lanes.specs.Timeline.{timeline_text}
 use Rattle.sweep_core.specs.Swept.{Asking, makes_difference, sweep_text}
 use Rattle.sweep_core.specs.Sweeping.{asked}
 use Rattle.debug_core.specs.declared.command.Command.{Command}
 use Rattle.debug_core.specs.Answers.{text as answers_text}
+use Rattle.debug_core.specs.Live.{live_limit, live_text}
 use Rattle.debug_core.specs.Reading.{commands_or_fault}
+use Rattle.debug_core.specs.Session.{opened}
 use Rattle.trace_audit.specs.declared.verdict.Verdict as trace
 use Rattle.trace_audit.specs.declared.verdict.Verdict.TheVariants.{Yes, No}
 use Rattle.trace_audit.specs.Verdicts as trace_audit
-use Rattle.command_line.specs.CommandLine.{Asked, build, run, go, list, sample, migrate, audit, save, resume, debug, cover, sweep, timeline, help, is_accepted}
+use Rattle.command_line.specs.CommandLine.{Asked, build, run, go, list, sample, migrate, audit, save, resume, debug, cover, sweep, timeline, live, help, is_accepted}
 use Rattle.command_line.specs.declared.job.CommandName.{CommandName}
 use Rattle.command_line.specs.declared.job.Detail.{Detail}
 use Rattle.help_text.specs.Help.{help_text}
@@ -49,7 +52,7 @@ abbrev pub line_alone : ℕ → List ℕ → Verdict
 line_alone status line = record { status = status; text = line; put = None }
 
 abbrev pub usage_line : List ℕ
-usage_line = codes "usage: hubris build, run, go, list, sample, migrate, audit, save, resume, debug, cover, sweep, timeline or help\n"
+usage_line = codes "usage: hubris build, run, go, list, sample, migrate, audit, save, resume, debug, cover, sweep, timeline, live or help\n"
 
 -- `refused <name> <cause> <place>`
 unfoldable pub refused_front : List ℕ → ℕ → List ℕ
@@ -86,9 +89,9 @@ usage = line_alone 2 usage_line
 abbrev pub refused : List ℕ → Why → Verdict
 refused name why = line_alone 1 (refused_line name why.0 why.1)
 
--- a file cannot be read
-abbrev pub unread : List ℕ → Verdict
-unread name = line_alone 3 (unread_line name)
+-- a file cannot be read, behind what was told before
+abbrev pub unread : List ℕ → List ℕ → Verdict
+unread told name = line_alone 3 (told ++ unread_line name)
 
 abbrev pub status_of : End → ℕ
 status_of Bound = 0
@@ -163,11 +166,19 @@ audited (No line) = line_alone 7 (no_line line)
 abbrev pub debugged : Scenario → List Command → Verdict
 debugged x commands = line_alone 0 (answers_text x commands)
 
--- how often a run executed each instruction
-abbrev pub covered : ℕ → Scenario → Verdict
-covered n x =
+-- the lines of these bytes were carried out over the run of a scenario as they came: the answer to each of them
+abbrev pub lived : Scenario → List ℕ → Verdict
+lived x bytes = line_alone 0 (live_text x opened (take live_limit bytes))
+
+-- how often a run executed each instruction, where a test tells what of it is known to be code
+abbrev pub covered : ℕ → Scenario → (ℕ → Bool) → Verdict
+covered n x known =
     let r = run_of All n x in
-    line_alone (status_of r.end) (cover_text x.setup r)
+    line_alone (status_of r.end) (cover_text x.setup r known)
+
+-- the test is true just of what is known of that run
+abbrev pub IsKnownIn : ℕ → Scenario → (ℕ → Bool) → Type 0
+IsKnownIn n x known = IsKnownOf x.setup (run_of All n x) known
 
 -- what is asked of a sweep by the events of an arrival with these bytes
 abbrev pub asking : List ℕ → ℕ → ℕ → ℕ → Bool → Asking
@@ -206,9 +217,12 @@ Does devices (save image script out steps) contents v = v ≡ saved out steps (s
 Does devices (resume image script state steps detail) contents v = v ≡ resumed steps detail (scenario_in devices contents) (state_by devices contents)
 Does devices (debug image script name) contents v =
     (commands : List Command) × (commands_or_fault (slice_index_or contents 2 []) ≡ Ok commands) × (v ≡ debugged (scenario_in devices contents) commands)
-Does devices (cover image script steps) contents v = v ≡ covered steps (scenario_in devices contents)
+Does devices (cover image script steps) contents v =
+    let x = scenario_in devices contents in
+    (known : ℕ → Bool) × IsKnownIn steps x known × (v ≡ covered steps x known)
 Does devices (sweep image script arrival from to steps memory) contents v = v ≡ swept (scenario_in devices contents) (asking (slice_index_or contents 2 []) from to steps memory)
 Does devices (timeline image script steps) contents v = v ≡ timed steps (scenario_in devices contents)
+Does devices (live image script name) contents v = v ≡ lived (scenario_in devices contents) (slice_index_or contents 2 [])
 Does devices (help about) contents v = v ≡ helped about
 
 -- ## the verdict on words and contents, where they are seen as far as they count and a run has these devices

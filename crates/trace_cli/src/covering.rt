@@ -6,8 +6,7 @@ ghost use Rattle.board_core.specs.Data.{boxed};
 ghost use Rattle.board_core.specs.Stands.{Stands, Stood, turns_of};
 ghost use Rattle.command_line.specs.CommandLine.{cover as cover_job};
 ghost use Rattle.trace_cli.specs.Sources.{OnlyReads};
-ghost use Rattle.trace_cli.specs.Pushed.{Says};
-ghost use Rattle.trace_cli.specs.Verdict.{covered};
+ghost use Rattle.trace_cli.specs.Pushed.{SaysCovered};
 ghost use Rattle.trace_cli.specs.Answer.{AnswersJob};
 
 use crate::preparing::prepare_run;
@@ -23,7 +22,7 @@ fn cover_board<S: Sink>(alloc: Global, board: &mut Board, steps: u32, out: &mut 
     requires stood { Stood (boxed shown) board.old }
     requires fresh { turns_of board.old ≡ 0 }
     requires few { steps ≤ 1000000000 }
-    ensures { (x : Scenario) → Stands (boxed shown) x board.old (start_of x) → Says (S.seen out.old) (S.seen out.new) (covered steps x) result }
+    ensures { (x : Scenario) → Stands (boxed shown) x board.old (start_of x) → SaysCovered steps x (S.seen out.old) (S.seen out.new) result }
 {
     let mut cover = match Cover::open(alloc) {
         Ok(cover) => cover,

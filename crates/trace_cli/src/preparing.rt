@@ -9,7 +9,7 @@ ghost use Rattle.command_line.specs.declared.job.Detail.{Detail};
 ghost use Rattle.trace_cli.specs.Sources.{image_file, script_file, OnlyReads};
 ghost use Rattle.trace_cli.specs.FileFaults.{IsNamedFaultOf};
 ghost use Rattle.trace_cli.specs.Verdict.{Verdict, ran};
-ghost use Rattle.trace_cli.specs.Ready.{IsImageFile, IsScriptFile, IsSet, RunsImage, IsReady, IsNamedFaultIn};
+ghost use Rattle.trace_cli.specs.Ready.{IsImageFile, IsScriptFile, IsSet, IsRunSet, TakesImage, RunsImage, IsReady, IsNamedFaultIn};
 
 use crate::building::built_image;
 use crate::file_faults::{NamedFault, fault_named};
@@ -77,7 +77,7 @@ fn set_up<F: Files>(
 }
 
 /// The board at the start of the run of the image and the script under these names, with devices. It is the run of each job that
-/// takes these two files.
+/// takes these two files and no more.
 pub fn prepare_run<F: Files>(
     alloc: Global,
     files: &mut F,
@@ -87,7 +87,8 @@ pub fn prepare_run<F: Files>(
 ) -> Result<Board, NamedFault>
     requires fresh { AreFresh (map shown devices.items) }
     ensures ready { (job : Asked) (verdict : Scenario → Verdict) → RunsImage (map shown devices.items) job image.now script.now verdict → IfOk result (IsReady shown (map shown devices.items) job (F.seen files.old).contents verdict) }
-    ensures named_fault { (job : Asked) (verdict : Scenario → Verdict) → RunsImage (map shown devices.items) job image.now script.now verdict → IfErr result (IsNamedFaultIn (map shown devices.items) job (F.seen files.old) (F.seen files.new)) }
+    ensures set { IfOk result (IsRunSet shown (map shown devices.items) image.now script.now (F.seen files.old).contents) }
+    ensures named_fault { (job : Asked) → TakesImage (map shown devices.items) job image.now script.now → IfErr result (IsNamedFaultIn (map shown devices.items) job (F.seen files.old) (F.seen files.new)) }
     ensures only_reads { OnlyReads (F.seen files.old) (F.seen files.new) }
 {
     match read_image(alloc, files, image) {

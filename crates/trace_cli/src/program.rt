@@ -14,6 +14,7 @@ use crate::covering::cover_files;
 use crate::debugging::debug_files;
 use crate::helping::help;
 use crate::listing::list_file;
+use crate::live::live_files;
 use crate::migrating::migrate_file;
 use crate::resuming::resume_files;
 use crate::running::{go_files, run_files};
@@ -117,6 +118,13 @@ fn answer<F: Files, S: Sink>(
                 steps,
             },
         ) => timeline_files(alloc, image, script, steps, files, out, devices),
+        Ok(
+            Job::Live {
+                image,
+                script,
+                commands,
+            },
+        ) => live_files(alloc, image, script, commands, files, out, devices),
         Ok(Job::Help { about }) => help(about, out),
         Err(Refusal::NotAccepted) => tell_usage(out),
         Err(Refusal::Memory) => 5,
@@ -125,7 +133,7 @@ fn answer<F: Files, S: Sink>(
 
 /// All that the program does. The words, the program's name first, and the files are handed in, and
 /// the lines go to the sink, one push each; the answer is the program's exit status. The devices are those of a run of `run`,
-/// `go`, `save`, `resume`, `debug`, `cover`, `sweep` or `timeline`, as they are handed in: at most eight, to which nothing has come as yet, each at a place of its own.
+/// `go`, `save`, `resume`, `debug`, `cover`, `sweep`, `timeline` or `live`, as they are handed in: at most eight, to which nothing has come as yet, each at a place of its own.
 /// `sample` runs without a device.
 ///
 /// - 0: the trace of the run (docs/FORMATS.md, Trace), with `--all` each of its instructions, with `--mem` its last
@@ -135,10 +143,12 @@ fn answer<F: Files, S: Sink>(
 ///   was written: so many calls were offered in it, and so many of them no line closes; or the commands were carried out
 ///   (docs/FORMATS.md, Commands), and the answer to each was written; or how often the run executed each instruction was written
 ///   (docs/FORMATS.md, Cover); or how the runs end into which the events of an arrival come was written (docs/FORMATS.md, Sweep), and
-///   no arrival time makes a difference; or the run was written as events (docs/FORMATS.md, Timeline); or what the commands are, or what one of them takes and answers, was written.
+///   no arrival time makes a difference; or the run was written as events (docs/FORMATS.md, Timeline); or the lines that came were
+///   carried out, and the answer to each was written (docs/FORMATS.md, Live); or what the commands are, or what one of them takes and answers, was written.
 /// - 1: a file is refused, and `refused <name> <cause> <place>` was written.
 /// - 2: the words are not accepted (docs/FORMATS.md, Command line), and the usage line was written.
-/// - 3: a file cannot be read, and `cannot read <name>` was written.
+/// - 3: a file cannot be read, and `cannot read <name>` was written, behind the answers to the lines that came where it is the
+///   COMMANDS of `live`.
 /// - 4: the output failed. What was written is the beginning of the same text, and under OUT is the image, or the state; or the
 ///   put failed, nothing was written, and under OUT are the old contents or the beginning of the image, or of the state.
 /// - 5: memory is short, and nothing was written or put.
@@ -156,10 +166,10 @@ pub fn hubris_main_with<F: Files, S: Sink>(
 
     // Where the words and the seen contents give a verdict (of accepted words and files: the trace of
     // their run, the listing, the image that is built or migrated, the state that is saved, the trace from a saved state, the two lines of
-    // a sample, what an audit found, the answers to commands, how often each instruction was executed, the lines of a sweep, the events of a timeline, or what `help` says), its file was put, its whole text was pushed under its status; or the sink's count of faults rose, the status is 4, and a front of the text was
+    // a sample, what an audit found, the answers to commands, how often each instruction was executed, the lines of a sweep, the events of a timeline, the answers to lines as they come, or what `help` says), its file was put, its whole text was pushed under its status; or the sink's count of faults rose, the status is 4, and a front of the text was
     // pushed; or the count of failed puts rose, the status is 4, and nothing was pushed; or memory is
     // short, the status is 5, and nothing was pushed or put; or the count of failed reads rose, and the
-    // same holds of the line of a file that cannot be read.
+    // same holds of the line of a file that cannot be read, behind what was told before.
     ensures seen { AnswersEach (map shown devices.items) (texts_of words.now) (F.seen files.old) (F.seen files.new) (S.seen out.old) (S.seen out.new) result }
     ensures complete { ¬ Rose (F.seen files.old).read_faults (F.seen files.new).read_faults → ¬ Rose (F.seen files.old).put_faults (F.seen files.new).put_faults → ¬ Rose (S.seen out.old).faults (S.seen out.new).faults →
         (v : Verdict) → IsVerdict (map shown devices.items) (texts_of words.now) (F.seen files.old).contents v → IsComplete (F.seen files.old) (F.seen files.new) (S.seen out.old) (S.seen out.new) v result }
@@ -195,10 +205,10 @@ pub fn hubris_main<F: Files, S: Sink>(
 ) -> u8
     // Where the words and the seen contents give a verdict (of accepted words and files: the trace of
     // their run, the listing, the image that is built or migrated, the state that is saved, the trace from a saved state, the two lines of
-    // a sample, what an audit found, the answers to commands, how often each instruction was executed, the lines of a sweep, the events of a timeline, or what `help` says), its file was put, its whole text was pushed under its status; or the sink's count of faults rose, the status is 4, and a front of the text was
+    // a sample, what an audit found, the answers to commands, how often each instruction was executed, the lines of a sweep, the events of a timeline, the answers to lines as they come, or what `help` says), its file was put, its whole text was pushed under its status; or the sink's count of faults rose, the status is 4, and a front of the text was
     // pushed; or the count of failed puts rose, the status is 4, and nothing was pushed; or memory is
     // short, the status is 5, and nothing was pushed or put; or the count of failed reads rose, and the
-    // same holds of the line of a file that cannot be read.
+    // same holds of the line of a file that cannot be read, behind what was told before.
     ensures seen { AnswersEach [] (texts_of words.now) (F.seen files.old) (F.seen files.new) (S.seen out.old) (S.seen out.new) result }
     ensures complete { ¬ Rose (F.seen files.old).read_faults (F.seen files.new).read_faults → ¬ Rose (F.seen files.old).put_faults (F.seen files.new).put_faults → ¬ Rose (S.seen out.old).faults (S.seen out.new).faults →
         (v : Verdict) → IsVerdict [] (texts_of words.now) (F.seen files.old).contents v → IsComplete (F.seen files.old) (F.seen files.new) (S.seen out.old) (S.seen out.new) v result }

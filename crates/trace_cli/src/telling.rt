@@ -1,5 +1,5 @@
 //! One line, and the status that goes with it.
-ghost use Rattle.std.specs.Prelude.{◌≡◌, IfOk, string_bytes};
+ghost use Rattle.std.specs.Prelude.{◌≡◌, [], IfOk, string_bytes};
 ghost use Rattle.image_format.specs.Images.{picture};
 ghost use Rattle.trace_cli.specs.Pushed.{Pushed, Says, SaysNamedFault};
 ghost use Rattle.trace_cli.specs.Verdict.{Verdict, usage, unread, refused, refused_front, refused_line, unread_line, built_line, saved_line, listed, listing_line, status_of};
@@ -35,14 +35,15 @@ pub fn tell_usage<S: Sink>(out: &mut S) -> u8
     ensures { Says (S.seen out.old) (S.seen out.new) usage result }
 {
     tell(
-        "usage: hubris build, run, go, list, sample, migrate, audit, save, resume, debug, cover, sweep, timeline or help\n".as_bytes(),
+        "usage: hubris build, run, go, list, sample, migrate, audit, save, resume, debug, cover, sweep, timeline, live or help\n".as_bytes(),
         2,
         out,
     )
 }
 
+/// The line of a file that cannot be read.
 #[tactic(auto, unfolding(crate::specs::Verdict::unread_line))]
-fn line_of_unread(alloc: Global, name: &str) -> Result<String, AllocError>
+pub fn line_of_unread(alloc: Global, name: &str) -> Result<String, AllocError>
     ensures { IfOk result (λ line. string_bytes line ≡ unread_line name.now) }
 {
     format!(in alloc; "cannot read {name}\n")
@@ -50,7 +51,7 @@ fn line_of_unread(alloc: Global, name: &str) -> Result<String, AllocError>
 
 // That a file cannot be read.
 fn tell_unread<S: Sink>(alloc: Global, name: &str, out: &mut S) -> u8
-    ensures { Says (S.seen out.old) (S.seen out.new) (unread name.now) result }
+    ensures { Says (S.seen out.old) (S.seen out.new) (unread [] name.now) result }
 {
     match line_of_unread(alloc, name) {
         Ok(line) => tell(line.as_bytes(), 3, out),

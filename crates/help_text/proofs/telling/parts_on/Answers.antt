@@ -57,3 +57,7 @@ returns-in-Help c = sym (ap parts_on c.in-Help.is)
 pub returns-in-Timeline : goal.returns-in-Timeline
 unfolding parts_on
 returns-in-Timeline c = sym (ap parts_on c.in-Timeline.is)
+
+pub returns-in-Live : goal.returns-in-Live
+unfolding parts_on
+returns-in-Live c = sym (ap parts_on c.in-Live.is)

@@ -9,18 +9,22 @@ returns-in-Ok-clause-ready g c = λ job verdict runs.
     IfOk-weaker c.set_up.result _ _ (λ b h. image_ready (g.F.Files.seen c.args.files.now).contents job verdict c.args.image.now c.args.script.now (picture c.in-Ok.picture) b runs c.in-Ok.ensures.image
     (set_there c.in-Ok.ensures.only_reads.contents h)) c.set_up.ensures.set
 
+pub returns-in-Ok-clause-set : goal.returns-in-Ok-clause-set
+returns-in-Ok-clause-set g c =
+    IfOk-weaker c.set_up.result _ _ (λ b h. record { picture = picture c.in-Ok.picture; of_image = c.in-Ok.ensures.image; set = set_there c.in-Ok.ensures.only_reads.contents h }) c.set_up.ensures.set
+
 pub returns-in-Ok-clause-named_fault : goal.returns-in-Ok-clause-named_fault
-returns-in-Ok-clause-named_fault g c = λ job verdict runs.
+returns-in-Ok-clause-named_fault g c = λ job takes.
     let a = g.F.Files.seen c.args.files.now in
     let b = g.F.Files.seen c.read_image.new.files in
     let e = g.F.Files.seen c.set_up.new.files in
-    IfErr-weaker c.set_up.result _ _ (λ h is. script_faults a b e job verdict c.args.image.now c.args.script.now (picture c.in-Ok.picture) h runs c.in-Ok.ensures.image c.in-Ok.ensures.only_reads.contents c.in-Ok.ensures.only_reads.later is) c.set_up.ensures.named_fault
+    IfErr-weaker c.set_up.result _ _ (λ h is. script_faults a b e job c.args.image.now c.args.script.now (picture c.in-Ok.picture) h takes c.in-Ok.ensures.image c.in-Ok.ensures.only_reads.contents c.in-Ok.ensures.only_reads.later is) c.set_up.ensures.named_fault
 
 pub returns-in-Err-clause-named_fault : goal.returns-in-Err-clause-named_fault
-returns-in-Err-clause-named_fault g c = λ job verdict runs.
+returns-in-Err-clause-named_fault g c = λ job takes.
     let a = g.F.Files.seen c.args.files.now in
     let b = g.F.Files.seen c.read_image.new.files in
-    image_faults a b job verdict c.args.image.now c.args.script.now c.in-Err.named_fault runs c.in-Err.ensures.named_fault
+    image_faults a b job c.args.image.now c.args.script.now c.in-Err.named_fault takes c.in-Err.ensures.named_fault
 
 pub returns-in-Ok-clause-only_reads : goal.returns-in-Ok-clause-only_reads
 returns-in-Ok-clause-only_reads g c = reads_more c.in-Ok.ensures.only_reads c.set_up.ensures.only_reads

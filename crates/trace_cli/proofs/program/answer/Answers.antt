@@ -96,6 +96,16 @@ returns-in-Ok-Sweep-clause-each g c =
     let job = rw c.in-Ok-Sweep.field-0-is at c.in-Ok-Sweep.ensures.job in
     each_of_words _ (texts_of c.args.words.now) _ _ _ _ _ _ c.in-Ok-Sweep.ensures.accepted job tt
 
+pub returns-in-Ok-Live-clause-answer : goal.returns-in-Ok-Live-clause-answer
+returns-in-Ok-Live-clause-answer g c =
+    let job = rw c.in-Ok-Live.field-0-is at c.in-Ok-Live.ensures.job in
+    by_job _ _ _ _ _ _ _ c.in-Ok-Live.ensures.accepted job c.live_files.ensures.answer
+
+pub returns-in-Ok-Live-clause-each : goal.returns-in-Ok-Live-clause-each
+returns-in-Ok-Live-clause-each g c =
+    let job = rw c.in-Ok-Live.field-0-is at c.in-Ok-Live.ensures.job in
+    each_of_words _ (texts_of c.args.words.now) _ _ _ _ _ _ c.in-Ok-Live.ensures.accepted job tt
+
 pub returns-in-Ok-Help-clause-answer : goal.returns-in-Ok-Help-clause-answer
 returns-in-Ok-Help-clause-answer g c =
     let job = rw c.in-Ok-Help.field-0-is at c.in-Ok-Help.ensures.job in

@@ -3,7 +3,7 @@ use Rattle.std.proofs.Common.{refl, ℕ, List}
 use Rattle.kernel_abi.specs.Devices.{DeviceData}
 use Rattle.trace_cli.specs.Ready.{RunsImage}
 use Rattle.trace_cli.specs.Verdict.{saved}
-use Rattle.trace_cli.proofs.Readying.{answers_named_fault, answers_saved, ready_stood}
+use Rattle.trace_cli.proofs.Readying.{answers_named_fault, answers_saved, ready_stood, takes_of}
 use Rattle.trace_cli.proofs.saving.save_file.Goals as goal
 
 saves : (devices : List DeviceData) (image script out : List ℕ) (n : ℕ) → RunsImage devices (save image script out n) image script (saved out n)
@@ -30,4 +30,4 @@ returns-in-Err-clause-answer g c =
     let b = g.F.Files.seen c.prepare_run.new.files in
     let w = g.S.Sink.seen c.args.out.now in
     let w' = g.S.Sink.seen c.tell_named_fault.new.out in
-    answers_named_fault (save c.args.image.now c.args.script.now c.args.name.now c.args.steps) a b w w' c.in-Err.named_fault c.tell_named_fault.result c.in-Err.ensures.only_reads.contents (c.in-Err.ensures.named_fault _ _ (saves _ c.args.image.now c.args.script.now c.args.name.now c.args.steps)) c.tell_named_fault.ensures
+    answers_named_fault (save c.args.image.now c.args.script.now c.args.name.now c.args.steps) a b w w' c.in-Err.named_fault c.tell_named_fault.result c.in-Err.ensures.only_reads.contents (c.in-Err.ensures.named_fault _ (takes_of (saves _ c.args.image.now c.args.script.now c.args.name.now c.args.steps))) c.tell_named_fault.ensures

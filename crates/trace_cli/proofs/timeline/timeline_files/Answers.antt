@@ -3,7 +3,7 @@ use Rattle.kernel_abi.specs.Devices.{DeviceData}
 use Rattle.command_line.specs.CommandLine.{timeline}
 use Rattle.trace_cli.specs.Ready.{RunsImage}
 use Rattle.trace_cli.specs.Verdict.{timed}
-use Rattle.trace_cli.proofs.Readying.{answers_named_fault, answers_timed, ready_stood}
+use Rattle.trace_cli.proofs.Readying.{answers_named_fault, answers_timed, ready_stood, takes_of}
 use Rattle.trace_cli.proofs.timeline.timeline_files.Goals as goal
 
 times : (devices : List DeviceData) (image script : List ℕ) (n : ℕ) → RunsImage devices (timeline image script n) image script (timed n)
@@ -31,4 +31,4 @@ returns-in-Err-clause-answer g c =
     let w = g.S.Sink.seen c.args.out.now in
     let w' = g.S.Sink.seen c.tell_named_fault.new.out in
     answers_named_fault (timeline c.args.image.now c.args.script.now c.args.steps) a b w w' c.in-Err.named_fault c.tell_named_fault.result c.in-Err.ensures.only_reads.contents
-    (c.in-Err.ensures.named_fault _ _ (times _ c.args.image.now c.args.script.now c.args.steps)) c.tell_named_fault.ensures
+    (c.in-Err.ensures.named_fault _ (takes_of (times _ c.args.image.now c.args.script.now c.args.steps))) c.tell_named_fault.ensures
