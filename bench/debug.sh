@@ -71,6 +71,19 @@ bar -v byte="$byte" -v ago=$((turns - ${first%% *})) -v step="$there" -v back="$
     printf "who changed %s, %d turns ago, and nineteen times before: %.4f s each, below 0.1\n", byte, ago, (back - step) / 20
     exit (back - step) / 20 >= 0.1
 }'
+# a byte of the stack's region that never changes, so that each turn is looked through
+for image in crc32 bytecode; do
+    printf '%s\n' "step $turns" "back 1000000000 change 20000100" > out/never.txt
+    said=$("$program" debug out/$image.img out/empty.txt out/never.txt | tail -n 1)
+    [ "$said" = "at 0 0 -" ] || { echo "a byte changed: $said"; exit 1; }
+    read -r all _ < <(out/measure "$program" run out/$image.img out/empty.txt --steps "$turns")
+    read -r there _ < <(echo "step $turns" | session out/$image.img out/empty.txt)
+    read -r back _ < <(session out/$image.img out/empty.txt < <(cat out/never.txt))
+    bar -v image="$image" -v run="$all" -v step="$there" -v back="$back" 'BEGIN {
+        printf "back past no change of a byte of %s: %.1f of a run that tells nothing, at most 6\n", image, (back - step) / run
+        exit back - step > 6 * run
+    }'
+done
 read -r often _ < <({ echo "step $turns"; for _ in $(seq 1000); do echo "notes"; done; } | session out/crc32.img out/empty.txt)
 bar -v step="$step" -v often="$often" 'BEGIN { printf "notes, a thousand times: %.3f s, below 1\n", often - step; exit often - step >= 1 }'
 # the peak of a session, and how many bytes a state has

@@ -46,6 +46,7 @@ audit examples/client-server/expected-mem.txt
 save crates/hubris/data/a.img crates/hubris/data/e.txt $out/app.img --steps 3
 resume crates/hubris/data/a.img crates/hubris/data/e.txt $out/state --steps 3
 debug crates/hubris/data/a.img crates/hubris/data/e.txt $out/commands
+live crates/hubris/data/a.img crates/hubris/data/e.txt $out/commands
 cover crates/hubris/data/a.img crates/hubris/data/e.txt --steps 3
 sweep crates/hubris/data/a.img crates/hubris/data/e.txt examples/lost-byte/arrival.txt 0 5 --steps 9 --mem
 timeline crates/hubris/data/a.img crates/hubris/data/e.txt --steps 3

@@ -199,6 +199,20 @@ same "$made/piped.txt" "$made/audit.txt" "timers, audit of a trace from a pipe"
 at=examples/debugger
 cat "$at/commands.txt" | "$program" debug "$made/debugger.img" "$at/script.txt" /dev/stdin > "$made/answers.txt"
 same "$made/answers.txt" "$at/answers.txt" "debugger, its commands from a pipe"
+cat "$at/commands.txt" | "$program" live "$made/debugger.img" "$at/script.txt" /dev/stdin > "$made/answers.txt"
+same "$made/answers.txt" "$at/answers.txt" "debugger, its commands as they come"
+# each command is asked for only once the answer to the one before was read
+coproc session { exec "$program" live "$made/debugger.img" "$at/script.txt" /dev/stdin; }
+going=$session_PID said=
+for command in "step 5" "stpe 5" "back 2" "go 1000 fault"; do
+    echo "$command" >&"${session[1]}"
+    read -r -t 60 line <&"${session[0]}" || line="no answer"
+    said="$said$line, "
+done
+eval "exec ${session[1]}>&-"
+wait "$going"
+[ "$said" = "at 5 0 -, refused 2, at 3 0 -, 220 fault 1 3 676e696e 00000001, " ] || { echo "debugger, one command after the other: $said"; exit 1; }
+echo "debugger, one command after the other: as expected"
 # what a run or a session has told is read while it goes on: this one makes a call, and then 10^9 turns that tell nothing
 printf '%s\n' '[board]' 'flash = 4096' 'ram = 1024' '[supervisor]' 'fault = "fault"' '[[task]]' 'name = "busy"' \
     "source = \"$made/busy.s\"" 'priority = 0' 'flash = 256' 'ram = 256' 'stack = 64' 'notifications = ["fault"]' > "$made/busy.toml"

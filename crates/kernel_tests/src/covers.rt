@@ -50,30 +50,61 @@ fn cover_of(
 fn how_often_two_instructions_are_executed(rt: HostRuntime) -> Result<(), Fail> {
     let code = [0x01, 0x20, 0xfe, 0xe7];
     let (end, out) = cover_of(&rt, rt.alloc(), &code, 3)?;
-    let expected = b"code 08000000 256\n1 08000000 movs r0, #1\n2 08000002 b 0x08000002\n";
+    let expected = b"\
+code 08000000 256
+1 08000000 movs r0, #1
+2 08000002 b 0x08000002
+rest 08000004 252
+covered 2 of 2 instructions, 0 of 0 ways
+in all 2 of 2 instructions, 0 of 0 ways
+";
     assert!(rt; end == End::Bound);
     assert!(rt; out.text() == expected.as_slice());
     Ok(())
 }
 
-// An instruction of two halfwords, `movs r0, #1` and a branch to itself; behind them nothing is executed: a halfword of zeros,
-// `movs r0, #5`, one that is no instruction, and one of two halfwords.
+// An instruction of two halfwords, `cmp r0, #1`, a `beq` that is not taken, and a branch to itself. Behind them stand a halfword of
+// zeros and `movs r0, #5`, to which nothing leads; a `bl`, to which the `beq` leads; a `bx lr` behind it; and its target, `pop {pc}`.
 #[test]
 fn what_is_not_executed(rt: HostRuntime) -> Result<(), Fail> {
     let code = [
-        0xbf, 0xf3, 0x4f, 0x8f, 0x01, 0x20, 0xfe, 0xe7, 0, 0, 0x05, 0x20, 0, 0xde, 0, 0xf0, 1, 0xf8,
+        0xbf, 0xf3, 0x4f, 0x8f, 0x01, 0x28, 0x02, 0xd0, 0xfe, 0xe7, 0, 0, 0x05, 0x20, 0, 0xf0, 1,
+        0xf8, 0x70, 0x47, 0, 0xbd,
     ];
     let (end, out) = cover_of(&rt, rt.alloc(), &code, 5)?;
     let expected = b"\
 code 08000000 256
 1 08000000 dsb #15
-1 08000004 movs r0, #1
-3 08000006 b 0x08000006
-- 0800000a movs r0, #5
-- 0800000c 
+1 08000004 cmp r0, #1
+1 08000006 beq 0x0800000e; taken 0
+2 08000008 b 0x08000008
+rest 0800000a 4
 - 0800000e bl 0x08000014
+- 08000012 bx lr
+- 08000014 pop {pc}
+rest 08000016 234
+covered 4 of 7 instructions, 1 of 2 ways
+in all 4 of 7 instructions, 1 of 2 ways
 ";
     assert!(rt; end == End::Bound);
+    assert!(rt; out.text() == expected.as_slice());
+    Ok(())
+}
+
+// `movs r0, #0`, a load from address 0, at which the task faults, and `movs r0, #1` behind it, to which nothing leads so.
+#[test]
+fn what_faults_leads_nowhere(rt: HostRuntime) -> Result<(), Fail> {
+    let code = [0x00, 0x20, 0x00, 0x68, 0x01, 0x20];
+    let (end, out) = cover_of(&rt, rt.alloc(), &code, 5)?;
+    let expected = b"\
+code 08000000 256
+1 08000000 movs r0, #0
+1 08000002 ldr r0, [r0, #0]; faulted 1
+rest 08000004 252
+covered 2 of 2 instructions, 0 of 0 ways
+in all 2 of 2 instructions, 0 of 0 ways
+";
+    assert!(rt; end == End::Supervisor);
     assert!(rt; out.text() == expected.as_slice());
     Ok(())
 }

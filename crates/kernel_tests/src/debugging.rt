@@ -1,11 +1,11 @@
 //! Texts of commands (docs/FORMATS.md, Commands): what each says, and each cause with its line; and sessions with two runs, by what
-//! their commands are answered.
+//! their commands are answered, all at once and line by line.
 ghost use Rattle.std.specs.Prelude.{◌≤◌, length};
 
 use board_core::Board;
 use debug_core::{CommandFault, Commands, Debugger};
 use image_format::Image;
-use outside_io::MemSink;
+use outside_io::{MemFiles, MemSink};
 use run_script::Script;
 use std::alloc::{AllocError, Global};
 use std::process::Abort;
@@ -237,5 +237,62 @@ low 00000007 00000000 00000000 00000000 00000000 00000000 00000000 00000000
 high 00000000 00000000 00000000 00000000 00000000 20000140 ffffffff 08000102 0000
 ";
     assert!(rt; out.text() == expected.as_slice());
+    Ok(())
+}
+
+/// What the lines of a file are answered one by one, over the run of an image in which nothing happens from outside.
+fn live_answers(
+    rt: &impl Abort,
+    alloc: Global,
+    image: &[u8],
+    lines: &[u8],
+) -> Result<MemSink, AllocError>
+    requires { length image.now ≤ 1000 }
+{
+    let image = Image::read(alloc, image).expect(rt, "the image is sound");
+    let script = Script::read(alloc, b"").expect(rt, "the script is taken");
+    let board = Board::open(alloc, &image, &script, Vec::new(alloc))?;
+    let mut debugger = Debugger::open(alloc, board)?;
+    let mut files = MemFiles::open(alloc, &[])?;
+    files.hold("lines", lines, lines.len())?;
+    let mut out = MemSink::open(alloc, 4096, &[])?;
+    debugger
+        .carry_out_live(&mut files, "lines", &mut out)
+        .expect(rt, "there is room");
+    Ok(out)
+}
+
+#[test]
+fn a_refused_line_changes_nothing(rt: HostRuntime) -> Result<(), Fail> {
+    let mut image = [0; 300];
+    image[..48].copy_from_slice(&STILL);
+    let lines = b"break 08000002\r\ngo 10\nfoo\n\n# nothing\nback 1\nmem 08000000 x\nstep 0";
+    let out = live_answers(&rt, rt.alloc(), &image, lines)?;
+    let expected = b"break 08000002\nhit 2 0 08000002\nrefused 2\nat 1 0 -\nrefused 3\nat 1 0 -\n";
+    assert!(rt; out.text() == expected.as_slice());
+    Ok(())
+}
+
+/// A command of which two bytes are those before the 4,096th, and lines of 1,024 and 1,025 bytes.
+fn long_lines(alloc: Global) -> Result<Vec<u8>, AllocError> {
+    let mut text = Vec::new(alloc);
+    for _ in 0..2047 {
+        text.extend_from_slice(b"#\n")?;
+    }
+    text.extend_from_slice(b"at 12\n")?;
+    text.extend_from_slice(&[b'#'; 1024])?;
+    text.extend_from_slice(b"\r\n")?;
+    text.extend_from_slice(&[b'#'; 1025])?;
+    text.extend_from_slice(b"\nstep 1")?;
+    Ok(text)
+}
+
+#[test]
+fn lines_over_two_reads(rt: HostRuntime) -> Result<(), Fail> {
+    let mut image = [0; 300];
+    image[..48].copy_from_slice(&STILL);
+    let lines = long_lines(rt.alloc())?;
+    let out = live_answers(&rt, rt.alloc(), &image, &lines)?;
+    assert!(rt; out.text() == b"at 12 0 -\nrefused 5\nat 13 0 -\n".as_slice());
     Ok(())
 }
