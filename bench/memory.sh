@@ -14,6 +14,7 @@ out=bench/out/memory
 mkdir -p $out
 gcc -O2 -Wall -shared -fPIC -o $out/refuse.so bench/refuse.c
 "$program" save crates/hubris/data/a.img crates/hubris/data/e.txt $out/state --steps 2 >$out/text
+"$program" build examples/restart/app.toml $out/restart.img >$out/text
 printf '%s\n' 'break 08000002' 'go 3' 'back 1' 'regs 0' 'mem 08000000 4' 'notes' 'back 9 change 20000000' > $out/commands
 bad=0
 while read -r words; do
@@ -27,7 +28,7 @@ while read -r words; do
     cmp $out/text $out/again || bad=1
     awk -v words="$words" -v status=$status '
         $2 == 5 && $3 == 0 && $5 == "none" && $6 == "kept" { refused++; next }
-        $2 == status && $5 == "same" && ($6 == "put") == (words ~ /^(build|migrate|save)/) { whole++; next }
+        $2 == status && $5 == "same" && ($6 == "put") == (words ~ /^(build|migrate|save|picture|lcov)/) { whole++; next }
         { print "  allocation " $1 ": status " $2 ", " $3 " bytes before and " $4 " behind (" $5 "), file " $6; wrong++ }
         END {
             printf "%s: %d allocations, %d with status 5 and nothing told, %d with the whole text, %d otherwise\n", words, NR, refused, whole, wrong
@@ -50,6 +51,8 @@ live crates/hubris/data/a.img crates/hubris/data/e.txt $out/commands
 cover crates/hubris/data/a.img crates/hubris/data/e.txt --steps 3
 sweep crates/hubris/data/a.img crates/hubris/data/e.txt examples/lost-byte/arrival.txt 0 5 --steps 9 --mem
 timeline crates/hubris/data/a.img crates/hubris/data/e.txt --steps 3
+picture $out/restart.img examples/restart/empty.txt $out/app.img --steps 300 --names examples/restart/app.toml
+lcov examples/restart/app.toml examples/restart/empty.txt $out/app.img --steps 300
 help
 help run
 WORDS

@@ -97,6 +97,38 @@ for stretches in lanes.values():
     ends.add(at)
 assert len(ends) == 1, ends' "$made/timeline.json" || { echo "$example: its timeline has gaps"; exit 1; }
 done
+# pictures are XML, each lane's boxes fill its columns, and those of two examples stand beside them
+for example in one-task client-server blinker driver restart timers watch uart debugger lost-byte from-c; do
+    script=$example/script.txt
+    [ -e "examples/$script" ] || script=$example/empty.txt
+    "$program" picture "$made/$example.img" "examples/$script" "$made/picture.svg" --steps 500 --names "examples/$example/app.toml" > "$made/drawn.txt"
+    [ "$(cat "$made/drawn.txt")" = "drawn $(wc -c < "$made/picture.svg") bytes" ] || { echo "$example, picture: $(cat "$made/drawn.txt")"; exit 1; }
+    python3 -c '
+import re, sys, xml.etree.ElementTree as tree
+lanes = []
+for part in tree.parse(sys.argv[1]).getroot().iter():
+    word = re.fullmatch("a([0-6])", part.get("class", ""))
+    if word and part.get("d") is not None:
+        if word[1] == "0": lanes.append(0)
+        lanes[-1] += sum(int(w) * int(h) for w, h in re.findall(r"h(\d+)v(\d+)h-", part.get("d")))
+assert lanes and all(area == 1200 * 18 for area in lanes), lanes' "$made/picture.svg" || { echo "$example: its picture has gaps"; exit 1; }
+done
+at=$PWD/examples
+(cd "$made" && "$program" picture restart.img "$at/restart/empty.txt" picture.svg --steps 300 --names "$at/restart/app.toml" > drawn.txt)
+same "$made/picture.svg" examples/restart/picture.svg "restart, picture"
+(cd "$made" && "$program" picture uart.img "$at/uart/script.txt" picture.svg --steps 4000 --names "$at/uart/app.toml" > drawn.txt)
+same "$made/picture.svg" examples/uart/picture.svg "uart, picture"
+# how often each line was executed: all of them together as often as an instruction was
+"$program" lcov examples/restart/app.toml examples/restart/empty.txt "$made/lcov.info" --steps 300 > "$made/traced.txt"
+same "$made/lcov.info" examples/restart/lcov.info "restart, lcov"
+for example in one-task client-server blinker driver restart timers watch uart debugger lost-byte from-c; do
+    script=$example/script.txt
+    [ -e "examples/$script" ] || script=$example/empty.txt
+    "$program" lcov "examples/$example/app.toml" "examples/$script" "$made/lcov.info" --steps 500 > "$made/traced.txt"
+    "$program" run "$made/$example.img" "examples/$script" --steps 500 --all > "$made/all.txt" || [ $? = 6 ]
+    counted=$(awk -F '[:,]' '$1 == "DA" { n += $3 } END { print n }' "$made/lcov.info")
+    [ "$counted" = "$(grep -c '^[0-9]* insn ' "$made/all.txt")" ] || { echo "$example: lcov counts $counted"; exit 1; }
+done
 # each run holds together, its memory behind it too; a borrow of a call that nobody took does not
 for example in one-task client-server blinker driver restart timers watch uart debugger lost-byte from-c; do
     for text in expected expected-mem; do

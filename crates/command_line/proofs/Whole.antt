@@ -298,7 +298,7 @@ sweep_whole words e =
     ))))))))))))
 
 timeline_sure : Each (Sure (shape_at 12).rules) (shape_at 12).rules
-timeline_sure = (record { known = refl; sure = refl }, (record { known = refl; sure = refl }, (record { known = refl; sure = refl }, (record { known = refl; sure = refl }, tt))))
+timeline_sure = (record { known = refl; sure = refl }, (record { known = refl; sure = refl }, (record { known = refl; sure = refl }, (record { known = refl; sure = refl }, (record { known = refl; sure = refl }, tt)))))
 
 timeline_whole : (words : List Text) → entered_fault app (Some (codes "timeline", words)) ≡ [] → IsWhole (entered app (Some (codes "timeline", words)))
 timeline_whole words e =
@@ -331,21 +331,57 @@ live_whole words e =
       },
     ))))))))))))))
 
+picture_sure : Each (Sure (shape_at 14).rules) (shape_at 14).rules
+picture_sure = (record { known = refl; sure = refl }, (record { known = refl; sure = refl }, (record { known = refl; sure = refl }, (record { known = refl; sure = refl }, (record { known = refl; sure = refl }, (record { known = refl; sure = refl }, tt))))))
+
+picture_whole : (words : List Text) → entered_fault app (Some (codes "picture", words)) ≡ [] → IsWhole (entered app (Some (codes "picture", words)))
+picture_whole words e =
+    let s = shape_at 14 in
+    let rows = rows_after s.rules [] words in
+    let d = leaf s words picture_sure refl e in
+    inr (inr (inr (inr (inr (inr (inr (inr (inr (inr (inr (inr (inr (inr (inl (
+      refl,
+      record {
+        image = text (rule_at s 0) rows (has_given s.rules (rule_at s 0) rows d.good refl (d.given.0 refl));
+        script = text (rule_at s 1) rows (has_given s.rules (rule_at s 1) rows d.good refl (d.given.1.0 refl));
+        out = text (rule_at s 2) rows (has_given s.rules (rule_at s 2) rows d.good refl (d.given.1.1.0 refl));
+        steps = number most_steps (rule_at s 3) rows (omega arith) refl (has_given s.rules (rule_at s 3) rows d.good refl (d.given.1.1.1.0 refl));
+      },
+    )))))))))))))))
+
+lcov_sure : Each (Sure (shape_at 15).rules) (shape_at 15).rules
+lcov_sure = (record { known = refl; sure = refl }, (record { known = refl; sure = refl }, (record { known = refl; sure = refl }, (record { known = refl; sure = refl }, (record { known = refl; sure = refl }, tt)))))
+
+lcov_whole : (words : List Text) → entered_fault app (Some (codes "lcov", words)) ≡ [] → IsWhole (entered app (Some (codes "lcov", words)))
+lcov_whole words e =
+    let s = shape_at 15 in
+    let rows = rows_after s.rules [] words in
+    let d = leaf s words lcov_sure refl e in
+    inr (inr (inr (inr (inr (inr (inr (inr (inr (inr (inr (inr (inr (inr (inr (inl (
+      refl,
+      record {
+        app = text (rule_at s 0) rows (has_given s.rules (rule_at s 0) rows d.good refl (d.given.0 refl));
+        script = text (rule_at s 1) rows (has_given s.rules (rule_at s 1) rows d.good refl (d.given.1.0 refl));
+        out = text (rule_at s 2) rows (has_given s.rules (rule_at s 2) rows d.good refl (d.given.1.1.0 refl));
+        steps = number most_steps (rule_at s 3) rows (omega arith) refl (has_given s.rules (rule_at s 3) rows d.good refl (d.given.1.1.1.0 refl));
+      },
+    ))))))))))))))))
+
 -- `help` wants nothing
 help_whole : (words : List Text) → entered_fault app (Some (codes "help", words)) ≡ [] → IsWhole (entered app (Some (codes "help", words)))
-help_whole words e = inr (inr (inr (inr (inr (inr (inr (inr (inr (inr (inr (inr (inr (inr refl)))))))))))))
+help_whole words e = inr (inr (inr (inr (inr (inr (inr (inr (inr (inr (inr (inr (inr (inr (inr (inr refl)))))))))))))))
 
 -- ---- the program
 
 -- the name of one of its commands
 abbrev IsCommand : Text → Type 0
-IsCommand name = (name ≡ codes "build") ⊎ ((name ≡ codes "run") ⊎ ((name ≡ codes "go") ⊎ ((name ≡ codes "list") ⊎ ((name ≡ codes "sample") ⊎ ((name ≡ codes "migrate") ⊎ ((name ≡ codes "audit") ⊎ ((name ≡ codes "save") ⊎ ((name ≡ codes "resume") ⊎ ((name ≡ codes "debug") ⊎ ((name ≡ codes "cover") ⊎ ((name ≡ codes "sweep") ⊎ ((name ≡ codes "timeline") ⊎ ((name ≡ codes "live") ⊎ (name ≡ codes "help"))))))))))))))
+IsCommand name = (name ≡ codes "build") ⊎ ((name ≡ codes "run") ⊎ ((name ≡ codes "go") ⊎ ((name ≡ codes "list") ⊎ ((name ≡ codes "sample") ⊎ ((name ≡ codes "migrate") ⊎ ((name ≡ codes "audit") ⊎ ((name ≡ codes "save") ⊎ ((name ≡ codes "resume") ⊎ ((name ≡ codes "debug") ⊎ ((name ≡ codes "cover") ⊎ ((name ≡ codes "sweep") ⊎ ((name ≡ codes "timeline") ⊎ ((name ≡ codes "live") ⊎ ((name ≡ codes "picture") ⊎ ((name ≡ codes "lcov") ⊎ (name ≡ codes "help"))))))))))))))))
 
 top_sure : Each (Sure app.top.rules) app.top.rules
 top_sure = (record { known = refl; sure = refl }, tt)
 
 own : Each (λ n. asks_for_help app.top n.0 ≡ false → IsCommand n.0) (names_of app)
-own = ((λ _. inl refl), ((λ _. inr (inl refl)), ((λ _. inr (inr (inl refl))), ((λ _. inr (inr (inr (inl refl)))), ((λ _. inr (inr (inr (inr (inl refl))))), ((λ _. inr (inr (inr (inr (inr (inl refl)))))), ((λ _. inr (inr (inr (inr (inr (inr (inl refl))))))), ((λ _. inr (inr (inr (inr (inr (inr (inr (inl refl)))))))), ((λ _. inr (inr (inr (inr (inr (inr (inr (inr (inl refl))))))))), ((λ _. inr (inr (inr (inr (inr (inr (inr (inr (inr (inl refl)))))))))), ((λ _. inr (inr (inr (inr (inr (inr (inr (inr (inr (inr (inl refl))))))))))), ((λ _. inr (inr (inr (inr (inr (inr (inr (inr (inr (inr (inr (inl refl)))))))))))), ((λ _. inr (inr (inr (inr (inr (inr (inr (inr (inr (inr (inr (inr (inl refl))))))))))))), ((λ _. inr (inr (inr (inr (inr (inr (inr (inr (inr (inr (inr (inr (inr (inl refl)))))))))))))), ((λ _. inr (inr (inr (inr (inr (inr (inr (inr (inr (inr (inr (inr (inr (inr refl)))))))))))))), tt)))))))))))))))
+own = ((λ _. inl refl), ((λ _. inr (inl refl)), ((λ _. inr (inr (inl refl))), ((λ _. inr (inr (inr (inl refl)))), ((λ _. inr (inr (inr (inr (inl refl))))), ((λ _. inr (inr (inr (inr (inr (inl refl)))))), ((λ _. inr (inr (inr (inr (inr (inr (inl refl))))))), ((λ _. inr (inr (inr (inr (inr (inr (inr (inl refl)))))))), ((λ _. inr (inr (inr (inr (inr (inr (inr (inr (inl refl))))))))), ((λ _. inr (inr (inr (inr (inr (inr (inr (inr (inr (inl refl)))))))))), ((λ _. inr (inr (inr (inr (inr (inr (inr (inr (inr (inr (inl refl))))))))))), ((λ _. inr (inr (inr (inr (inr (inr (inr (inr (inr (inr (inr (inl refl)))))))))))), ((λ _. inr (inr (inr (inr (inr (inr (inr (inr (inr (inr (inr (inr (inl refl))))))))))))), ((λ _. inr (inr (inr (inr (inr (inr (inr (inr (inr (inr (inr (inr (inr (inl refl)))))))))))))), ((λ _. inr (inr (inr (inr (inr (inr (inr (inr (inr (inr (inr (inr (inr (inr (inl refl))))))))))))))), ((λ _. inr (inr (inr (inr (inr (inr (inr (inr (inr (inr (inr (inr (inr (inr (inr (inl refl)))))))))))))))), ((λ _. inr (inr (inr (inr (inr (inr (inr (inr (inr (inr (inr (inr (inr (inr (inr (inr refl)))))))))))))))), tt)))))))))))))))))
 
 command_whole : (name : Text) (words : List Text) → IsCommand name → entered_fault app (Some (name, words)) ≡ [] → IsWhole (entered app (Some (name, words)))
 command_whole name words (inl is) = subst (λ n. entered_fault app (Some (n, words)) ≡ [] → IsWhole (entered app (Some (n, words)))) (sym is) (build_whole words)
@@ -362,7 +398,9 @@ command_whole name words (inr (inr (inr (inr (inr (inr (inr (inr (inr (inr (inl 
 command_whole name words (inr (inr (inr (inr (inr (inr (inr (inr (inr (inr (inr (inl is)))))))))))) = subst (λ n. entered_fault app (Some (n, words)) ≡ [] → IsWhole (entered app (Some (n, words)))) (sym is) (sweep_whole words)
 command_whole name words (inr (inr (inr (inr (inr (inr (inr (inr (inr (inr (inr (inr (inl is))))))))))))) = subst (λ n. entered_fault app (Some (n, words)) ≡ [] → IsWhole (entered app (Some (n, words)))) (sym is) (timeline_whole words)
 command_whole name words (inr (inr (inr (inr (inr (inr (inr (inr (inr (inr (inr (inr (inr (inl is)))))))))))))) = subst (λ n. entered_fault app (Some (n, words)) ≡ [] → IsWhole (entered app (Some (n, words)))) (sym is) (live_whole words)
-command_whole name words (inr (inr (inr (inr (inr (inr (inr (inr (inr (inr (inr (inr (inr (inr is)))))))))))))) = subst (λ n. entered_fault app (Some (n, words)) ≡ [] → IsWhole (entered app (Some (n, words)))) (sym is) (help_whole words)
+command_whole name words (inr (inr (inr (inr (inr (inr (inr (inr (inr (inr (inr (inr (inr (inr (inl is))))))))))))))) = subst (λ n. entered_fault app (Some (n, words)) ≡ [] → IsWhole (entered app (Some (n, words)))) (sym is) (picture_whole words)
+command_whole name words (inr (inr (inr (inr (inr (inr (inr (inr (inr (inr (inr (inr (inr (inr (inr (inl is)))))))))))))))) = subst (λ n. entered_fault app (Some (n, words)) ≡ [] → IsWhole (entered app (Some (n, words)))) (sym is) (lcov_whole words)
+command_whole name words (inr (inr (inr (inr (inr (inr (inr (inr (inr (inr (inr (inr (inr (inr (inr (inr is)))))))))))))))) = subst (λ n. entered_fault app (Some (n, words)) ≡ [] → IsWhole (entered app (Some (n, words)))) (sym is) (help_whole words)
 
 stopped : (stop : Option (Text × List Text)) → IfSome stop (λ p. IsCommand p.0) → entered_fault app stop ≡ [] → is_some (entered app stop) ≡ true
     → IsWhole (entered app stop)

@@ -50,6 +50,10 @@ steps_rule = record (new_rule (codes "steps")) {
   parser = Some (number_parser most_steps);
 }
 
+-- `--NAME VALUE`, which may be left out
+abbrev pub option_rule : Text → Rule
+option_rule name = record (new_rule name) { long = Some name }
+
 -- `--NAME`, without a value
 abbrev pub flag_rule : Text → Rule
 flag_rule name = record (new_rule name) { long = Some name; action = Some SetTrue }
@@ -79,7 +83,9 @@ number_in id rows = number_of (unwrap_or (one_of id rows) [])
 -- file; the run of an image with a script from the state in a file, up to so many turns, and in which detail it is
 -- told; the commands in a file, carried out over the run of an image with a script; how often such a run executes each
 -- instruction; how such runs end into which the events of a further script come, from each turn of a range on, and whether with the
--- memory; what the commands are, or what one of them takes and answers.
+-- memory; such a run as events for a viewer, with the names of an application or without; the lines of a file, carried out over such a
+-- run as they come; such a run as a picture, and the name of that file; how often the run of an application with a script executes
+-- each line of its sources, and the name of that file; what the commands are, or what one of them takes and answers.
 pub data Asked : Type 0 where
   build : Text → Text → Asked
   run : Text → Text → ℕ → Detail → Asked
@@ -93,8 +99,10 @@ pub data Asked : Type 0 where
   debug : Text → Text → Text → Asked
   cover : Text → Text → ℕ → Asked
   sweep : Text → Text → Text → ℕ → ℕ → ℕ → Bool → Asked
-  timeline : Text → Text → ℕ → Asked
+  timeline : Text → Text → ℕ → Option Text → Asked
   live : Text → Text → Text → Asked
+  picture : Text → Text → Text → ℕ → Option Text → Asked
+  lcov : Text → Text → Text → ℕ → Asked
   help : Option CommandName → Asked
 
 -- `--all` and `--mem`
@@ -208,12 +216,12 @@ sweep_form = record {
   asks = λ rows. Some (sweep (text_in (codes "image") rows) (text_in (codes "script") rows) (text_in (codes "arrival") rows) (number_in (codes "from") rows) (number_in (codes "to") rows) (number_in (codes "steps") rows) (is_set (codes "mem") rows));
 }
 
--- `timeline IMAGE SCRIPT --steps N`
+-- `timeline IMAGE SCRIPT --steps N [--names APP]`
 abbrev pub timeline_form : Form
 timeline_form = record {
   name = codes "timeline";
-  rules = positional_rule (codes "image") ∷ positional_rule (codes "script") ∷ steps_rule ∷ [];
-  asks = λ rows. Some (timeline (text_in (codes "image") rows) (text_in (codes "script") rows) (number_in (codes "steps") rows));
+  rules = positional_rule (codes "image") ∷ positional_rule (codes "script") ∷ steps_rule ∷ option_rule (codes "names") ∷ [];
+  asks = λ rows. Some (timeline (text_in (codes "image") rows) (text_in (codes "script") rows) (number_in (codes "steps") rows) (first_of (codes "names") rows));
 }
 
 -- `live IMAGE SCRIPT COMMANDS`
@@ -224,12 +232,28 @@ live_form = record {
   asks = λ rows. Some (live (text_in (codes "image") rows) (text_in (codes "script") rows) (text_in (codes "commands") rows));
 }
 
+-- `picture IMAGE SCRIPT OUT --steps N [--names APP]`
+abbrev pub picture_form : Form
+picture_form = record {
+  name = codes "picture";
+  rules = positional_rule (codes "image") ∷ positional_rule (codes "script") ∷ positional_rule (codes "out") ∷ steps_rule ∷ option_rule (codes "names") ∷ [];
+  asks = λ rows. Some (picture (text_in (codes "image") rows) (text_in (codes "script") rows) (text_in (codes "out") rows) (number_in (codes "steps") rows) (first_of (codes "names") rows));
+}
+
+-- `lcov APP SCRIPT OUT --steps N`
+abbrev pub lcov_form : Form
+lcov_form = record {
+  name = codes "lcov";
+  rules = positional_rule (codes "app") ∷ positional_rule (codes "script") ∷ positional_rule (codes "out") ∷ steps_rule ∷ [];
+  asks = λ rows. Some (lcov (text_in (codes "app") rows) (text_in (codes "script") rows) (text_in (codes "out") rows) (number_in (codes "steps") rows));
+}
+
 -- the commands by their names
 abbrev pub commands : List (Text × CommandName)
 commands = (codes "build", command.Build) ∷ (codes "run", command.Run) ∷ (codes "go", command.Go) ∷ (codes "list", command.List)
     ∷ (codes "sample", command.Sample) ∷ (codes "migrate", command.Migrate) ∷ (codes "audit", command.Audit) ∷ (codes "save", command.Save)
     ∷ (codes "resume", command.Resume) ∷ (codes "debug", command.Debug) ∷ (codes "cover", command.Cover) ∷ (codes "sweep", command.Sweep) ∷ (codes "timeline", command.Timeline)
-    ∷ (codes "live", command.Live) ∷ (codes "help", command.Help) ∷ []
+    ∷ (codes "live", command.Live) ∷ (codes "picture", command.Picture) ∷ (codes "lcov", command.Lcov) ∷ (codes "help", command.Help) ∷ []
 
 -- the command that a word names
 abbrev pub command_by : Text → Option CommandName
@@ -249,7 +273,7 @@ help_form = record {
 }
 
 abbrev pub forms : List Form
-forms = build_form ∷ run_form ∷ go_form ∷ list_form ∷ sample_form ∷ migrate_form ∷ audit_form ∷ save_form ∷ resume_form ∷ debug_form ∷ cover_form ∷ sweep_form ∷ timeline_form ∷ live_form ∷ help_form ∷ []
+forms = build_form ∷ run_form ∷ go_form ∷ list_form ∷ sample_form ∷ migrate_form ∷ audit_form ∷ save_form ∷ resume_form ∷ debug_form ∷ cover_form ∷ sweep_form ∷ timeline_form ∷ live_form ∷ picture_form ∷ lcov_form ∷ help_form ∷ []
 
 -- ---- the program
 

@@ -65,7 +65,8 @@ pub record IsWholeMigrate (rows : List Row) : Type 0 where
 pub record IsWholeAudit (rows : List Row) : Type 0 where
   pub trace : HasText (codes "trace") rows
 
-pub record IsWholeSave (rows : List Row) : Type 0 where
+-- of a command that plays a script on an image and puts a file
+pub record IsWholePut (rows : List Row) : Type 0 where
   pub image : HasText (codes "image") rows
   pub script : HasText (codes "script") rows
   pub out : HasText (codes "out") rows
@@ -79,13 +80,20 @@ pub record IsWholeResume (rows : List Row) : Type 0 where
   pub all : IsSwitch (first_of (codes "all") rows)
   pub mem : IsSwitch (first_of (codes "mem") rows)
 
+-- of a command that runs an application and puts a file
+pub record IsWholeLcov (rows : List Row) : Type 0 where
+  pub app : HasText (codes "app") rows
+  pub script : HasText (codes "script") rows
+  pub out : HasText (codes "out") rows
+  pub steps : HasSteps rows
+
 -- of a command that carries out commands over a run
 pub record IsWholeSession (rows : List Row) : Type 0 where
   pub image : HasText (codes "image") rows
   pub script : HasText (codes "script") rows
   pub commands : HasText (codes "commands") rows
 
--- of a command that plays a script on an image, and has no more words
+-- of a command that plays a script on an image, and wants no more words
 pub record IsWholePlay (rows : List Row) : Type 0 where
   pub image : HasText (codes "image") rows
   pub script : HasText (codes "script") rows
@@ -114,11 +122,13 @@ IsWhole (Some p) = ((p.0 ≡ codes "build") × IsWholeBuild p.1)
     ⊎ (((p.0 ≡ codes "sample") × IsWholeSample p.1)
     ⊎ (((p.0 ≡ codes "migrate") × IsWholeMigrate p.1)
     ⊎ (((p.0 ≡ codes "audit") × IsWholeAudit p.1)
-    ⊎ (((p.0 ≡ codes "save") × IsWholeSave p.1)
+    ⊎ (((p.0 ≡ codes "save") × IsWholePut p.1)
     ⊎ (((p.0 ≡ codes "resume") × IsWholeResume p.1)
     ⊎ (((p.0 ≡ codes "debug") × IsWholeSession p.1)
     ⊎ (((p.0 ≡ codes "cover") × IsWholePlay p.1)
     ⊎ (((p.0 ≡ codes "sweep") × IsWholeSweep p.1)
     ⊎ (((p.0 ≡ codes "timeline") × IsWholePlay p.1)
     ⊎ (((p.0 ≡ codes "live") × IsWholeSession p.1)
-    ⊎ (p.0 ≡ codes "help"))))))))))))))
+    ⊎ (((p.0 ≡ codes "picture") × IsWholePut p.1)
+    ⊎ (((p.0 ≡ codes "lcov") × IsWholeLcov p.1)
+    ⊎ (p.0 ≡ codes "help"))))))))))))))))

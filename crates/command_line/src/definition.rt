@@ -4,7 +4,7 @@ ghost use Rattle.clap.specs.Words.{app_of, rule_of};
 ghost use Rattle.clap.specs.Simple.{new_rule};
 ghost use Rattle.clap.specs.declared.builder.command.Command.TheViews.{out-Command as fields_of};
 ghost use Rattle.command_line.specs.Adding.{AddsForm};
-ghost use Rattle.command_line.specs.CommandLine.{bare_app, hubris_app, most_seed, most_steps, positional_rule, number_parser, number_rule, turn_rule, steps_rule, flag_rule, app_of_form, build_form, run, running_form, run_form, go_form, list_form, sample_form, migrate_form, audit_form, save_form, resume_form, debug_form, cover_form, sweep_form, timeline_form, live_form, help_form};
+ghost use Rattle.command_line.specs.CommandLine.{bare_app, hubris_app, most_seed, most_steps, positional_rule, number_parser, number_rule, turn_rule, steps_rule, option_rule, flag_rule, app_of_form, build_form, run, running_form, run_form, go_form, list_form, sample_form, migrate_form, audit_form, save_form, resume_form, debug_form, cover_form, sweep_form, timeline_form, live_form, picture_form, lcov_form, help_form};
 
 use clap::builder::ValueParser;
 use clap::{Arg, ArgAction, Command};
@@ -58,6 +58,13 @@ fn flag<'a>(alloc: Global, name: &'a str) -> Arg<'a>
     ensures local { result.global ≡ false }
 {
     Arg::new(alloc, name).long(name).action(ArgAction::SetTrue)
+}
+
+fn option<'a>(alloc: Global, name: &'a str) -> Arg<'a>
+    ensures rule { rule_of result ≡ option_rule name.entry.now }
+    ensures local { result.global ≡ false }
+{
+    Arg::new(alloc, name).long(name)
 }
 
 fn build_command<'a>(alloc: Global) -> Result<Command<'a>, AllocError>
@@ -198,7 +205,8 @@ fn timeline_command<'a>(alloc: Global) -> Result<Command<'a>, AllocError>
     Command::new(alloc, "timeline")
         .arg(positional(alloc, "image"))?
         .arg(positional(alloc, "script"))?
-        .arg(steps(alloc))
+        .arg(steps(alloc))?
+        .arg(option(alloc, "names"))
 }
 
 fn live_command<'a>(alloc: Global) -> Result<Command<'a>, AllocError>
@@ -209,6 +217,29 @@ fn live_command<'a>(alloc: Global) -> Result<Command<'a>, AllocError>
         .arg(positional(alloc, "image"))?
         .arg(positional(alloc, "script"))?
         .arg(positional(alloc, "commands"))
+}
+
+fn picture_command<'a>(alloc: Global) -> Result<Command<'a>, AllocError>
+    ensures shape { IfOk result (λ c. app_of c ≡ app_of_form picture_form) }
+    ensures local { IfOk result (λ c. (fields_of c).has_globals ≡ false) }
+{
+    Command::new(alloc, "picture")
+        .arg(positional(alloc, "image"))?
+        .arg(positional(alloc, "script"))?
+        .arg(positional(alloc, "out"))?
+        .arg(steps(alloc))?
+        .arg(option(alloc, "names"))
+}
+
+fn lcov_command<'a>(alloc: Global) -> Result<Command<'a>, AllocError>
+    ensures shape { IfOk result (λ c. app_of c ≡ app_of_form lcov_form) }
+    ensures local { IfOk result (λ c. (fields_of c).has_globals ≡ false) }
+{
+    Command::new(alloc, "lcov")
+        .arg(positional(alloc, "app"))?
+        .arg(positional(alloc, "script"))?
+        .arg(positional(alloc, "out"))?
+        .arg(steps(alloc))
 }
 
 // The word behind `help`: any, or none. Which command it names is looked up where the job is made.
@@ -257,5 +288,7 @@ pub fn hubris_command<'a>(alloc: Global) -> Result<Command<'a>, AllocError>
     let hubris = with_command(hubris, sweep_command(alloc))?;
     let hubris = with_command(hubris, timeline_command(alloc))?;
     let hubris = with_command(hubris, live_command(alloc))?;
+    let hubris = with_command(hubris, picture_command(alloc))?;
+    let hubris = with_command(hubris, lcov_command(alloc))?;
     with_command(hubris, help_command(alloc))
 }

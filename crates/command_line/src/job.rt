@@ -1,7 +1,8 @@
 //! What the matches of a command ask for.
 ghost use Rattle.std.specs.Prelude.{◌≡◌, ◌≤◌, ◌<◌, ◌^◌, ℕ, Some, IfSome, option_map, codes};
 ghost use Rattle.clap.specs.Words.{rows_of, found_of, one_of};
-ghost use Rattle.command_line.specs.CommandLine.{asked_by, build_form, run_form, go_form, list_form, sample_form, migrate_form, audit_form, save_form, resume_form, debug_form, cover_form, sweep_form, timeline_form, live_form, help_form, command_by, text_in, is_set, detail_in, number_in, most_steps};
+ghost use Rattle.clap.specs.Walk.{first_of};
+ghost use Rattle.command_line.specs.CommandLine.{asked_by, build_form, run_form, go_form, list_form, sample_form, migrate_form, audit_form, save_form, resume_form, debug_form, cover_form, sweep_form, timeline_form, live_form, picture_form, lcov_form, help_form, command_by, text_in, is_set, detail_in, number_in, most_steps};
 ghost use Rattle.command_line.specs.Required.{IsNumber, HasSeed, HasSteps, HasTurns, AreTurns, IsWhole};
 ghost use Rattle.command_line.specs.Asking.{asked, steps_of};
 
@@ -32,6 +33,8 @@ pub enum CommandName {
     Sweep,
     Timeline,
     Live,
+    Picture,
+    Lcov,
     Help,
 }
 
@@ -113,17 +116,35 @@ pub enum Job<'a> {
         steps: u32,
         memory: bool,
     },
-    /// The run of IMAGE with SCRIPT for at most `steps` turns as events that viewers of timelines read.
+    /// The run of IMAGE with SCRIPT for at most `steps` turns as events that viewers of timelines read, with the names of tasks that
+    /// APP has, where one is given.
     Timeline {
         image: &'a str,
         script: &'a str,
         steps: u32,
+        names: Option<&'a str>,
     },
     /// Carry out the lines of COMMANDS over the run of IMAGE with SCRIPT as they come.
     Live {
         image: &'a str,
         script: &'a str,
         commands: &'a str,
+    },
+    /// The run of IMAGE with SCRIPT for at most `steps` turns as a picture, put under OUT, with the names of tasks that APP has, where
+    /// one is given.
+    Picture {
+        image: &'a str,
+        script: &'a str,
+        out: &'a str,
+        steps: u32,
+        names: Option<&'a str>,
+    },
+    /// How often the run of APP with SCRIPT executes each line of its sources, in at most `steps` turns, put under OUT.
+    Lcov {
+        app: &'a str,
+        script: &'a str,
+        out: &'a str,
+        steps: u32,
     },
     /// Say what the commands are, or what one of them takes and answers.
     Help {
@@ -138,6 +159,13 @@ fn text_of<'a>(matches: &ArgMatches<'a>, id: &str) -> &'a str
         Some(text) => text,
         None => "",
     }
+}
+
+// The value of an option that may be left out.
+fn option_of<'a>(matches: &ArgMatches<'a>, id: &str) -> Option<&'a str>
+    ensures { option_map (λ value. value.now) result ≡ first_of id.now (rows_of (found_of matches.now)) }
+{
+    matches.get_str(id)
 }
 
 fn flag_of(matches: &ArgMatches<'_>, id: &str) -> bool
@@ -329,6 +357,7 @@ fn timeline_by<'a>(matches: &ArgMatches<'a>) -> Job<'a>
         image: text_of(matches, "image"),
         script: text_of(matches, "script"),
         steps: steps_in(matches),
+        names: option_of(matches, "names"),
     }
 }
 
@@ -340,6 +369,31 @@ fn live_by<'a>(matches: &ArgMatches<'a>) -> Job<'a>
         image: text_of(matches, "image"),
         script: text_of(matches, "script"),
         commands: text_of(matches, "commands"),
+    }
+}
+
+fn picture_by<'a>(matches: &ArgMatches<'a>) -> Job<'a>
+    ensures job { HasSteps (rows_of (found_of matches.now)) → Some (asked result) ≡ picture_form.asks (rows_of (found_of matches.now)) }
+    ensures few { HasSteps (rows_of (found_of matches.now)) → steps_of result ≤ most_steps }
+{
+    Job::Picture {
+        image: text_of(matches, "image"),
+        script: text_of(matches, "script"),
+        out: text_of(matches, "out"),
+        steps: steps_in(matches),
+        names: option_of(matches, "names"),
+    }
+}
+
+fn lcov_by<'a>(matches: &ArgMatches<'a>) -> Job<'a>
+    ensures job { HasSteps (rows_of (found_of matches.now)) → Some (asked result) ≡ lcov_form.asks (rows_of (found_of matches.now)) }
+    ensures few { HasSteps (rows_of (found_of matches.now)) → steps_of result ≤ most_steps }
+{
+    Job::Lcov {
+        app: text_of(matches, "app"),
+        script: text_of(matches, "script"),
+        out: text_of(matches, "out"),
+        steps: steps_in(matches),
     }
 }
 
@@ -375,6 +429,10 @@ fn command_named(word: &str) -> Option<CommandName>
         Some(CommandName::Timeline)
     } else if word == "live" {
         Some(CommandName::Live)
+    } else if word == "picture" {
+        Some(CommandName::Picture)
+    } else if word == "lcov" {
+        Some(CommandName::Lcov)
     } else if word == "help" {
         Some(CommandName::Help)
     } else {
@@ -428,6 +486,10 @@ pub fn job_by<'a>(name: &str, matches: &ArgMatches<'a>) -> Option<Job<'a>>
         Some(timeline_by(matches))
     } else if name == "live" {
         Some(live_by(matches))
+    } else if name == "picture" {
+        Some(picture_by(matches))
+    } else if name == "lcov" {
+        Some(lcov_by(matches))
     } else {
         help_by(matches)
     }

@@ -125,9 +125,10 @@ kept_full n front bytes c e full =
 
 -- ---- a piece of a text, byte by byte
 
-pub piece_at : (text piece rest : List ℕ) (i : ℕ) → i < length piece → (text ++ take i piece) ++ get_or piece i 0 ∷ (drop (suc i) piece ++ rest) ≡ (text ++ piece) ++ rest
+pub piece_at : (text piece rest : List ℕ) (i : ℕ) → i < length piece → ((text ++ take i piece) ++ get_or piece i 0 ∷ []) ++ (drop (suc i) piece ++ rest) ≡ (text ++ piece) ++ rest
 piece_at text piece rest i lt =
-    append_assoc text (take i piece) (get_or piece i 0 ∷ (drop (suc i) piece ++ rest))
+    append_assoc (text ++ take i piece) (get_or piece i 0 ∷ []) (drop (suc i) piece ++ rest)
+    ∙ append_assoc text (take i piece) (get_or piece i 0 ∷ (drop (suc i) piece ++ rest))
     ∙ ap (λ (t : List ℕ). text ++ t)
     (sym (append_assoc (take i piece) (get_or piece i 0 ∷ drop (suc i) piece) rest)
     ∙ ap (λ (t : List ℕ). t ++ rest) (ap (λ (t : List ℕ). take i piece ++ t) (sym (drop-cons piece i 0 lt)) ∙ take-append-drop i piece))

@@ -15,7 +15,7 @@ use Rattle.task_table.specs.Sane.{Sane}
 use Rattle.board_model.specs.declared.outcomes.End.{End}
 use Rattle.board_model.specs.declared.outcomes.Level.TheVariants.{Calls}
 use Rattle.board_model.specs.Cut.{left_of}
-use Rattle.board_model.specs.Run.{Run, at_turn, ending, run, unless, with_front}
+use Rattle.board_model.specs.Run.{Run, at_turn, end_by, ending, is_down, is_still, run, unless, with_front}
 use Rattle.board_model.specs.Script.{Scenario, start_of}
 use Rattle.board_model.specs.Turn.{turn, turned}
 use Rattle.board_model.proofs.Changes.{ram_turn}
@@ -27,12 +27,12 @@ use Rattle.debug_core.specs.declared.command.Command.TheVariants.{BackFor, GoFor
 use Rattle.debug_core.specs.declared.command.NoteKind.{NoteKind}
 use Rattle.debug_core.specs.declared.command.Sought.{Sought}
 use Rattle.debug_core.specs.declared.command.Sought.TheVariants.{Change}
-use Rattle.debug_core.specs.Runs.{forward, most_turns, state_at}
+use Rattle.debug_core.specs.Runs.{end_here, forward, most_turns, notes_of_run, state_at}
 use Rattle.debug_core.specs.Searched.{can_be, first_found, is_found, is_sought, last_found, last_of, told_at}
 use Rattle.debug_core.specs.Session.{Session, after, ahead, behind, gone, gone_back}
 use Rattle.debug_core.proofs.Ahead.{first_turn, makes, reaches, sane_at}
 use Rattle.debug_core.proofs.Lasts.{IsLast, last_is}
-use Rattle.debug_core.proofs.Onward.{bounded, goes_on, memory_after}
+use Rattle.debug_core.proofs.Onward.{goes_on, memory_after}
 
 absent : {A : Type 0} {P : Type 0} {a : A} → ◌≡◌ {A = Option A} None (Some a) → P
 absent e = cc
@@ -159,20 +159,31 @@ with_turn t notes note c =
     let lt = c.1 in
     (c.0, omega arith, get_or-map (λ (n : Note). (t, n)) notes c.0 note ∙ ap (λ (n : Note). (t, n)) c.2)
 
+-- where a run does not end, turns are left to it
+some_left : (x : Scenario) (left : ℕ) (s : State) → ending x left s ≡ None → 0 < left
+unfolding ending
+some_left x zero s e = by (is_down s) e
+  where
+    by : (down : Bool) → end_by down 0 (is_still x s) ≡ None → 0 < 0
+    by true e = absent (sym e)
+    by false e = absent (sym e)
+some_left x (suc left) s e = omega arith
+
 made : (x : Scenario) (n : ℕ) (s : State) → ending x (suc n) s ≡ None → (run Calls x (suc n) s).notes ≡ at_turn s.turn (turn Calls x s).notes ++ (run Calls x n (turn Calls x s).state).notes
 unfolding run
 made x n s is = ap (λ (o : Option End). (unless s o (with_front (at_turn s.turn (turn Calls x s).notes) (run Calls x n (turn Calls x s).state))).notes) is
 
-pub found_is_told : (x : Scenario) (kind : NoteKind) (number : Option ℕ) (t : ℕ) (note : Note) → Sane x.setup (start_of x) → (state_at x t).turn ≡ t → t < most_turns → ending x 1 (state_at x t) ≡ None → told_at x kind number t ≡ Some (Told t note) →
-    Contains (run Calls x most_turns (start_of x)).notes (t, note)
-found_is_told x kind number t note sane there few on e =
+pub found_is_told : (x : Scenario) (kind : NoteKind) (number : Option ℕ) (t : ℕ) (note : Note) → Sane x.setup (start_of x) → (state_at x t).turn ≡ t → end_here x t ≡ None → told_at x kind number t ≡ Some (Told t note) → Contains (notes_of_run x) (t, note)
+found_is_told x kind number t note sane there on e =
     let u = state_at x t in
     let zeroth = first_turn x in
+    let few = some_left x (most_turns - t) u on in
     let its = (found_in (is_sought kind number) (turn Calls x u).notes note (note_of t note (find (is_sought kind number) (turn Calls x u).notes) e)).0 in
     let rest = (run Calls x (most_turns - suc t) (turn Calls x u).state).notes in
-    let left : left_of most_turns (start_of x) u ≡ suc (most_turns - suc t) = omega arith in
-    let whole = cut Calls x t most_turns (start_of x) sane (omega arith) in
-    let goes = made x (most_turns - suc t) u (bounded x (suc (most_turns - suc t)) u (omega arith) ∙ on) in
+    let left : left_of most_turns (start_of x) u ≡ suc (most_turns - suc t) = omega (arith, few, zeroth, there) in
+    let whole = cut Calls x t most_turns (start_of x) sane (omega (arith, few, zeroth)) in
+    let more : most_turns - t ≡ suc (most_turns - suc t) = omega (arith, few) in
+    let goes = made x (most_turns - suc t) u (sym (ap (λ k. ending x k u) more) ∙ on) in
     let notes : (run Calls x most_turns (start_of x)).notes ≡ (run Calls x t (start_of x)).notes ++ (at_turn t (turn Calls x u).notes ++ rest) =
     ap (λ (r : Run). r.notes) whole ∙ ap (λ k. (run Calls x t (start_of x)).notes ++ (run Calls x k u).notes) left ∙ ap (λ (ns : List (ℕ × Note)). (run Calls x t (start_of x)).notes ++ ns) goes
     ∙ ap (λ k. (run Calls x t (start_of x)).notes ++ (at_turn k (turn Calls x u).notes ++ rest)) there in

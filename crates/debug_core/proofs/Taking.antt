@@ -1,10 +1,10 @@
 -- The bytes that a session takes of a file, read by read.
-use Rattle.std.proofs.Common.{◌≡◌, ◌∙◌, ℕ, ◌+◌, ◌-◌, ◌<◌, ◌≤◌, List, [], ◌++◌, length, take, drop, Option, Some, None, refl, sym, ap, arith}
+use Rattle.std.proofs.Common.{◌≡◌, ◌∙◌, ℕ, ◌+◌, ◌-◌, ◌<◌, ◌≤◌, List, [], ◌++◌, length, take, drop, Option, Some, None, refl, sym, ap, subst, arith}
 use Rattle.std.proofs.lemmas.List.{append-nil, length-append, length-take, take-append-drop, take_all}
 use Rattle.std.proofs.Math.Seq.{take-add}
-use Rattle.outside_io.specs.Outside.{IsPart, WhereSeen}
+use Rattle.outside_io.specs.Outside.{IsFront, IsPart, WhereSeen, raised}
 use Rattle.outside_io.proofs.Pieces.{read_more}
-use Rattle.debug_core.specs.Live.{MayBeBegun, MayBeTaken, live_limit}
+use Rattle.debug_core.specs.Live.{HasGiven, MayBeTaken, live_limit}
 
 -- the bytes before a place, of contents that may be seen
 pub record IsRead (contents : Option (List ℕ)) (place : ℕ) (text : List ℕ) : Type 0 where
@@ -21,7 +21,7 @@ read_on contents place n text buf within h part = record {
 }
 
 -- they may be the front of what is taken
-pub read_begun : (contents : Option (List ℕ)) (place : ℕ) (text : List ℕ) → IsRead contents place text → MayBeBegun contents text
+pub read_begun : (contents : Option (List ℕ)) (place : ℕ) (text : List ℕ) → IsRead contents place text → WhereSeen contents (IsFront text)
 read_begun contents place text h = λ all e. (drop place all, sym (ap (λ (t : List ℕ). t ++ drop place all) (h.front all e).0 ∙ take-append-drop place all))
 
 -- with something behind them, all of it
@@ -54,3 +54,21 @@ read_most contents place text most h = record {
   few = omega (arith, h.size);
   front = λ all e. (h.front all e).0 ∙ ap (λ n. take n all) most;
 }
+
+-- ---- how many they are
+
+pub given_none : (given : ℕ) → HasGiven given given 0
+given_none given = record { least = omega arith; most = omega arith }
+
+pub given_more : (before given after place n : ℕ) → HasGiven before given place → after ≡ raised given n → HasGiven before after (place + n)
+given_more before given after place n h rose = record { least = omega (arith, h.least, rose); most = omega (arith, h.most, rose) }
+
+-- a read that failed, and one that gave nothing
+pub given_same : (before given after place : ℕ) → HasGiven before given place → after ≡ given → HasGiven before after place
+given_same before given after place h same = record { least = omega (arith, h.least, same); most = omega (arith, h.most, same) }
+
+pub given_end : (before given after place n : ℕ) → HasGiven before given place → after ≡ raised given n → n ≡ 0 → HasGiven before after place
+given_end before given after place n h rose none = record { least = omega (arith, h.least, rose, none); most = omega (arith, h.most, rose, none) }
+
+pub given_all : (contents : Option (List ℕ)) (before after place : ℕ) (text : List ℕ) → IsRead contents place text → HasGiven before after place → HasGiven before after (length text)
+given_all contents before after place text h given = subst (HasGiven before after) (sym h.size) given

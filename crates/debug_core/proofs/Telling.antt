@@ -72,6 +72,14 @@ module _ {X : Type 0} {H : X → Type 0} (shown : Shows X H) (x : Scenario) (s :
   pub amid_begun : Appends old w (begun_text x s text)
   amid_begun = subst (λ ls. Appends old w (lines_told x s ls)) (sym (cut_ended text h.lines h.behind h.cut)) h.told
 
+  -- at the end of the text
+  pub amid_after : after_lines x here (lines_of h.behind) ≡ after_lines x s (lines_of text)
+  amid_after =
+      sym (after_more x s h.lines (lines_of h.behind))
+      ∙ ap (λ t. after_lines x s (h.lines ++ lines_of t)) (sym (append-nil h.behind))
+      ∙ ap (after_lines x s) (sym (h.cut.whole []))
+      ∙ ap (λ t. after_lines x s (lines_of t)) (append-nil text)
+
   -- the line under way, with its LF and as the last one
   pub amid_ended : IsOneLine (h.behind ++ 10 ∷ [])
   amid_ended = (h.behind, h.cut.no_lf, inr refl)
@@ -103,10 +111,11 @@ module _ {X : Type 0} {H : X → Type 0} (shown : Shows X H) (x : Scenario) (s :
           begun = begun;
         }
 
-    pub amid_fails : AppendsFront w w' (live_text x here (h.behind ++ 10 ∷ [])) → (rest : List ℕ) → AppendsFront old w' (live_text x s (text ++ 10 ∷ rest))
+    pub amid_fails : AppendsFront w w' (live_text x here (h.behind ++ 10 ∷ [])) → (rest : List ℕ) → AppendsFront old w' (live_text x s ((text ++ 10 ∷ []) ++ rest))
     amid_fails failed = λ rest.
         let behind = lines_told x (after_lines x here (lines_of (h.behind ++ 10 ∷ []))) (lines_of rest) in
-        subst (AppendsFront old w') (sym (amid_whole (10 ∷ rest) ∙ ap (λ t. lines_told x s h.lines ++ t) (lf_apart x here h.behind rest h.cut.no_lf)))
+        let whole = ap (live_text x s) (append_assoc text (10 ∷ []) rest) ∙ amid_whole (10 ∷ rest) in
+        subst (AppendsFront old w') (sym (whole ∙ ap (λ t. lines_told x s h.lines ++ t) (lf_apart x here h.behind rest h.cut.no_lf)))
         (front_more old w w' (lines_told x s h.lines) (live_text x here (h.behind ++ 10 ∷ []) ++ behind) h.told
         (front_wider w w' (live_text x here (h.behind ++ 10 ∷ [])) behind failed))
 

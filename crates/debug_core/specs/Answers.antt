@@ -29,8 +29,8 @@ use Rattle.debug_core.specs.declared.command.Command.{Command}
 use Rattle.debug_core.specs.declared.command.Command.TheVariants as command
 use Rattle.debug_core.specs.declared.command.Sought.{Sought}
 use Rattle.debug_core.specs.Runs.{end_here, forward, state_at}
-use Rattle.debug_core.specs.Searched.{can_be, found}
-use Rattle.debug_core.specs.Session.{Session, after, ahead, behind, hit_from, is_full, opened}
+use Rattle.debug_core.specs.Searched.{found}
+use Rattle.debug_core.specs.Session.{Session, after, ahead, behind, hit_from, is_full, may_find, opened}
 
 -- ---- what it is
 
@@ -62,7 +62,7 @@ found_at x what (Some turn) cursor = unwrap_or (found x what turn) Absent  -- it
 found_at x what None cursor = at_turn x cursor
 
 abbrev pub sought_for : Scenario → Session → Sought → Option ℕ → ℕ → Answer
-sought_for x s what turn cursor = if can_be what (state_at x s.cursor).memory then found_at x what turn cursor else Absent
+sought_for x s what turn cursor = if may_find x s what then found_at x what turn cursor else Absent
 
 -- how a task is: what is told of it at the end of a run, its registers aside
 abbrev pub task_view : State → ℕ → TaskView
@@ -163,6 +163,10 @@ kind_words Port count queue = codes "port " ++ decimal (length queue) ++ queue_w
 
 unfoldable pub device_line : ℕ → Kind → ℕ → ℕ → List ℕ → List ℕ
 device_line k kind base count queue = codes "device " ++ decimal k ++ spaced_hex base ++ codes " " ++ kind_words kind count queue ++ codes "\n"
+
+-- `refused <cause>`, of a line
+abbrev pub refusal_line : ℕ → List ℕ
+refusal_line cause = codes "refused " ++ decimal cause ++ codes "\n"
 
 abbrev pub text_of : Answer → List ℕ
 text_of (Set at) = address_line (codes "break ") at

@@ -1,12 +1,12 @@
 -- A session whose lines come one by one (docs/FORMATS.md, Live).
-use Rattle.std.specs.Prelude.{ℕ, ◌≡◌, ◌≤◌, ◌==◌, nat_lt, if◌then◌else◌, List, [], ◌∷◌, ◌++◌, length, take, codes, decimal, Option, Some, None, Ok, Err}
+use Rattle.std.specs.Prelude.{ℕ, ◌≡◌, ◌≤◌, ◌+◌, ◌==◌, nat_lt, if◌then◌else◌, List, [], ◌∷◌, ◌++◌, length, take, Option, Some, None, Ok, Err}
 use Rattle.std.specs.List.{count_by}
 use Rattle.std.specs.Io.KnownBytes.{Appends}
 use Rattle.text_lines.specs.Text.{lines_of}
-use Rattle.outside_io.specs.Outside.{AppendsFront, IsFront, WhereSeen}
-use Rattle.outside_io.specs.Seen.{FilesSeen}
+use Rattle.outside_io.specs.Outside.{AppendsFront, IsFront, WhereSeen, raised}
+use Rattle.outside_io.specs.Seen.{FilesSeen, SinkSeen}
 use Rattle.board_model.specs.Script.{Scenario}
-use Rattle.debug_core.specs.Answers.{told}
+use Rattle.debug_core.specs.Answers.{refusal_line, told}
 use Rattle.debug_core.specs.Lines.{Said, said}
 use Rattle.debug_core.specs.Session.{Session, after}
 
@@ -19,7 +19,7 @@ live_said line = if nat_lt 1024 (length line) then Err 5 else said line
 abbrev pub line_told : Scenario → Session → Said → List ℕ
 line_told x s (Ok None) = []
 line_told x s (Ok (Some command)) = told x s command
-line_told x s (Err cause) = codes "refused " ++ decimal cause ++ codes "\n"
+line_told x s (Err cause) = refusal_line cause
 
 abbrev pub after_line : Scenario → Session → Said → Session
 after_line x s (Ok None) = s
@@ -54,29 +54,38 @@ pub record MayBeTaken (contents : Option (List ℕ)) (bytes : List ℕ) : Type 0
   pub few : length bytes ≤ live_limit
   pub front : WhereSeen contents (λ all. bytes ≡ take live_limit all)
 
--- they may be some that were read of them: where these are seen, a front of them
-abbrev pub MayBeBegun : Option (List ℕ) → List ℕ → Type 0
-MayBeBegun contents bytes = WhereSeen contents (λ all. IsFront bytes all)
+-- reads gave n bytes: the count of bytes given rose by as many, at most to its type's end
+pub record HasGiven (before after n : ℕ) : Type 0 where
+  pub least : raised before n ≤ after
+  pub most : after ≤ before + n
 
--- ---- what a session does, by the contents of its file and by what was written before and after
+-- ---- what a session does, by its file and its sink before and after
 
--- each line is answered
-pub record TellsLive (x : Scenario) (s : Session) (contents : Option (List ℕ)) (old new : Option (List ℕ)) : Type 0 where
+-- each line is answered, of all that the reads gave
+pub record TellsLive (x : Scenario) (s : Session) (name : List ℕ) (before after : FilesSeen) (w w' : SinkSeen) : Type 0 where
   pub bytes : List ℕ
-  pub taken : MayBeTaken contents bytes
-  pub told : Appends old new (live_text x s bytes)
+  pub taken : MayBeTaken (before.contents name) bytes
+  pub given : HasGiven before.given after.given (length bytes)
+  pub told : Appends w.written w'.written (live_text x s bytes)
 
--- a read failed: each line is answered that an LF ended in what was read
-pub record BreaksUnread (x : Scenario) (s : Session) (contents : Option (List ℕ)) (old new : Option (List ℕ)) : Type 0 where
+-- the answers to the lines that an LF ended in all that the reads gave: where the contents are seen, in a front of them
+pub record IsBegun (x : Scenario) (s : Session) (contents : Option (List ℕ)) (before after : ℕ) (told : List ℕ) : Type 0 where
   pub front : List ℕ
-  pub begun : MayBeBegun contents front
-  pub told : Appends old new (begun_text x s front)
+  pub held : WhereSeen contents (IsFront front)
+  pub given : HasGiven before after (length front)
+  pub is : told ≡ begun_text x s front
+
+-- a read failed: these were appended
+pub record BreaksUnread (x : Scenario) (s : Session) (name : List ℕ) (before after : FilesSeen) (w w' : SinkSeen) : Type 0 where
+  pub text : List ℕ
+  pub begun : IsBegun x s (before.contents name) before.given after.given text
+  pub told : Appends w.written w'.written text
 
 -- a push or a flush failed: a front of the answers was appended
-pub record BreaksTelling (x : Scenario) (s : Session) (contents : Option (List ℕ)) (old new : Option (List ℕ)) : Type 0 where
+pub record BreaksTelling (x : Scenario) (s : Session) (name : List ℕ) (before : FilesSeen) (w w' : SinkSeen) : Type 0 where
   pub bytes : List ℕ
-  pub taken : MayBeTaken contents bytes
-  pub told : AppendsFront old new (live_text x s bytes)
+  pub taken : MayBeTaken (before.contents name) bytes
+  pub told : AppendsFront w.written w'.written (live_text x s bytes)
 
 -- files are only read: the counts of failed reads and of bytes may rise, their contents and the count of failed puts stay
 pub record OnlyReads (before after : FilesSeen) : Type 0 where

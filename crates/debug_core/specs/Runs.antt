@@ -1,10 +1,12 @@
 -- A run from its start, turn by turn.
-use Rattle.std.specs.Prelude.{ℕ, ◌+◌, ◌-◌, min, Option}
+use Rattle.std.specs.Prelude.{ℕ, ◌≡◌, ◌+◌, ◌-◌, min, List, Option}
+use Rattle.kernel_abi.specs.declared.Note.{Note}
 use Rattle.task_table.specs.State.{State}
+use Rattle.task_table.specs.Sane.{Sane}
 use Rattle.board_model.specs.declared.outcomes.End.{End}
 use Rattle.board_model.specs.declared.outcomes.Level.TheVariants.{Calls}
 use Rattle.board_model.specs.Cut.{cut_at}
-use Rattle.board_model.specs.Run.{ending}
+use Rattle.board_model.specs.Run.{ending, run}
 use Rattle.board_model.specs.Script.{Scenario, start_of}
 
 -- the turns of a run, at most
@@ -18,6 +20,15 @@ state_at x turn = cut_at Calls x turn (start_of x)
 -- why the run ends at a turn, where it does
 abbrev pub end_here : Scenario → ℕ → Option End
 end_here x turn = ending x (most_turns - turn) (state_at x turn)
+
+-- the run starts sane and comes to this turn
+pub record Reaches (x : Scenario) (turn : ℕ) : Type 0 where
+  pub start : Sane x.setup (start_of x)
+  pub turn_is : (state_at x turn).turn ≡ turn
+
+-- all that it tells, each note with its turn
+abbrev pub notes_of_run : Scenario → List (ℕ × Note)
+notes_of_run x = (run Calls x most_turns (start_of x)).notes
 
 -- so many turns on from a cursor, at most to the end of the run
 abbrev pub forward : Scenario → ℕ → ℕ → ℕ

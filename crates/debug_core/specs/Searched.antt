@@ -4,7 +4,7 @@ use Rattle.std.specs.List.{range_with_len}
 use Rattle.std.specs.Option.{option_map}
 use Rattle.kernel_abi.specs.declared.Note.{Note}
 use Rattle.kernel_abi.specs.declared.Note.TheVariants as note
-use Rattle.mem_banks.specs.Memory.{Memory, is_held}
+use Rattle.mem_banks.specs.Memory.{Memory, byte_at, is_held}
 use Rattle.board_model.specs.declared.outcomes.Level.TheVariants.{Calls}
 use Rattle.board_model.specs.Script.{Scenario}
 use Rattle.board_model.specs.Turn.{turn}
@@ -68,6 +68,13 @@ abbrev pub is_sought : NoteKind → Option ℕ → Note → Bool
 is_sought kind number note = is_of_kind kind note && agrees number (first_number note)
 
 -- ---- a turn
+
+-- the byte at an address before a turn of the run, and as the turn leaves it
+abbrev pub byte_before : Scenario → ℕ → ℕ → Option ℕ
+byte_before x at n = byte_at (state_at x n).memory at
+
+abbrev pub byte_left : Scenario → ℕ → ℕ → Option ℕ
+byte_left x at n = byte_at (turn Calls x (state_at x n)).state.memory at
 
 -- what is found in a turn of the run, as it is answered
 abbrev pub told_at : Scenario → NoteKind → Option ℕ → ℕ → Option Answer

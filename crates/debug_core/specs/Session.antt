@@ -45,6 +45,10 @@ hit_from x s n = hit_in x s.breakpoints s.cursor (forward x s.cursor n - s.curso
 
 -- ---- searches
 
+-- there can be such a turn
+abbrev pub may_find : Scenario → Session → Sought → Bool
+may_find x s what = can_be what (state_at x s.cursor).memory
+
 -- the first of so many turns on from the cursor in which it is found, and the last of so many back
 abbrev pub ahead : Scenario → Session → ℕ → Sought → Option ℕ
 ahead x s n what = first_found x what s.cursor (forward x s.cursor n - s.cursor)
@@ -66,7 +70,7 @@ gone_back s n None = s.cursor - n
 
 -- it stays where there can be no such turn
 abbrev pub if_there : Scenario → Session → Sought → ℕ → ℕ
-if_there x s what cursor = if can_be what (state_at x s.cursor).memory then cursor else s.cursor
+if_there x s what cursor = if may_find x s what then cursor else s.cursor
 
 abbrev pub after : Scenario → Session → Command → Session
 after x s (Break at) = record s { breakpoints = with_breakpoint s.breakpoints at }

@@ -1,14 +1,16 @@
 -- A session amid a text: the lines that an LF ended, and the one under way.
-use Rattle.std.specs.Prelude.{ℕ, ◌≡◌, ◌==◌, ◌⊎◌, List, [], ◌∷◌, ◌++◌, length, take, Option, None, Ok}
+use Rattle.std.specs.Prelude.{ℕ, ◌≡◌, ◌==◌, ◌⊎◌, List, [], ◌∷◌, ◌++◌, length, take, Option, None, Result, Ok, OnOk, OnErr}
 use Rattle.std.specs.List.{count_by}
 use Rattle.std.specs.Io.KnownBytes.{Appends}
 use Rattle.text_lines.specs.Text.{HasNoLf, lines_of}
+use Rattle.outside_io.specs.Outside.{AppendsFront}
+use Rattle.outside_io.specs.Seen.{FilesSeen, SinkSeen}
 use Rattle.board_model.specs.Script.{Scenario}
 use Rattle.board_core.specs.Data.{Shows}
 use Rattle.debug_core.specs.declared.debugger.Debugger.{Debugger}
 use Rattle.debug_core.specs.declared.live.LineUnderWay.{LineUnderWay}
 use Rattle.debug_core.specs.Lines.{Said}
-use Rattle.debug_core.specs.Live.{after_line, lines_told, live_said}
+use Rattle.debug_core.specs.Live.{HasGiven, MayBeTaken, after_line, lines_told, live_said, live_text}
 use Rattle.debug_core.specs.Session.{Session}
 use Rattle.debug_core.specs.Sessions.{IsSession}
 
@@ -40,6 +42,14 @@ pub record IsCut (text : List ℕ) (lines : List (List ℕ)) (behind : List ℕ)
 abbrev pub IsUnderWay : LineUnderWay → List ℕ → Type 0
 IsUnderWay under_way bytes = under_way.front.items ≡ take 1026 bytes
 
+-- a debugger is at a session, and one line, or a part of one, is under way
+pub record IsAtLine {X : Type 0} {H : X → Type 0} (shown : Shows X H) (x : Scenario) (s : Session) (bytes : List ℕ) (d : Debugger X H) (under_way : LineUnderWay) : Type 0 where
+  pub at : IsSession shown x d s
+  pub begun : IsUnderWay under_way bytes
+  pub one : IsOneLine bytes
+
+-- ---- amid a text
+
 -- so much of a text was taken: its ended lines are answered, and what stands behind them is under way
 pub record IsAmid {X : Type 0} {H : X → Type 0} (shown : Shows X H) (x : Scenario) (s : Session) (text : List ℕ) (old new : Option (List ℕ)) (d : Debugger X H) (under_way : LineUnderWay) : Type 0 where
   pub lines : List (List ℕ)
@@ -48,3 +58,28 @@ pub record IsAmid {X : Type 0} {H : X → Type 0} (shown : Shows X H) (x : Scena
   pub at : IsSession shown x d (after_lines x s lines)
   pub told : Appends old new (lines_told x s lines)
   pub begun : IsUnderWay under_way behind
+
+-- of some session and some text of it
+abbrev pub IsTaking : {X : Type 0} {H : X → Type 0} → Shows X H → SinkSeen → Debugger X H → LineUnderWay → Type 0
+IsTaking shown w d under_way = (x : Scenario) × (s : Session) × (text : List ℕ) × (old : Option (List ℕ)) × IsAmid shown x s text old w.written d under_way
+
+-- of each, these bytes more were taken
+abbrev pub TakesOn : {X : Type 0} {H : X → Type 0} {T E : Type 0} → Shows X H → List ℕ → SinkSeen → SinkSeen → Debugger X H → Debugger X H → LineUnderWay → LineUnderWay → Result T E → Type 0
+TakesOn shown more w w' d d' under_way under_way' result = (x : Scenario) (s : Session) (text : List ℕ) (old : Option (List ℕ))
+    → IsAmid shown x s text old w.written d under_way → OnOk result (IsAmid shown x s (text ++ more) old w'.written d' under_way')
+
+-- or a push or a flush failed on the way: a front of the answers was appended, whatever comes behind them
+abbrev pub BreaksAmid : {X : Type 0} {H : X → Type 0} {T E : Type 0} → Shows X H → List ℕ → SinkSeen → SinkSeen → Debugger X H → LineUnderWay → Result T E → Type 0
+BreaksAmid shown more w w' d under_way result = (x : Scenario) (s : Session) (text : List ℕ) (old : Option (List ℕ))
+    → IsAmid shown x s text old w.written d under_way → OnErr result ((rest : List ℕ) → AppendsFront old w'.written (live_text x s ((text ++ more) ++ rest)))
+
+-- the session that a file leaves, by its contents where they are seen
+abbrev pub HasLived : {X : Type 0} {H : X → Type 0} → Shows X H → Scenario → Session → Option (List ℕ) → Debugger X H → Type 0
+HasLived shown x s contents d = (bytes : List ℕ) × MayBeTaken contents bytes × IsSession shown x d (after_lines x s (lines_of bytes))
+
+-- all that a session takes of a file was taken
+pub record HasTaken {X : Type 0} {H : X → Type 0} (shown : Shows X H) (x : Scenario) (s : Session) (name : List ℕ) (before after : FilesSeen) (w w' : SinkSeen) (d : Debugger X H) (under_way : LineUnderWay) : Type 0 where
+  pub text : List ℕ
+  pub taken : MayBeTaken (before.contents name) text
+  pub given : HasGiven before.given after.given (length text)
+  pub amid : IsAmid shown x s text w.written w'.written d under_way

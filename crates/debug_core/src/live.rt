@@ -1,16 +1,17 @@
 //! Lines that come one by one, each carried out and answered as it is read (docs/FORMATS.md, Live).
 
-ghost use Rattle.std.specs.Prelude.{◌≡◌, ◌≤◌, ℕ, List, [], ◌∷◌, ◌++◌, Option, Some, Ok, OnOk, OnErr, IsErrOf, codes, decimal};
+ghost use Rattle.std.specs.Prelude.{◌≡◌, ◌≤◌, ℕ, List, [], ◌∷◌, ◌++◌, Some, Ok, OnOk, IsErrOf};
 ghost use Rattle.text_lines.specs.Text.{lines_of};
-ghost use Rattle.outside_io.specs.Outside.{AppendsFront, HasCause, Pushes, Rose, WhereSeen, short_name};
+ghost use Rattle.outside_io.specs.Outside.{HasCause, Pushes, Rose, WhereSeen, short_name};
 ghost use Rattle.board_model.specs.Script.{Scenario};
 ghost use Rattle.board_core.specs.Data.{boxed};
+ghost use Rattle.debug_core.specs.Answers.{refusal_line};
 ghost use Rattle.debug_core.specs.declared.live.LiveFault.TheVariants.{Unread, Failed as Broken};
-ghost use Rattle.debug_core.specs.Live.{BreaksTelling, BreaksUnread, MayBeTaken, OnlyReads, TellsLive, after_line, line_told, live_said, live_text};
+ghost use Rattle.debug_core.specs.Live.{BreaksTelling, BreaksUnread, OnlyReads, TellsLive, after_line, line_told, live_said, live_text};
 ghost use Rattle.debug_core.specs.Reading.{AsksForFew};
 ghost use Rattle.debug_core.specs.Session.{Session};
 ghost use Rattle.debug_core.specs.Sessions.{IsSession};
-ghost use Rattle.debug_core.specs.UnderWay.{IsAmid, IsOneLine, IsUnderWay, after_lines, first_said};
+ghost use Rattle.debug_core.specs.UnderWay.{BreaksAmid, HasLived, HasTaken, IsAtLine, IsOneLine, IsTaking, IsUnderWay, TakesOn, after_lines, first_said};
 
 use crate::command::Command;
 use crate::debugger::Debugger;
@@ -87,7 +88,7 @@ impl LineUnderWay {
 
 /// The answer to a line that is refused is pushed and passed on.
 fn refuse<S: Sink>(cause: u8, out: &mut S) -> Result<(), Failed>
-    ensures told { Pushes (S.seen out.old).written (S.seen out.new).written (codes "refused " ++ decimal cause ++ codes "\n") result }
+    ensures told { Pushes (S.seen out.old).written (S.seen out.new).written (refusal_line cause) result }
     ensures cause { HasCause (S.seen out.old).faults (S.seen out.new).faults result }
 {
     push_refused(cause, out)?;
@@ -121,8 +122,8 @@ impl Debugger {
         out: &mut S,
     ) -> Result<(), Failed>
         requires { (x : Scenario) × (s : Session) × IsSession (boxed shown) x self.old s }
-        ensures told { (x : Scenario) (s : Session) (bytes : List ℕ) → IsSession (boxed shown) x self.old s → IsUnderWay under_way.old bytes → IsOneLine bytes → Pushes (S.seen out.old).written (S.seen out.new).written (live_text x s bytes) result }
-        ensures session { (x : Scenario) (s : Session) (bytes : List ℕ) → IsSession (boxed shown) x self.old s → IsUnderWay under_way.old bytes → IsOneLine bytes → IsSession (boxed shown) x self.new (after_lines x s (lines_of bytes)) }
+        ensures told { (x : Scenario) (s : Session) (bytes : List ℕ) → IsAtLine (boxed shown) x s bytes self.old under_way.old → Pushes (S.seen out.old).written (S.seen out.new).written (live_text x s bytes) result }
+        ensures session { (x : Scenario) (s : Session) (bytes : List ℕ) → IsAtLine (boxed shown) x s bytes self.old under_way.old → IsSession (boxed shown) x self.new (after_lines x s (lines_of bytes)) }
         ensures next { IsUnderWay under_way.new [] }
         ensures cause { HasCause (S.seen out.old).faults (S.seen out.new).faults result }
     {
@@ -138,9 +139,9 @@ impl Debugger {
         under_way: &mut LineUnderWay,
         out: &mut S,
     ) -> Result<(), Failed>
-        requires { (x : Scenario) × (s : Session) × (text : List ℕ) × (old : Option (List ℕ)) × IsAmid (boxed shown) x s text old (S.seen out.old).written self.old under_way.old }
-        ensures amid { (x : Scenario) (s : Session) (text : List ℕ) (old : Option (List ℕ)) → IsAmid (boxed shown) x s text old (S.seen out.old).written self.old under_way.old → OnOk result (IsAmid (boxed shown) x s (text ++ byte ∷ []) old (S.seen out.new).written self.new under_way.new) }
-        ensures failed { (x : Scenario) (s : Session) (text : List ℕ) (old : Option (List ℕ)) → IsAmid (boxed shown) x s text old (S.seen out.old).written self.old under_way.old → OnErr result ((rest : List ℕ) → AppendsFront old (S.seen out.new).written (live_text x s (text ++ byte ∷ rest))) }
+        requires { IsTaking (boxed shown) (S.seen out.old) self.old under_way.old }
+        ensures amid { TakesOn (boxed shown) (byte ∷ []) (S.seen out.old) (S.seen out.new) self.old self.new under_way.old under_way.new result }
+        ensures failed { BreaksAmid (boxed shown) (byte ∷ []) (S.seen out.old) (S.seen out.new) self.old under_way.old result }
         ensures cause { HasCause (S.seen out.old).faults (S.seen out.new).faults result }
     {
         under_way.push(byte);
@@ -158,9 +159,9 @@ impl Debugger {
         under_way: &mut LineUnderWay,
         out: &mut S,
     ) -> Result<(), Failed>
-        requires { (x : Scenario) × (s : Session) × (text : List ℕ) × (old : Option (List ℕ)) × IsAmid (boxed shown) x s text old (S.seen out.old).written self.old under_way.old }
-        ensures amid { (x : Scenario) (s : Session) (text : List ℕ) (old : Option (List ℕ)) → IsAmid (boxed shown) x s text old (S.seen out.old).written self.old under_way.old → OnOk result (IsAmid (boxed shown) x s (text ++ piece.now) old (S.seen out.new).written self.new under_way.new) }
-        ensures failed { (x : Scenario) (s : Session) (text : List ℕ) (old : Option (List ℕ)) → IsAmid (boxed shown) x s text old (S.seen out.old).written self.old under_way.old → OnErr result ((rest : List ℕ) → AppendsFront old (S.seen out.new).written (live_text x s ((text ++ piece.now) ++ rest))) }
+        requires { IsTaking (boxed shown) (S.seen out.old) self.old under_way.old }
+        ensures amid { TakesOn (boxed shown) piece.now (S.seen out.old) (S.seen out.new) self.old self.new under_way.old under_way.new result }
+        ensures failed { BreaksAmid (boxed shown) piece.now (S.seen out.old) (S.seen out.new) self.old under_way.old result }
         ensures cause { HasCause (S.seen out.old).faults (S.seen out.new).faults result }
     {
         for byte in piece {
@@ -179,9 +180,12 @@ impl Debugger {
     ) -> Result<(), LiveFault>
         requires session { (x : Scenario) × (s : Session) × IsSession (boxed shown) x self.old s }
         requires none { IsUnderWay under_way.old [] }
-        ensures amid { (x : Scenario) (s : Session) → IsSession (boxed shown) x self.old s → OnOk result ((text : List ℕ) × MayBeTaken ((F.seen files.old).contents name.now) text × IsAmid (boxed shown) x s text (S.seen out.old).written (S.seen out.new).written self.new under_way.new) }
-        ensures unread { (x : Scenario) (s : Session) → IsSession (boxed shown) x self.old s → IsErrOf result Unread → BreaksUnread x s ((F.seen files.old).contents name.now) (S.seen out.old).written (S.seen out.new).written }
-        ensures failed { (x : Scenario) (s : Session) → IsSession (boxed shown) x self.old s → IsErrOf result Broken → BreaksTelling x s ((F.seen files.old).contents name.now) (S.seen out.old).written (S.seen out.new).written }
+        ensures amid { (x : Scenario) (s : Session) → IsSession (boxed shown) x self.old s → OnOk result (
+            HasTaken (boxed shown) x s name.now (F.seen files.old) (F.seen files.new) (S.seen out.old) (S.seen out.new) self.new under_way.new) }
+        ensures unread { (x : Scenario) (s : Session) → IsSession (boxed shown) x self.old s → IsErrOf result Unread →
+            BreaksUnread x s name.now (F.seen files.old) (F.seen files.new) (S.seen out.old) (S.seen out.new) }
+        ensures failed { (x : Scenario) (s : Session) → IsSession (boxed shown) x self.old s → IsErrOf result Broken →
+            BreaksTelling x s name.now (F.seen files.old) (S.seen out.old) (S.seen out.new) }
         ensures rose { IsErrOf result Unread → Rose (F.seen files.old).read_faults (F.seen files.new).read_faults }
         ensures named { IsErrOf result Unread → WhereSeen (F.seen files.new).last_failing (λ n. n ≡ short_name name.now) }
         ensures fault { IsErrOf result Broken → Rose (S.seen out.old).faults (S.seen out.new).faults }
@@ -221,9 +225,13 @@ impl Debugger {
         out: &mut S,
     ) -> Result<(), LiveFault>
         requires { (x : Scenario) × (s : Session) × IsSession (boxed shown) x self.old s }
-        ensures told { (x : Scenario) (s : Session) → IsSession (boxed shown) x self.old s → OnOk result (TellsLive x s ((F.seen files.old).contents name.now) (S.seen out.old).written (S.seen out.new).written) }
-        ensures unread { (x : Scenario) (s : Session) → IsSession (boxed shown) x self.old s → IsErrOf result Unread → BreaksUnread x s ((F.seen files.old).contents name.now) (S.seen out.old).written (S.seen out.new).written }
-        ensures failed { (x : Scenario) (s : Session) → IsSession (boxed shown) x self.old s → IsErrOf result Broken → BreaksTelling x s ((F.seen files.old).contents name.now) (S.seen out.old).written (S.seen out.new).written }
+        ensures told { (x : Scenario) (s : Session) → IsSession (boxed shown) x self.old s → OnOk result (
+            TellsLive x s name.now (F.seen files.old) (F.seen files.new) (S.seen out.old) (S.seen out.new)) }
+        ensures session { (x : Scenario) (s : Session) → IsSession (boxed shown) x self.old s → OnOk result (HasLived (boxed shown) x s ((F.seen files.old).contents name.now) self.new) }
+        ensures unread { (x : Scenario) (s : Session) → IsSession (boxed shown) x self.old s → IsErrOf result Unread →
+            BreaksUnread x s name.now (F.seen files.old) (F.seen files.new) (S.seen out.old) (S.seen out.new) }
+        ensures failed { (x : Scenario) (s : Session) → IsSession (boxed shown) x self.old s → IsErrOf result Broken →
+            BreaksTelling x s name.now (F.seen files.old) (S.seen out.old) (S.seen out.new) }
         ensures rose { IsErrOf result Unread → Rose (F.seen files.old).read_faults (F.seen files.new).read_faults }
         ensures named { IsErrOf result Unread → WhereSeen (F.seen files.new).last_failing (λ n. n ≡ short_name name.now) }
         ensures fault { IsErrOf result Broken → Rose (S.seen out.old).faults (S.seen out.new).faults }

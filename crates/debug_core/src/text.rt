@@ -6,7 +6,7 @@ ghost use Rattle.arrayvec.specs.ArrayString.{array_string_len};
 ghost use Rattle.outside_io.specs.Outside.{Pushes, HasCause};
 ghost use Rattle.trace_text.specs.Text.{bit as bit_digit, byte_hex, hex, line_of};
 ghost use Rattle.board_run.specs.Text.{low_text, high_text};
-ghost use Rattle.debug_core.specs.Answers.{address_line, at_line, bytes_line, change_line, device_line, end_word, hit_line, irq_line, kind_words, text_of};
+ghost use Rattle.debug_core.specs.Answers.{address_line, at_line, bytes_line, change_line, device_line, end_word, hit_line, irq_line, kind_words, refusal_line, text_of};
 
 use crate::answer::Answer;
 use arrayvec::ArrayString;
@@ -243,7 +243,7 @@ pub(crate) fn push_answer<S: Sink>(answer: &Answer, out: &mut S) -> Result<(), F
 
 /// The answer to a line that is refused.
 pub(crate) fn push_refused<S: Sink>(cause: u8, out: &mut S) -> Result<(), Failed>
-    ensures bytes { Pushes (S.seen out.old).written (S.seen out.new).written (codes "refused " ++ decimal cause ++ codes "\n") result }
+    ensures bytes { Pushes (S.seen out.old).written (S.seen out.new).written (refusal_line cause) result }
     ensures cause { HasCause (S.seen out.old).faults (S.seen out.new).faults result }
 {
     let mut line = Line::new();

@@ -5,8 +5,9 @@ ghost use Rattle.help_text.specs.Help.{help_text, parts_of, parts_on};
 
 use crate::texts::{
     APPLICATION_CAUSES, ARRIVAL_CAUSES, AUDIT, BUILD, COMMANDS, COMMANDS_CAUSES, COVER, DEBUG, GO,
-    HELP, IMAGE_CAUSES, LIMITS, LINE_CAUSES, LIST, LIVE, MIGRATE, RESUME, RUN, SAMPLE, SAVE,
-    SCRIPT_CAUSES, SOURCE_CAUSES, STATE_CAUSES, STATUSES, SWEEP, TIMELINE, TRACE_CAUSES,
+    HELP, IMAGE_CAUSES, LCOV, LIMITS, LINE_CAUSES, LIST, LIVE, MIGRATE, PICTURE, RESUME, RUN,
+    SAMPLE, SAVE, SCRIPT_CAUSES, SOURCE_CAUSES, STATE_CAUSES, STATUSES, SWEEP, TIMELINE,
+    TRACE_CAUSES,
 };
 use command_line::CommandName;
 use outside_io::{Failed, Sink, push_lines};
@@ -56,7 +57,14 @@ fn parts_on(command: CommandName) -> &'static [&'static [&'static str]]
             SCRIPT_CAUSES,
             ARRIVAL_CAUSES,
         ],
-        CommandName::Timeline => &[TIMELINE, LIMITS, STATUSES, IMAGE_CAUSES, SCRIPT_CAUSES],
+        CommandName::Timeline => &[
+            TIMELINE,
+            LIMITS,
+            STATUSES,
+            IMAGE_CAUSES,
+            SCRIPT_CAUSES,
+            APPLICATION_CAUSES,
+        ],
         CommandName::Live => &[
             LIVE,
             LIMITS,
@@ -64,6 +72,22 @@ fn parts_on(command: CommandName) -> &'static [&'static [&'static str]]
             IMAGE_CAUSES,
             SCRIPT_CAUSES,
             LINE_CAUSES,
+        ],
+        CommandName::Picture => &[
+            PICTURE,
+            LIMITS,
+            STATUSES,
+            IMAGE_CAUSES,
+            SCRIPT_CAUSES,
+            APPLICATION_CAUSES,
+        ],
+        CommandName::Lcov => &[
+            LCOV,
+            LIMITS,
+            STATUSES,
+            APPLICATION_CAUSES,
+            SOURCE_CAUSES,
+            SCRIPT_CAUSES,
         ],
         CommandName::Help => &[HELP, STATUSES],
     }

@@ -14,8 +14,11 @@ pub(crate) const COMMANDS: &[&str] = &[
     "debug IMAGE SCRIPT COMMANDS                           goes over a run forwards and back, by commands\n",
     "cover IMAGE SCRIPT --steps N                          counts how often a run executed each instruction\n",
     "sweep IMAGE SCRIPT ARRIVAL FROM TO --steps N [--mem]  tries every arrival time of some events\n",
-    "timeline IMAGE SCRIPT --steps N                       writes a run for a viewer of timelines, as JSON\n",
+    "timeline IMAGE SCRIPT --steps N [--names APP]         writes a run for a viewer of timelines, as JSON\n",
     "live IMAGE SCRIPT COMMANDS                            the same as `debug`, line by line as they come\n",
+    "picture IMAGE SCRIPT OUT --steps N [--names APP]      draws a run at a glance, as SVG\n",
+    "lcov APP SCRIPT OUT --steps N                         counts how often a run executed each line of the\n",
+    "sources, for lcov\n",
     "help [COMMAND]                                        says this, or what one command takes and answers\n",
     "\n",
     "hubris help COMMAND says what one of them takes and answers. docs/FORMATS.md has the formats, docs/GUIDE.md a\n",
@@ -126,10 +129,11 @@ pub(crate) const SWEEP: &[&str] = &[
 
 /// The command `timeline`.
 pub(crate) const TIMELINE: &[&str] = &[
-    "hubris timeline IMAGE SCRIPT --steps N\n",
+    "hubris timeline IMAGE SCRIPT --steps N [--names APP]\n",
     "    plays SCRIPT on IMAGE for at most N turns and tells what each task did and what happened as events in the\n",
-    "    Trace Event Format, which Perfetto and Chrome open (Timeline)\n",
-    "takes   IMAGE, then SCRIPT\n",
+    "    Trace Event Format, which Perfetto and Chrome open (Timeline); with `--names` the tasks have the names\n",
+    "    that APP gives them\n",
+    "takes   IMAGE, then SCRIPT, then APP where it is named\n",
     "writes  the events, as JSON (Timeline)\n",
 ];
 
@@ -140,6 +144,24 @@ pub(crate) const LIVE: &[&str] = &[
     "    before it reads on (Live)\n",
     "takes   IMAGE, then SCRIPT, then COMMANDS line by line\n",
     "writes  the answer to each line (Live)\n",
+];
+
+/// The command `picture`.
+pub(crate) const PICTURE: &[&str] = &[
+    "hubris picture IMAGE SCRIPT OUT --steps N [--names APP]\n",
+    "    plays SCRIPT on IMAGE for at most N turns, of which nothing is told, and puts a picture of what each task\n",
+    "    did under OUT (Picture); with `--names` the tasks have the names that APP gives them\n",
+    "takes   IMAGE, then SCRIPT, then APP where it is named\n",
+    "writes  `drawn <length> bytes`\n",
+];
+
+/// The command `lcov`.
+pub(crate) const LCOV: &[&str] = &[
+    "hubris lcov APP SCRIPT OUT --steps N\n",
+    "    the run of the image of APP, of which nothing is told, and puts how often it executed each line of the\n",
+    "    sources under OUT, as a tracefile of lcov (Tracefile)\n",
+    "takes   APP, whose plan is judged with it, then the source of each task in their order, then SCRIPT\n",
+    "writes  `traced <length> bytes`\n",
 ];
 
 /// The command `help`.
@@ -174,7 +196,7 @@ pub(crate) const STATUSES: &[&str] = &[
     "        by the supervisor\n",
     "    1   a file was read and is refused; writes `refused <name> <cause> <place>`\n",
     "    2   the words are not taken; writes `usage: hubris build, run, go, list, sample, migrate, audit, save,\n",
-    "        resume, debug, cover, sweep, timeline, live or help`\n",
+    "        resume, debug, cover, sweep, timeline, live, picture, lcov or help`\n",
     "    3   a file cannot be read; writes `cannot read <name>`, of COMMANDS of `live` behind the answers to the\n",
     "        lines that came\n",
     "    4   the output failed, and what is put is under OUT; or its put failed, and there are the old contents or\n",
@@ -246,6 +268,7 @@ pub(crate) const APPLICATION_CAUSES: &[&str] = &[
     "        to 0x5FFFFFFF\n",
     "    20  DeviceOverlap: it has a byte in common with an earlier device\n",
     "    21  not the description's but the plan's: the board has no room (Building)\n",
+    "    22  behind `--names`: it has another number of tasks than IMAGE\n",
 ];
 
 /// The causes of a source.

@@ -1,10 +1,11 @@
 //! Sources are accepted one by one.
 
-ghost use Rattle.std.specs.Prelude.{◌≡◌, ◌≤◌, ◌<◌, ◌+◌, ◌++◌, ◌∷◌, ◌⊎◌, ℕ, List, None, [], length, slice_index, IfOk, IfErr, OnOk, OnErr};
+ghost use Rattle.std.specs.Prelude.{◌≡◌, ◌≤◌, ◌<◌, ◌+◌, ◌^◌, ◌++◌, ◌∷◌, ◌⊎◌, ℕ, List, None, [], length, slice_index, IfOk, IfErr, OnOk, OnErr};
 ghost use Rattle.std.specs.BTreeMap.{get_by_text};
 ghost use Rattle.app_toml.specs.Held.{app_of};
 ghost use Rattle.thumb_asm.specs.Passes.{Refuses, names_of};
 ghost use Rattle.image_build.specs.Building.{HasRoom, IsAssembled, LacksRoom, RefusesSource, source_cause};
+ghost use Rattle.image_build.specs.Layout.{flash_base};
 ghost use Rattle.image_build.specs.Symbols.{own_symbols};
 ghost use Rattle.image_build.specs.Accepted.{HasAccepted, described, next_task};
 
@@ -94,6 +95,15 @@ impl<'a> Builder<'a> {
         ensures { result ≡ next_task self.now }
     {
         self.done
+    }
+
+    /// The address at which the next task's source is assembled.
+    pub fn base(&self) -> u32
+        requires { next_task self.now < length (described self.now).tasks }
+        ensures value { result ≡ flash_base (described self.now) (next_task self.now) }
+        ensures low { result + 1048576 < 2 ^ 32 }
+    {
+        flash_base(self.app, &self.layout, self.done)
     }
 
     /// Takes the next task's source. Refused, it changes nothing.

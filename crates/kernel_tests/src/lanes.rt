@@ -1,10 +1,12 @@
-//! Timelines (docs/FORMATS.md, Timeline): the text of a short run of two tasks.
-ghost use Rattle.std.specs.Prelude.{◌≤◌, length};
+//! Timelines and pictures (docs/FORMATS.md, Timeline, Picture): the texts of a short run of two tasks.
+ghost use Rattle.std.specs.Prelude.{◌≡◌, ◌≤◌, IfOk, length};
+ghost use Rattle.board_core.specs.Data.{boxed};
+ghost use Rattle.board_core.specs.Stands.{Stood, turns_of};
 
 use board_core::{Board, End};
 use image_format::Image;
 use outside_io::MemSink;
-use run_lanes::write_timeline;
+use run_lanes::{draw_run, write_timeline};
 use run_script::Script;
 use std::alloc::{AllocError, Global};
 use std::process::Abort;
@@ -56,6 +58,50 @@ const CALL: &[u8] = b"\
 ]}
 ";
 
+// The same as a picture, behind the looks and the legend.
+const PICTURE: &[u8] = b"\
+<text x=\"8\" y=\"20\" class=\"t b\">a call</text>
+<text x=\"8\" y=\"36\" class=\"d\">15 turns, 1 ticks, ends bound; a turn a column</text>
+<path class=\"g\" d=\"M176 72V174\"/><text x=\"176\" y=\"68\" class=\"d s m\">0</text>
+<path class=\"g\" d=\"M336 72V174\"/><text x=\"336\" y=\"68\" class=\"d s m\">2</text>
+<path class=\"g\" d=\"M496 72V174\"/><text x=\"496\" y=\"68\" class=\"d s m\">4</text>
+<path class=\"g\" d=\"M656 72V174\"/><text x=\"656\" y=\"68\" class=\"d s m\">6</text>
+<path class=\"g\" d=\"M816 72V174\"/><text x=\"816\" y=\"68\" class=\"d s m\">8</text>
+<path class=\"g\" d=\"M976 72V174\"/><text x=\"976\" y=\"68\" class=\"d s m\">10</text>
+<path class=\"g\" d=\"M1136 72V174\"/><text x=\"1136\" y=\"68\" class=\"d s m\">12</text>
+<path class=\"g\" d=\"M1296 72V174\"/><text x=\"1296\" y=\"68\" class=\"d s m\">14</text>
+<text x=\"168\" y=\"98\" class=\"t q\">outside</text>
+<path class=\"o\" d=\"M256 80h80v24h-80z\"/>
+<text x=\"1384\" y=\"98\" class=\"d s\">at most 1 turns a column</text>
+<text x=\"168\" y=\"131\" class=\"t q\">jefe <tspan class=\"d s\">0</tspan></text>
+<text x=\"1384\" y=\"131\" class=\"d s\">80 %</text>
+<path class=\"a0\" d=\"M176 118h80v18h-80zM256 118h80v18h-80zM336 118h80v18h-80zM416 118h80v18h-80zM736 118h80v18h-80zM816 118h80v18h-80zM896 118h80v18h-80zM976 118h80v18h-80zM1056 118h80v18h-80zM1136 118h80v18h-80zM1216 118h80v18h-80zM1296 118h80v18h-80z\"/>
+<path class=\"a1\" d=\"\"/>
+<path class=\"a2\" d=\"\"/>
+<path class=\"a3\" d=\"\"/>
+<path class=\"a4\" d=\"M496 118h80v18h-80zM576 118h80v18h-80zM656 118h80v18h-80z\"/>
+<path class=\"a5\" d=\"\"/>
+<path class=\"a6\" d=\"\"/>
+<path class=\"f\" d=\"\"/>
+<path class=\"n\" d=\"\"/>
+<text x=\"168\" y=\"159\" class=\"t q\">client <tspan class=\"d s\">1</tspan></text>
+<text x=\"1384\" y=\"159\" class=\"d s\">20 %; calls: 1, the longest of 7 turns from turn 6 to jefe</text>
+<path class=\"a0\" d=\"M496 146h80v18h-80zM576 146h80v18h-80zM656 146h80v18h-80z\"/>
+<path class=\"a1\" d=\"M176 146h80v18h-80zM256 146h80v18h-80zM336 146h80v18h-80zM416 146h80v18h-80zM1296 146h80v18h-80z\"/>
+<path class=\"a2\" d=\"\"/>
+<path class=\"a3\" d=\"M736 146h80v18h-80zM816 146h80v18h-80zM896 146h80v18h-80zM976 146h80v18h-80zM1056 146h80v18h-80zM1136 146h80v18h-80zM1216 146h80v18h-80z\"/>
+<path class=\"a4\" d=\"\"/>
+<path class=\"a5\" d=\"\"/>
+<path class=\"a6\" d=\"\"/>
+<path class=\"f\" d=\"\"/>
+<path class=\"n\" d=\"\"/>
+<path class=\"c\" d=\"M656 146L656 136\"/>
+<path class=\"r\" d=\"M1216 136L1216 146\"/>
+<text x=\"176\" y=\"194\" class=\"t\">faults and births</text>
+<text x=\"176\" y=\"210\" class=\"d\">none</text>
+</svg>
+";
+
 fn names(alloc: Global) -> Result<Vec<String>, AllocError> {
     let mut names = Vec::new(alloc);
     names.push(String::from_str(alloc, "jefe")?)?;
@@ -63,27 +109,59 @@ fn names(alloc: Global) -> Result<Vec<String>, AllocError> {
     Ok(names)
 }
 
+/// The board of an image, to which one tick comes.
+fn board_of(rt: &impl Abort, alloc: Global, image: &[u8]) -> Result<Board, AllocError>
+    requires { length image.now ≤ 1000 }
+    ensures stood { IfOk result (Stood (boxed shown)) }
+    ensures fresh { IfOk result (λ b. turns_of b ≡ 0) }
+{
+    let image = Image::read(alloc, image).expect(rt, "the image is sound");
+    let script = Script::read(alloc, b"at 1 tick\n").expect(rt, "the script is taken");
+    Board::open(alloc, &image, &script, Vec::new(alloc))
+}
+
 /// How fifteen turns of an image end, and their timeline.
 fn timeline_of(rt: &impl Abort, alloc: Global, image: &[u8]) -> Result<(End, MemSink), AllocError>
     requires { length image.now ≤ 1000 }
 {
-    let image = Image::read(alloc, image).expect(rt, "the image is sound");
-    let script = Script::read(alloc, b"at 1 tick\n").expect(rt, "the script is taken");
-    let board = Board::open(alloc, &image, &script, Vec::new(alloc))?;
     let names = names(alloc)?;
-    let mut board = board;
+    let mut board = board_of(rt, alloc, image)?;
     assert!(rt; names.len() == board.task_count());
     let mut out = MemSink::open(alloc, 4096, &[])?;
     let end = write_timeline(alloc, &mut board, 15, &names, &mut out).expect(rt, "there is room");
     Ok((end, out))
 }
 
-#[test]
-fn a_call_between_two_tasks(rt: HostRuntime) -> Result<(), Fail> {
+/// How fifteen turns of an image end, and their picture.
+fn picture_of(rt: &impl Abort, alloc: Global, image: &[u8]) -> Result<(Vec<u8>, End), AllocError>
+    requires { length image.now ≤ 1000 }
+{
+    let names = names(alloc)?;
+    let mut board = board_of(rt, alloc, image)?;
+    assert!(rt; names.len() == board.task_count());
+    draw_run(alloc, &mut board, 15, "a call", &names)
+}
+
+// A supervisor that serves, and a task that sends to it.
+fn two_tasks() -> [u8; 604] {
     let mut image = [0; 604];
     image[..92].copy_from_slice(&HEAD);
     image[92..114].copy_from_slice(&SERVES);
     image[348..354].copy_from_slice(&SENDS);
+    image
+}
+
+#[test]
+fn a_picture_of_a_call(rt: HostRuntime) -> Result<(), Fail> {
+    let (bytes, end) = picture_of(&rt, rt.alloc(), &two_tasks())?;
+    assert!(rt; end == End::Bound);
+    assert!(rt; bytes.ends_with(PICTURE));
+    Ok(())
+}
+
+#[test]
+fn a_call_between_two_tasks(rt: HostRuntime) -> Result<(), Fail> {
+    let image = two_tasks();
     let (end, out) = timeline_of(&rt, rt.alloc(), &image)?;
     assert!(rt; end == End::Bound);
     assert!(rt; out.text() == CALL);

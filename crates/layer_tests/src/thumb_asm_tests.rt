@@ -3,7 +3,9 @@
 
 use std::alloc::{AllocError, Global};
 use std::test::Fail;
-use thumb_asm::{AsmFault, Cause, Symbols, assemble, assemble_with};
+use thumb_asm::{
+    AsmFault, Cause, InsnLine, Symbols, assemble, assemble_with, instruction_lines, label_lines,
+};
 
 const BASE: u32 = 0x0800_0000;
 
@@ -346,6 +348,41 @@ fn labels_have_their_addresses(rt: HostRuntime) {
     let source = b"nop\nhere:\n.byte 1\nnext: .align 2\nHERE: .word here\n";
     let wanted = [Some(BASE + 2), Some(BASE + 3), Some(BASE + 4)];
     assert!(rt; labels(rt.alloc(), source) == Some((wanted, 3)));
+}
+
+/// Six lines: a comment, data and a label alone are no instructions.
+const LISTED: &[u8] = b"; all\nstart: nop\n.half 1\nhere: ; alone\n bl start\nlast: svc #0";
+
+#[test]
+fn instructions_have_their_lines(rt: HostRuntime) -> Result<(), Fail> {
+    let lines = instruction_lines(rt.alloc(), LISTED, BASE)?;
+    let wanted = [
+        InsnLine {
+            number: 2,
+            at: BASE,
+        },
+        InsnLine {
+            number: 5,
+            at: BASE + 4,
+        },
+        InsnLine {
+            number: 6,
+            at: BASE + 8,
+        },
+    ];
+    assert!(rt; lines.as_slice() == wanted.as_slice());
+    Ok(())
+}
+
+#[test]
+fn labels_have_their_lines(rt: HostRuntime) -> Result<(), Fail> {
+    let labels = label_lines(rt.alloc(), LISTED, BASE)?;
+    let wanted = [("start", BASE), ("here", BASE + 4), ("last", BASE + 8)];
+    assert!(rt; labels.len() == wanted.len());
+    for (label, (name, at)) in labels.iter().zip(&wanted) {
+        assert!(rt; (label.name.as_str(), label.at) == (*name, *at));
+    }
+    Ok(())
 }
 
 #[test]

@@ -1,17 +1,15 @@
 -- Totals that are added up, place by place.
-use Rattle.std.proofs.Common.{◌≡◌, ◌≤◌, ◌+◌, ℕ, zero, suc, List, [], ◌∷◌, ◌++◌, ap, ◌∙◌, add-one, arith}
+use Rattle.std.proofs.Common.{◌≡◌, ◌≤◌, ◌+◌, ℕ, List, [], ◌∷◌, ◌++◌, ap, sym, ◌∙◌, arith}
 use Rattle.std.specs.Prelude.{fold}
 use Rattle.std.specs.List.{range_with_len}
+use Rattle.std.proofs.lemmas.List.{map-id}
+use Rattle.std.proofs.lemmas.List.FromFn.{map-range_with_len_more}
 use Rattle.std.proofs.lemmas.List.Sums.{fold_push}
 use Rattle.run_cover.specs.declared.totals.Totals.{Totals}
 use Rattle.run_cover.specs.Totals.{AreAtMost, added}
 
-range_from : (n a j : ℕ) → a + n ≡ j → range_with_len a (suc n) ≡ range_with_len a n ++ j ∷ []
-range_from zero a j e = let is : a ≡ j = omega arith in ap (λ (i : ℕ). i ∷ []) is
-range_from (suc n) a j e = ap (λ (is : List ℕ). a ∷ is) (range_from n (a + 1) j (omega arith))
-
-pub range_more : (n : ℕ) → range_with_len 0 (n + 1) ≡ range_with_len 0 n ++ n ∷ []
-range_more n = rw add-one (range_from n 0 n (omega arith))
+range_more : (n : ℕ) → range_with_len 0 (n + 1) ≡ range_with_len 0 n ++ n ∷ []
+range_more n = sym (map-id (range_with_len 0 (n + 1))) ∙ map-range_with_len_more (λ (i : ℕ). i) 0 n n (omega arith) ∙ ap (λ (is : List ℕ). is ++ n ∷ []) (map-id (range_with_len 0 n))
 
 -- one more is added
 pub fold_range : {T : Type 0} (f : T → ℕ → T) (t : T) (n : ℕ) → fold f t (range_with_len 0 (n + 1)) ≡ f (fold f t (range_with_len 0 n)) n

@@ -28,8 +28,10 @@ use Rattle.board_model.proofs.Counts.{turn_more}
 use Rattle.board_model.proofs.Further.{last_turn}
 use Rattle.board_model.proofs.OfTurns.{run_of_turns}
 use Rattle.board_model.proofs.RunKeeps.{sane_turns}
-use Rattle.run_cover.specs.Counted.{is_at, executed}
+use Rattle.run_cover.specs.declared.counts.Counts.{Counts}
+use Rattle.run_cover.specs.Counted.{is_at, executed, count_of, counts, Heard, IsNewlyCounted}
 use Rattle.run_cover.specs.Executing.{is_executed_by, is_executed, turns_executing}
+use Rattle.run_cover.proofs.Growing.{told}
 use Rattle.run_cover.proofs.Quiet.{IsQuiet, quiet_itself, quiet_if, quiet_fold, quiet_noted, quiet_processor, quiet_stored, quiet_timer, quiet_clocked, quiet_line, quiet_devices, quiet_posted, quiet_device_stored, quiet_device_taken, quiet_faulted}
 use Rattle.run_cover.proofs.QuietRows.{quiet_syscall_noted, quiet_syscall_made}
 
@@ -177,3 +179,8 @@ few_in_run x n s a h =
     let few = m.few in
     let most = count_by-le-length (λ (k : ℕ). is_executed x a (state_after All x k s)) (range_with_len 0 m.turns) in
     omega (arith, few, most, m.is, length-range_with_len 0 m.turns)
+
+-- and a table that was told the notes of a run has the counts of the run
+pub run_counted : (x : Scenario) (limit : ℕ) (s : State) (t u : Counts) → Sane x.setup s → limit ≤ 1000000000 → IsNewlyCounted t → Heard t (run All x (limit - s.turn) s).notes u → count_of u ≡ counts (run All x (limit - s.turn) s).notes
+run_counted x limit s t u sane few new heard =
+    told t u (run All x (limit - s.turn) s).notes new heard (λ a. let le = few_in_run x (limit - s.turn) s a sane in omega (arith, le, few))

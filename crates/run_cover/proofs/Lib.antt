@@ -8,3 +8,4 @@ pub mod Knowing
 pub mod Marking
 pub mod Numbered
 pub mod Resting
+pub mod Sections

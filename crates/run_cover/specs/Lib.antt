@@ -1,8 +1,10 @@
 pub mod Counted
+pub mod Covered
 pub mod Executing
 pub mod Known
 pub mod Marked
 pub mod Places
 pub mod Text
 pub mod Totals
+pub mod Tracefile
 pub mod Ways

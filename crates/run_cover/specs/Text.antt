@@ -1,6 +1,6 @@
 -- The text of a cover: each different region of code, by ascending base, with how often each known instruction was executed
--- (docs/FORMATS.md, Cover). Counts and what is known are told by functions of the address.
-use Rattle.std.specs.Prelude.{ℕ, ◌+◌, ◌-◌, ◌*◌, ◌/◌, ◌==◌, ◌&&◌, ◌||◌, not, Bool, nat_lt, if◌then◌else◌, List, [], ◌++◌, codes, decimal, min, Option, find, fold}
+-- (docs/FORMATS.md, Cover).
+use Rattle.std.specs.Prelude.{ℕ, ◌+◌, ◌-◌, ◌*◌, ◌/◌, ◌==◌, ◌&&◌, ◌||◌, not, Bool, nat_lt, if◌then◌else◌, List, [], ◌++◌, codes, decimal, string_bytes, min, Option, find, fold}
 use Rattle.std.specs.List.{flat_map, position_or_len, range_with_len}
 use Rattle.std.specs.Option.{option_map_or}
 use Rattle.region_check.specs.declared.Region.{Region}
@@ -11,8 +11,10 @@ use Rattle.task_table.specs.State.{Setup}
 use Rattle.board_model.specs.Run.{Run}
 use Rattle.board_run.specs.MemoryText.{regions_of}
 use Rattle.run_cover.specs.declared.counts.Count.{Count}
+use Rattle.thumb_asm.specs.declared.listing.Label.{Label}
 use Rattle.run_cover.specs.declared.totals.Totals.{Totals}
 use Rattle.run_cover.specs.Counted.{counts}
+use Rattle.run_cover.specs.Covered.{Covered}
 use Rattle.run_cover.specs.Totals.{added, no_totals, totals_in}
 use Rattle.run_cover.specs.Ways.{half_at, insn_code, is_conditional, stands_at}
 
@@ -34,35 +36,52 @@ faulted_text n = if n == 0 then [] else codes "; faulted " ++ decimal n
 unfoldable pub insn_line : Memory → Count → ℕ → List ℕ
 insn_line m c a = count_text c.executed ++ codes " " ++ hex a ++ codes " " ++ decoded_text a (code_decoded (insn_code m a)) ++ taken_text (is_conditional (stands_at m a)) c ++ faulted_text c.faulted ++ codes "\n"
 
+-- ## the labels before it
+
+-- `label <address h> <name>`
+unfoldable pub label_line : Label → List ℕ
+label_line l = codes "label " ++ hex l.at ++ codes " " ++ string_bytes l.name ++ codes "\n"
+
+abbrev pub label_at : ℕ → Label → List ℕ
+label_at a l = if l.at == a then label_line l else []
+
+-- the lines of the labels at an address
+unfoldable pub labels_text : List Label → ℕ → List ℕ
+labels_text ls a = flat_map (label_at a) ls
+
 -- ## what belongs to none
 
 -- the halfword at an address belongs to a known instruction: it is its first or its second
-abbrev pub is_taken_up : Memory → (ℕ → Bool) → ℕ → Bool
-is_taken_up m k a = k a || (k (a - 2) && is_wide (half_at m (a - 2)))
+abbrev pub is_taken_up : Covered → ℕ → Bool
+is_taken_up v a = v.known a || (v.known (a - 2) && is_wide (half_at v.memory (a - 2)))
 
 -- how many of n halfwords from an address on belong to none in a row
-unfoldable pub rest_len : Memory → (ℕ → Bool) → ℕ → ℕ → ℕ
-rest_len m k a n = position_or_len (λ i. is_taken_up m k (a + 2 * i)) (range_with_len 0 n)
+unfoldable pub rest_len : Covered → ℕ → ℕ → ℕ
+rest_len v a n = position_or_len (λ i. is_taken_up v (a + 2 * i)) (range_with_len 0 n)
 
 -- `rest <address h> <n>`
 unfoldable pub rest_line : ℕ → ℕ → List ℕ
 rest_line a n = codes "rest " ++ hex a ++ codes " " ++ decimal n ++ codes "\n"
 
 -- there begin some: the halfword is the first of the region, or the one before belongs to an instruction
-abbrev pub begins_rest : Memory → (ℕ → Bool) → ℕ → ℕ → Bool
-begins_rest m k a j = not (is_taken_up m k a) && (j == 0 || is_taken_up m k (a - 2))
+abbrev pub begins_rest : Covered → ℕ → ℕ → Bool
+begins_rest v a j = not (is_taken_up v a) && (j == 0 || is_taken_up v (a - 2))
 
 -- ## a region
 
+-- a known instruction, behind the labels at its address
+abbrev pub known_text : Covered → List Label → ℕ → List ℕ
+known_text v ls a = labels_text ls a ++ insn_line v.memory (v.counts a) a
+
 -- the lines of the j-th of n places from a base on
-abbrev pub place_text : Memory → (ℕ → Count) → (ℕ → Bool) → ℕ → ℕ → ℕ → List ℕ
-place_text m c k n j a = if k a then insn_line m (c a) a else (if begins_rest m k a j then rest_line a (2 * rest_len m k a (n - j)) else [])
+abbrev pub place_text : Covered → List Label → ℕ → ℕ → ℕ → List ℕ
+place_text v ls n j a = if v.known a then known_text v ls a else (if begins_rest v a j then rest_line a (2 * rest_len v a (n - j)) else [])
 
-abbrev pub row_at : Memory → (ℕ → Count) → (ℕ → Bool) → ℕ → ℕ → ℕ → List ℕ
-row_at m c k base n j = place_text m c k n j (base + 2 * j)
+abbrev pub row_at : Covered → List Label → ℕ → ℕ → ℕ → List ℕ
+row_at v ls base n j = place_text v ls n j (base + 2 * j)
 
-unfoldable pub rows_text : Memory → (ℕ → Count) → (ℕ → Bool) → ℕ → ℕ → List ℕ
-rows_text m c k base n = flat_map (row_at m c k base n) (range_with_len 0 n)
+unfoldable pub rows_text : Covered → List Label → ℕ → ℕ → List ℕ
+rows_text v ls base n = flat_map (row_at v ls base n) (range_with_len 0 n)
 
 -- `code <base h> <size>`
 unfoldable pub code_line : Region → List ℕ
@@ -76,11 +95,11 @@ totals_text t = decimal t.executed ++ codes " of " ++ decimal t.known ++ codes "
 abbrev pub place_count : Region → ℕ
 place_count r = min r.size 1048576 / 2
 
-abbrev pub region_totals : Memory → (ℕ → Count) → (ℕ → Bool) → Region → Totals
-region_totals m c k r = totals_in m c k r.base (place_count r)
+abbrev pub region_totals : Covered → Region → Totals
+region_totals v r = totals_in v r.base (place_count r)
 
-unfoldable pub region_text : Memory → (ℕ → Count) → (ℕ → Bool) → Region → List ℕ
-region_text m c k r = code_line r ++ (rows_text m c k r.base (place_count r) ++ (codes "covered " ++ totals_text (region_totals m c k r)))
+unfoldable pub region_text : Covered → List Label → Region → List ℕ
+region_text v ls r = code_line r ++ (rows_text v ls r.base (place_count r) ++ (codes "covered " ++ totals_text (region_totals v r)))
 
 -- ## which regions
 
@@ -95,22 +114,25 @@ code_at g base = find (is_code_at base) (regions_of g)
 unfoldable pub base_of : ℕ → ℕ
 base_of i = if nat_lt i 4096 then 0x08000000 + 256 * i else 0x20000000 + 256 * (i - 4096)
 
-abbrev pub base_text : Setup → Memory → (ℕ → Count) → (ℕ → Bool) → ℕ → List ℕ
-base_text g m c k i = option_map_or (region_text m c k) (code_at g (base_of i)) []
+abbrev pub base_text : Setup → Covered → List Label → ℕ → List ℕ
+base_text g v ls i = option_map_or (region_text v ls) (code_at g (base_of i)) []
 
-unfoldable pub bases_text : Setup → Memory → (ℕ → Count) → (ℕ → Bool) → ℕ → List ℕ
-bases_text g m c k n = flat_map (base_text g m c k) (range_with_len 0 n)
+unfoldable pub bases_text : Setup → Covered → List Label → ℕ → List ℕ
+bases_text g v ls n = flat_map (base_text g v ls) (range_with_len 0 n)
 
 -- of all regions; what lies in two counts twice
-abbrev pub base_totals : Setup → Memory → (ℕ → Count) → (ℕ → Bool) → ℕ → Totals
-base_totals g m c k i = option_map_or (region_totals m c k) (code_at g (base_of i)) no_totals
+abbrev pub base_totals : Setup → Covered → ℕ → Totals
+base_totals g v i = option_map_or (region_totals v) (code_at g (base_of i)) no_totals
 
-unfoldable pub all_totals : Setup → Memory → (ℕ → Count) → (ℕ → Bool) → ℕ → Totals
-all_totals g m c k n = fold (λ t i. added t (base_totals g m c k i)) no_totals (range_with_len 0 n)
+unfoldable pub all_totals : Setup → Covered → ℕ → Totals
+all_totals g v n = fold (λ t i. added t (base_totals g v i)) no_totals (range_with_len 0 n)
 
-unfoldable pub listing_text : Setup → Memory → (ℕ → Count) → (ℕ → Bool) → List ℕ
-listing_text g m c k = bases_text g m c k 5120 ++ (codes "in all " ++ totals_text (all_totals g m c k 5120))
+unfoldable pub listing_text : Setup → Covered → List Label → List ℕ
+listing_text g v ls = bases_text g v ls 5120 ++ (codes "in all " ++ totals_text (all_totals g v 5120))
 
 -- what a run executed, where a test tells what is known of it
-abbrev pub cover_text : Setup → Run → (ℕ → Bool) → List ℕ
-cover_text g r k = listing_text g r.last.memory (counts r.notes) k
+abbrev pub covered_by : Run → (ℕ → Bool) → Covered
+covered_by r k = record { memory = r.last.memory; counts = counts r.notes; known = k }
+
+abbrev pub cover_text : Setup → Run → (ℕ → Bool) → List Label → List ℕ
+cover_text g r k ls = listing_text g (covered_by r k) ls

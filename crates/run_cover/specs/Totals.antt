@@ -1,9 +1,9 @@
 -- How much of a region was executed.
 use Rattle.std.specs.Prelude.{ℕ, ◌+◌, ◌*◌, ◌≤◌, Bool, nat_lt, if◌then◌else◌, fold}
 use Rattle.std.specs.List.{range_with_len}
-use Rattle.mem_banks.specs.Memory.{Memory}
 use Rattle.run_cover.specs.declared.counts.Count.{Count}
 use Rattle.run_cover.specs.declared.totals.Totals.{Totals}
+use Rattle.run_cover.specs.Covered.{Covered}
 use Rattle.run_cover.specs.Ways.{is_conditional, stands_at}
 
 abbrev pub no_totals : Totals
@@ -23,13 +23,13 @@ ways_gone c = once (nat_lt 0 c.taken) + once (nat_lt c.taken c.executed)
 abbrev pub totals_of : Bool → Count → Totals
 totals_of conditional c = record { executed = once (nat_lt 0 c.executed); known = 1; gone = (if conditional then ways_gone c else 0); ways = (if conditional then 2 else 0) }
 
--- of a place, where counts and what is known are told by functions of the address
-unfoldable pub totals_at : Memory → (ℕ → Count) → (ℕ → Bool) → ℕ → Totals
-totals_at m c k a = if k a then totals_of (is_conditional (stands_at m a)) (c a) else no_totals
+-- of a place
+unfoldable pub totals_at : Covered → ℕ → Totals
+totals_at v a = if v.known a then totals_of (is_conditional (stands_at v.memory a)) (v.counts a) else no_totals
 
 -- of n places from a base on
-unfoldable pub totals_in : Memory → (ℕ → Count) → (ℕ → Bool) → ℕ → ℕ → Totals
-totals_in m c k base n = fold (λ t j. added t (totals_at m c k (base + 2 * j))) no_totals (range_with_len 0 n)
+unfoldable pub totals_in : Covered → ℕ → ℕ → Totals
+totals_in v base n = fold (λ t j. added t (totals_at v (base + 2 * j))) no_totals (range_with_len 0 n)
 
 -- none of them is above a number
 pub record AreAtMost (n : ℕ) (t : Totals) : Type 0 where

@@ -9,7 +9,10 @@ mod line;
 mod listing;
 mod places;
 mod totals;
+mod tracefile;
 mod ways;
 
+pub use counts::Counts;
 pub use covering::{Cover, write_cover};
 pub use laws::{each_count_is_a_number_of_turns, taken_and_faulted_are_executed};
+pub use tracefile::{Source, write_tracefile};

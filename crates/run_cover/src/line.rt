@@ -1,6 +1,7 @@
 //! Lines of a cover, each built in a buffer of 160 bytes that is empty before.
-ghost use Rattle.std.specs.Prelude.{◌≡◌, ◌≤◌, ◌<◌, ◌+◌, ◌^◌, ◌++◌, []};
+ghost use Rattle.std.specs.Prelude.{◌≡◌, ◌≤◌, ◌<◌, ◌+◌, ◌^◌, ◌++◌, [], codes};
 ghost use Rattle.arrayvec.specs.ArrayString.{array_string_len};
+ghost use Rattle.trace_text.specs.Text.{hex};
 ghost use Rattle.task_table.specs.State.{State};
 ghost use Rattle.board_model.specs.Script.{Scenario};
 ghost use Rattle.board_core.specs.Stands.{Stands};
@@ -28,6 +29,16 @@ pub fn code_line(region: &Region, out: &mut Line)
     out.push_str(" ");
     push_decimal(out, u64::from(region.size));
     out.push_str("\n");
+}
+
+/// The line of a label up to its name.
+pub fn label_front(addr: u32, out: &mut Line)
+    requires { out.old.bytes ≡ [] }
+    ensures { out.new.bytes ≡ codes "label " ++ hex addr ++ codes " " }
+{
+    out.push_str("label ");
+    push_hex(out, addr);
+    out.push_str(" ");
 }
 
 /// The line of bytes that belong to no known instruction.

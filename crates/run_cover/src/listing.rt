@@ -6,12 +6,12 @@ ghost use Rattle.board_model.specs.Script.{Scenario};
 ghost use Rattle.board_core.specs.Stands.{Stands};
 ghost use Rattle.board_core.specs.Data.{boxed};
 ghost use Rattle.run_cover.specs.Counted.{count_of};
-ghost use Rattle.run_cover.specs.Marked.{known_of};
-ghost use Rattle.run_cover.specs.Text.{all_totals, base_of, base_text, base_totals, bases_text, begins_rest, code_at, code_line, insn_line, is_code_at, is_taken_up, listing_text, place_count, place_text, region_text, region_totals, rest_len, rest_line, rows_text, totals_text};
+ghost use Rattle.run_cover.specs.Covered.{covered};
+ghost use Rattle.run_cover.specs.Text.{all_totals, base_of, base_text, base_totals, bases_text, begins_rest, code_at, code_line, insn_line, is_code_at, is_taken_up, known_text, label_at, label_line, labels_text, listing_text, place_count, place_text, region_text, region_totals, rest_len, rest_line, rows_text, totals_text};
 ghost use Rattle.run_cover.specs.Totals.{AreAtMost};
 
 use crate::covering::Cover;
-use crate::line::{Line, code_line, insn_line, push_totals, rest_line};
+use crate::line::{Line, code_line, insn_line, label_front, push_totals, rest_line};
 use crate::totals::{Totals, totals_in};
 use crate::ways::{half_at, is_wide};
 use board_core::Board;
@@ -19,6 +19,7 @@ use board_run::{RegionTest, first_region};
 use mem_banks::{FLASH, RAM};
 use outside_io::{Failed, Sink};
 use region_check::Region;
+use thumb_asm::Label;
 
 /// Those with code that begin at an address.
 #[derive(Drop)]
@@ -47,7 +48,7 @@ fn code_at(board: &Board, base: u32) -> Option<Region>
 fn is_taken_up(board: &Board, cover: &Cover, addr: u32) -> bool
     requires above { 2 ≤ addr }
     requires inside { addr + 3 < 2 ^ 32 }
-    ensures { (x : Scenario) (s : State) → Stands (boxed shown) x board.now s → result ≡ is_taken_up s.memory (known_of cover.now.marks) addr }
+    ensures { (x : Scenario) (s : State) → Stands (boxed shown) x board.now s → result ≡ is_taken_up (covered s.memory cover.now) addr }
 {
     cover.marks.has(addr) || (cover.marks.has(addr - 2) && is_wide(half_at(board, addr - 2)))
 }
@@ -56,7 +57,7 @@ fn is_taken_up(board: &Board, cover: &Cover, addr: u32) -> bool
 fn rest_len(board: &Board, cover: &Cover, addr: u32, most: u32) -> u32
     requires above { 2 ≤ addr }
     requires inside { addr + 2 * most + 3 < 2 ^ 32 }
-    ensures len { (x : Scenario) (s : State) → Stands (boxed shown) x board.now s → result ≡ rest_len s.memory (known_of cover.now.marks) addr most }
+    ensures len { (x : Scenario) (s : State) → Stands (boxed shown) x board.now s → result ≡ rest_len (covered s.memory cover.now) addr most }
     ensures few { result ≤ most }
 {
     for i in 0..most {
@@ -71,7 +72,7 @@ fn rest_len(board: &Board, cover: &Cover, addr: u32, most: u32) -> u32
 fn begins_rest(board: &Board, cover: &Cover, addr: u32, j: u32) -> bool
     requires above { 4 ≤ addr }
     requires inside { addr + 3 < 2 ^ 32 }
-    ensures { (x : Scenario) (s : State) → Stands (boxed shown) x board.now s → result ≡ begins_rest s.memory (known_of cover.now.marks) addr j }
+    ensures { (x : Scenario) (s : State) → Stands (boxed shown) x board.now s → result ≡ begins_rest (covered s.memory cover.now) addr j }
 {
     !is_taken_up(board, cover, addr) && (j == 0 || is_taken_up(board, cover, addr - 2))
 }
@@ -95,10 +96,60 @@ fn push_rest<S: Sink>(addr: u32, bytes: u32, out: &mut S) -> Result<(), Failed>
     out.push(line.as_str().as_bytes())
 }
 
-// The line of the j-th of so many places, if it has one.
+fn push_label_line<S: Sink>(label: &Label, out: &mut S) -> Result<(), Failed>
+    ensures bytes { Pushes (S.seen out.old).written (S.seen out.new).written (label_line label.now) result }
+    ensures cause { HasCause (S.seen out.old).faults (S.seen out.new).faults result }
+{
+    let mut front = Line::new();
+    label_front(label.at, &mut front);
+    out.push(front.as_str().as_bytes())?;
+    out.push(label.name.as_bytes())?;
+    out.push(b"\n")
+}
+
+// The line of a label, where it stands at an address.
+fn push_label<S: Sink>(label: &Label, addr: u32, out: &mut S) -> Result<(), Failed>
+    ensures bytes { Pushes (S.seen out.old).written (S.seen out.new).written (label_at addr label.now) result }
+    ensures cause { HasCause (S.seen out.old).faults (S.seen out.new).faults result }
+{
+    if label.at == addr {
+        return push_label_line(label, out);
+    }
+    Ok(())
+}
+
+// The lines of the labels at an address.
+fn push_labels<S: Sink>(labels: &[Label], addr: u32, out: &mut S) -> Result<(), Failed>
+    ensures bytes { Pushes (S.seen out.old).written (S.seen out.new).written (labels_text labels.now addr) result }
+    ensures cause { HasCause (S.seen out.old).faults (S.seen out.new).faults result }
+{
+    for label in labels {
+        push_label(label, addr, out)?;
+    }
+    Ok(())
+}
+
+// A known instruction, behind the labels at its address.
+fn push_known<S: Sink>(
+    board: &Board,
+    cover: &Cover,
+    labels: &[Label],
+    addr: u32,
+    out: &mut S,
+) -> Result<(), Failed>
+    requires inside { addr + 3 < 2 ^ 32 }
+    ensures bytes { (x : Scenario) (s : State) → Stands (boxed shown) x board.now s → Pushes (S.seen out.old).written (S.seen out.new).written (known_text (covered s.memory cover.now) labels.now addr) result }
+    ensures cause { HasCause (S.seen out.old).faults (S.seen out.new).faults result }
+{
+    push_labels(labels, addr, out)?;
+    push_insn(board, cover, addr, out)
+}
+
+// The lines of the j-th of so many places, if it has some.
 fn push_place<S: Sink>(
     board: &Board,
     cover: &Cover,
+    labels: &[Label],
     count: u32,
     j: u32,
     addr: u32,
@@ -107,11 +158,11 @@ fn push_place<S: Sink>(
     requires one { j < count }
     requires above { 4 ≤ addr }
     requires inside { addr + 2 * (count - j) + 3 < 2 ^ 32 }
-    ensures bytes { (x : Scenario) (s : State) → Stands (boxed shown) x board.now s → Pushes (S.seen out.old).written (S.seen out.new).written (place_text s.memory (count_of cover.now.counts) (known_of cover.now.marks) count j addr) result }
+    ensures bytes { (x : Scenario) (s : State) → Stands (boxed shown) x board.now s → Pushes (S.seen out.old).written (S.seen out.new).written (place_text (covered s.memory cover.now) labels.now count j addr) result }
     ensures cause { HasCause (S.seen out.old).faults (S.seen out.new).faults result }
 {
     if cover.marks.has(addr) {
-        return push_insn(board, cover, addr, out);
+        return push_known(board, cover, labels, addr, out);
     }
     if begins_rest(board, cover, addr, j) {
         return push_rest(addr, 2 * rest_len(board, cover, addr, count - j), out);
@@ -123,17 +174,18 @@ fn push_place<S: Sink>(
 fn push_rows<S: Sink>(
     board: &Board,
     cover: &Cover,
+    labels: &[Label],
     base: u32,
     count: u32,
     out: &mut S,
 ) -> Result<(), Failed>
     requires above { 4 ≤ base }
     requires inside { base + 2 * count + 3 < 2 ^ 32 }
-    ensures bytes { (x : Scenario) (s : State) → Stands (boxed shown) x board.now s → Pushes (S.seen out.old).written (S.seen out.new).written (rows_text s.memory (count_of cover.now.counts) (known_of cover.now.marks) base count) result }
+    ensures bytes { (x : Scenario) (s : State) → Stands (boxed shown) x board.now s → Pushes (S.seen out.old).written (S.seen out.new).written (rows_text (covered s.memory cover.now) labels.now base count) result }
     ensures cause { HasCause (S.seen out.old).faults (S.seen out.new).faults result }
 {
     for j in 0..count {
-        push_place(board, cover, count, j, base + 2 * j, out)?;
+        push_place(board, cover, labels, count, j, base + 2 * j, out)?;
     }
     Ok(())
 }
@@ -177,7 +229,7 @@ fn place_count(region: &Region) -> u32
 
 fn region_totals(board: &Board, cover: &Cover, region: &Region) -> Totals
     requires below { region.now.base < 2 ^ 31 }
-    ensures is { (x : Scenario) (s : State) → Stands (boxed shown) x board.now s → result ≡ region_totals s.memory (count_of cover.now.counts) (known_of cover.now.marks) region.now }
+    ensures is { (x : Scenario) (s : State) → Stands (boxed shown) x board.now s → result ≡ region_totals (covered s.memory cover.now) region.now }
     ensures few { AreAtMost 1048576 result }
 {
     totals_in(board, cover, region.base, place_count(region))
@@ -187,16 +239,17 @@ fn region_totals(board: &Board, cover: &Cover, region: &Region) -> Totals
 fn push_region<S: Sink>(
     board: &Board,
     cover: &Cover,
+    labels: &[Label],
     region: &Region,
     out: &mut S,
 ) -> Result<(), Failed>
     requires above { 4 ≤ region.now.base }
     requires below { region.now.base < 2 ^ 31 }
-    ensures bytes { (x : Scenario) (s : State) → Stands (boxed shown) x board.now s → Pushes (S.seen out.old).written (S.seen out.new).written (region_text s.memory (count_of cover.now.counts) (known_of cover.now.marks) region.now) result }
+    ensures bytes { (x : Scenario) (s : State) → Stands (boxed shown) x board.now s → Pushes (S.seen out.old).written (S.seen out.new).written (region_text (covered s.memory cover.now) labels.now region.now) result }
     ensures cause { HasCause (S.seen out.old).faults (S.seen out.new).faults result }
 {
     push_code_line(region, out)?;
-    push_rows(board, cover, region.base, place_count(region), out)?;
+    push_rows(board, cover, labels, region.base, place_count(region), out)?;
     push_covered(region_totals(board, cover, region), out)
 }
 
@@ -222,21 +275,27 @@ fn base_of(i: u32) -> u32
 }
 
 // The lines of the region that begins there, if one does.
-fn push_base<S: Sink>(board: &Board, cover: &Cover, i: u32, out: &mut S) -> Result<(), Failed>
+fn push_base<S: Sink>(
+    board: &Board,
+    cover: &Cover,
+    labels: &[Label],
+    i: u32,
+    out: &mut S,
+) -> Result<(), Failed>
     requires inside { i < 5120 }
-    ensures bytes { (x : Scenario) (s : State) → Stands (boxed shown) x board.now s → Pushes (S.seen out.old).written (S.seen out.new).written (base_text x.setup s.memory (count_of cover.now.counts) (known_of cover.now.marks) i) result }
+    ensures bytes { (x : Scenario) (s : State) → Stands (boxed shown) x board.now s → Pushes (S.seen out.old).written (S.seen out.new).written (base_text x.setup (covered s.memory cover.now) labels.now i) result }
     ensures cause { HasCause (S.seen out.old).faults (S.seen out.new).faults result }
 {
     match code_at(board, base_of(i)) {
         None => Ok(()),
-        Some(region) => push_region(board, cover, &region, out),
+        Some(region) => push_region(board, cover, labels, &region, out),
     }
 }
 
 // What of it was executed.
 fn base_totals(board: &Board, cover: &Cover, i: u32) -> Totals
     requires inside { i < 5120 }
-    ensures is { (x : Scenario) (s : State) → Stands (boxed shown) x board.now s → result ≡ base_totals x.setup s.memory (count_of cover.now.counts) (known_of cover.now.marks) i }
+    ensures is { (x : Scenario) (s : State) → Stands (boxed shown) x board.now s → result ≡ base_totals x.setup (covered s.memory cover.now) i }
     ensures few { AreAtMost 1048576 result }
 {
     match code_at(board, base_of(i)) {
@@ -245,19 +304,24 @@ fn base_totals(board: &Board, cover: &Cover, i: u32) -> Totals
     }
 }
 
-fn push_bases<S: Sink>(board: &Board, cover: &Cover, out: &mut S) -> Result<(), Failed>
-    ensures bytes { (x : Scenario) (s : State) → Stands (boxed shown) x board.now s → Pushes (S.seen out.old).written (S.seen out.new).written (bases_text x.setup s.memory (count_of cover.now.counts) (known_of cover.now.marks) 5120) result }
+fn push_bases<S: Sink>(
+    board: &Board,
+    cover: &Cover,
+    labels: &[Label],
+    out: &mut S,
+) -> Result<(), Failed>
+    ensures bytes { (x : Scenario) (s : State) → Stands (boxed shown) x board.now s → Pushes (S.seen out.old).written (S.seen out.new).written (bases_text x.setup (covered s.memory cover.now) labels.now 5120) result }
     ensures cause { HasCause (S.seen out.old).faults (S.seen out.new).faults result }
 {
     for i in 0..BASES {
-        push_base(board, cover, i, out)?;
+        push_base(board, cover, labels, i, out)?;
     }
     Ok(())
 }
 
 #[tactic(auto, unfolding(crate::specs::Text::all_totals))]
 fn all_totals(board: &Board, cover: &Cover) -> Totals
-    ensures { (x : Scenario) (s : State) → Stands (boxed shown) x board.now s → result ≡ all_totals x.setup s.memory (count_of cover.now.counts) (known_of cover.now.marks) 5120 }
+    ensures { (x : Scenario) (s : State) → Stands (boxed shown) x board.now s → result ≡ all_totals x.setup (covered s.memory cover.now) 5120 }
 {
     let mut totals = Totals::none();
     for i in 0..BASES {
@@ -266,17 +330,23 @@ fn all_totals(board: &Board, cover: &Cover) -> Totals
     totals
 }
 
-/// Each different region of code by ascending base: a line `code <base> <size>`, a line for each known instruction and for bytes of
-/// none, and a line that says how much was executed; and then a line that says so of all (docs/FORMATS.md, Cover), one push each.
-/// After a failing push nothing more is pushed.
+/// Each different region of code by ascending base: a line `code <base> <size>`, a line for each known instruction, with a line for
+/// each of the labels at its address before it, and for bytes of none, and a line that says how much was executed; and then a line
+/// that says so of all (docs/FORMATS.md, Cover). A line is one push, that of a label three. After a failing push nothing more is
+/// pushed.
 ///
 /// # Errors
 ///
 /// Only where a push failed.
-pub fn push_listing<S: Sink>(board: &Board, cover: &Cover, out: &mut S) -> Result<(), Failed>
-    ensures bytes { (x : Scenario) (s : State) → Stands (boxed shown) x board.now s → Pushes (S.seen out.old).written (S.seen out.new).written (listing_text x.setup s.memory (count_of cover.now.counts) (known_of cover.now.marks)) result }
+pub fn push_listing<S: Sink>(
+    board: &Board,
+    cover: &Cover,
+    labels: &[Label],
+    out: &mut S,
+) -> Result<(), Failed>
+    ensures bytes { (x : Scenario) (s : State) → Stands (boxed shown) x board.now s → Pushes (S.seen out.old).written (S.seen out.new).written (listing_text x.setup (covered s.memory cover.now) labels.now) result }
     ensures cause { HasCause (S.seen out.old).faults (S.seen out.new).faults result }
 {
-    push_bases(board, cover, out)?;
+    push_bases(board, cover, labels, out)?;
     push_in_all(all_totals(board, cover), out)
 }

@@ -4,8 +4,7 @@ ghost use Rattle.task_table.specs.State.{State};
 ghost use Rattle.board_model.specs.Script.{Scenario};
 ghost use Rattle.board_core.specs.Stands.{Stands};
 ghost use Rattle.board_core.specs.Data.{boxed};
-ghost use Rattle.run_cover.specs.Counted.{count_of};
-ghost use Rattle.run_cover.specs.Marked.{known_of};
+ghost use Rattle.run_cover.specs.Covered.{covered};
 ghost use Rattle.run_cover.specs.Totals.{AreAtMost, added, no_totals, once, totals_at, totals_in, totals_of};
 
 use crate::counts::Count;
@@ -58,8 +57,8 @@ impl Totals {
     }
 }
 
-// Those of a known instruction.
-fn totals_of(conditional: bool, count: Count) -> Totals
+/// Those of an instruction.
+pub fn totals_of(conditional: bool, count: Count) -> Totals
     ensures is { result ≡ totals_of conditional count }
     ensures few { AreAtMost 2 result }
 {
@@ -85,7 +84,7 @@ fn totals_of(conditional: bool, count: Count) -> Totals
 #[tactic(auto, unfolding(crate::specs::Totals::totals_at))]
 fn totals_at(board: &Board, cover: &Cover, addr: u32) -> Totals
     requires { addr + 3 < 2 ^ 32 }
-    ensures is { (x : Scenario) (s : State) → Stands (boxed shown) x board.now s → result ≡ totals_at s.memory (count_of cover.now.counts) (known_of cover.now.marks) addr }
+    ensures is { (x : Scenario) (s : State) → Stands (boxed shown) x board.now s → result ≡ totals_at (covered s.memory cover.now) addr }
     ensures few { AreAtMost 2 result }
 {
     if !cover.marks.has(addr) {
@@ -101,7 +100,7 @@ fn totals_at(board: &Board, cover: &Cover, addr: u32) -> Totals
 #[tactic(auto, unfolding(crate::specs::Totals::totals_in))]
 pub fn totals_in(board: &Board, cover: &Cover, base: u32, count: u32) -> Totals
     requires inside { base + 2 * count + 3 < 2 ^ 32 }
-    ensures is { (x : Scenario) (s : State) → Stands (boxed shown) x board.now s → result ≡ totals_in s.memory (count_of cover.now.counts) (known_of cover.now.marks) base count }
+    ensures is { (x : Scenario) (s : State) → Stands (boxed shown) x board.now s → result ≡ totals_in (covered s.memory cover.now) base count }
     ensures few { AreAtMost (2 * count) result }
 {
     let mut totals = Totals::none();

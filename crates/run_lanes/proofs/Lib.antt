@@ -1,7 +1,15 @@
+pub mod Asked
+pub mod Celled
+pub mod Changes
+pub mod Exchanged
+pub mod Kept
 pub mod Marked
 pub mod Midway
 pub mod Noted
 pub mod Offered
+pub mod Painting
 pub mod Pushed
 pub mod Stretched
+pub mod Tiled
 pub mod Told
+pub mod Widths

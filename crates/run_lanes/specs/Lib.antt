@@ -1,6 +1,13 @@
+pub mod Columned
+pub mod Columns
+pub mod Counted
+pub mod First
 pub mod Kept
 pub mod Names
+pub mod Painted
+pub mod Pictured
 pub mod Seen
 pub mod Stretches
 pub mod Timeline
+pub mod Told
 pub mod Words

@@ -1,17 +1,27 @@
-//! What each task does in each turn of a run, and a run as a timeline (docs/FORMATS.md, What a task does in a turn, and Timeline).
+//! What each task does in each turn of a run, and a run as a timeline and as a picture (docs/FORMATS.md, What a task does in a turn,
+//! Timeline, and Picture).
 #![tactic(auto)]
 
+mod calls;
+mod canvas;
+mod cells;
+mod columns;
+mod events;
+mod exchange;
+mod first;
 mod lanes;
 mod laws;
 mod line;
 mod naming;
+mod picture;
 mod pushing;
 mod telling;
 mod timeline;
 mod watching;
 mod word;
 
-pub use laws::stretches_tile_the_turns;
+pub use laws::{columns_tile_the_turns, stretches_tile_the_turns};
+pub use picture::draw_run;
 pub use timeline::{TimelineFault, write_timeline};
 pub use watching::{Watcher, watch};
 pub use word::Word;

@@ -8,7 +8,8 @@
 //! `hex NAME`, a file as bytes, where `00*9` is nine of one; `room NAME`, a file with room for so many bytes, and those
 //! that it holds; `player NAME` and `server NAME`, the source of a task that makes the calls of a table, and the table;
 //! `repeated NAME`, a file in which the lines between a line `< N` and a line `>` stand N times, `@` being the number of the time;
-//! `devices`, which devices are handed in; `left NAME`, the bytes that stand there in the end; and any other key is the name of a file that stands there as it is.
+//! `devices`, which devices are handed in; `left NAME`, the bytes that stand there in the end, `left text NAME` the same as lines and
+//! `left sum NAME` by their checksum; and any other key is the name of a file that stands there as it is.
 //! Last comes `text`, the lines that are wanted, or `sum`, the checksum of the text.
 #![tactic(auto)]
 
@@ -149,7 +150,7 @@ enum Form {
     Calls(&'static str),
 }
 
-/// The keys of parts that tell no file, besides `left NAME`.
+/// The keys of parts that tell no file, besides those of what is left.
 const NO_FILES: [&str; 8] = [
     "words",
     "each word",
@@ -241,17 +242,29 @@ fn sink_of(alloc: Global, parts: &[Part<'_>]) -> Result<MemSink, AllocError> {
     MemSink::open(alloc, 1_000_000, &failing)
 }
 
-/// Whether these bytes, and no more, stand under the name.
+/// Whether bytes are those that are wanted: as the word before the name tells, by their checksum, as lines, or as digits.
+fn is_as_wanted(alloc: Global, word: &str, wanted: &str, found: &[u8]) -> Result<bool, AllocError> {
+    match word {
+        "sum" => Ok(u64::from_str_radix(wanted.trim_end(), 16) == Ok(sum(found))),
+        "text" => Ok(found.split_last() == Some((&b'\n', wanted.as_bytes()))),
+        _ => {
+            let mut bytes = Vec::new(alloc);
+            push_runs(&mut bytes, wanted)?;
+            Ok(found == bytes.as_slice())
+        }
+    }
+}
+
+/// Whether what is wanted, and no more, stands under the name.
 fn is_left(
     alloc: Global,
     files: &mut MemFiles,
-    name: &str,
-    digits: &str,
+    key: &str,
+    wanted: &str,
 ) -> Result<bool, AllocError> {
-    let mut wanted = Vec::new(alloc);
-    push_runs(&mut wanted, digits)?;
+    let (word, name) = key.split_once(' ').unwrap_or(("", key));
     match read_all(alloc, files, name, 2_097_152) {
-        Ok(found) => Ok(found == wanted),
+        Ok(found) => is_as_wanted(alloc, word, wanted, &found),
         Err(_) => Ok(false),
     }
 }
@@ -259,8 +272,8 @@ fn is_left(
 /// Whether each file that the case names stands in the end as it wants.
 fn are_left(alloc: Global, files: &mut MemFiles, parts: &[Part<'_>]) -> Result<bool, AllocError> {
     for part in parts {
-        if let Some(name) = part.0.strip_prefix("left ") {
-            if !is_left(alloc, files, name, part.1)? {
+        if let Some(key) = part.0.strip_prefix("left ") {
+            if !is_left(alloc, files, key, part.1)? {
                 return Ok(false);
             }
         }

@@ -39,12 +39,13 @@ use Rattle.sweep_core.specs.Told.{IsToldAt, IsToldFrom}
 use Rattle.sweep_core.proofs.Going.{heard_parts, same_ram, silent, stays}
 use Rattle.sweep_core.proofs.Letters.{letters_alike}
 
--- ---- what is told of a run is told of one with the same notes and the same end
+-- ---- what is told of a run is told of one of which as much is heard, with the same end
 
-told_alike : (mem : Bool) (front : Tally) (r q : Run) (t : Told) → r.notes ≡ q.notes → r.end ≡ q.end → reduced r.last ≡ reduced q.last → IsToldFrom mem front r t → IsToldFrom mem front q t
-told_alike mem front r q t notes end last h = record {
-  words = h.words ∙ (λ i. front_words (end i) (heard front (notes i)) ++ letters_alike r.last q.last last i ++ memory_word mem (same_ram r.last q.last last i));
-  faults = h.faults ∙ ap (λ l. (heard front l).faults) notes;
+pub told_alike : (mem : Bool) (front other : Tally) (r q : Run) (t : Told) → heard front r.notes ≡ heard other q.notes → r.end ≡ q.end → reduced r.last ≡ reduced q.last →
+    IsToldFrom mem front r t → IsToldFrom mem other q t
+told_alike mem front other r q t all end last h = record {
+  words = h.words ∙ (λ i. front_words (end i) (all i) ++ letters_alike r.last q.last last i ++ memory_word mem (same_ram r.last q.last last i));
+  faults = h.faults ∙ ap (λ (k : Tally). k.faults) all;
   by_supervisor = h.by_supervisor ∙ ap (λ e. is_supervisors e) end;
 }
 
@@ -159,7 +160,7 @@ module _ (x : Scenario) (script : ScriptData) where
           let here : IsToldFrom mem tally (run Calls x k v) t = subst (λ (n : ℕ). IsToldFrom mem tally (run Calls x (limit - n) v) t) (turn_reduced c) heard_so in
           let alike = reduced-run Calls x k c sane in
           let P : Run → Type 0 = λ r. IsToldFrom mem tally r t in
-          subst P (sym (goes k c sane late)) (told_alike mem tally (run Calls x k v) (run Calls x k c) t alike.notes alike.end alike.last here)
+          subst P (sym (goes k c sane late)) (told_alike mem tally tally (run Calls x k v) (run Calls x k c) t (ap (heard tally) alike.notes) alike.end alike.last here)
 
       -- ---- states that it came to
 

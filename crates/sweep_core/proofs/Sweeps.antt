@@ -1,5 +1,5 @@
 -- A board with what a sweep keeps of it, from one arrival time to the next.
-use Rattle.std.proofs.Common.{◌≡◌, ◌∙◌, ℕ, ◌+◌, ◌-◌, ◌≤◌, min, Bool, List, [], ◌∷◌, ◌++◌, length, length-append, map, None, refl, sym, ap, subst, arith, Global}
+use Rattle.std.proofs.Common.{◌≡◌, ◌∙◌, ℕ, ◌+◌, ◌-◌, ◌≤◌, min, Bool, List, [], ◌∷◌, length, length-append, map, None, refl, sym, ap, subst, arith, Global}
 use Rattle.std.specs.Prelude.{Vec}
 use Rattle.std.proofs.lemmas.List.{length-map}
 use Rattle.kernel_abi.specs.declared.Kind.{Kind}
@@ -33,13 +33,12 @@ use Rattle.sweep_core.specs.declared.tally.Tally.{Tally}
 use Rattle.sweep_core.specs.declared.told.Told.{Told}
 use Rattle.sweep_core.specs.Laying.{IsLaid}
 use Rattle.sweep_core.specs.Leading.{GoesOnAs, IsUnderWay}
-use Rattle.sweep_core.specs.Outcomes.{front_words, heard, memory_word, nothing_heard}
-use Rattle.sweep_core.specs.Swept.{is_supervisors}
-use Rattle.sweep_core.specs.Sweeping.{HasComeTo, HasScripts, HasTold, IsAsGood, IsAt, IsBefore, IsReady, IsSweeping, own_script, run_of}
+use Rattle.sweep_core.specs.Outcomes.{heard, nothing_heard}
+use Rattle.sweep_core.specs.Sweeping.{Fork, HasComeTo, HasScripts, HasTold, IsAsGood, IsAt, IsAtFork, IsBefore, IsReady, IsSweeping, own_script, run_of}
 use Rattle.sweep_core.specs.Told.{IsTold, IsToldFrom}
 use Rattle.snapshot.proofs.Few.{few_tasks}
+use Rattle.sweep_core.proofs.Following.{goes_as_itself, told_alike}
 use Rattle.sweep_core.proofs.Going.{as_good_run, come_within, goes_on, good_itself, heard_on, one_before, same_ram, silent, stays}
-use Rattle.sweep_core.proofs.Letters.{letters_alike}
 
 -- ---- what is kept of a state
 
@@ -72,13 +71,11 @@ told_whole x script other m limit u mem front t sane hu good same is le h =
     let r = run Calls (with_script x other) (limit - u.turn) u in
     let w = run_of x script limit in
     let rest = goes_on x script sane other m limit u hu good same le in
-    let end : r.end ≡ w.end = sym rest.end in
-    let all : heard front r.notes ≡ heard nothing_heard w.notes = heard_on x script sane m limit front r is rest in
-    record {
-      words = h.words ∙ (λ i. front_words (end i) (all i) ++ letters_alike r.last w.last rest.last i ++ memory_word mem (same_ram r.last w.last rest.last i));
-      faults = h.faults ∙ ap (λ (k : Tally). k.faults) all;
-      by_supervisor = h.by_supervisor ∙ ap is_supervisors end;
-    }
+    told_alike mem front nothing_heard r w t (heard_on x script sane m limit front r is rest) (sym rest.end) rest.last h
+
+-- the run without the arrival, from its start
+abbrev pub first_fork : Scenario → List Listed → Fork
+first_fork x arrival = record { arrival = arrival; script = x.script; turn = 0 }
 
 module _ {X : Type 0} {H : X → Type 0} (shown : Shows X H) (x : Scenario) where
   -- ---- saved and loaded
@@ -233,6 +230,9 @@ module _ {X : Type 0} {H : X → Type 0} (shown : Shows X H) (x : Scenario) wher
         front = h.front ∙ ap (λ l. heard nothing_heard l) (sym (silent x (start_of x)));
       };
     }
+
+    pub at_first : (w : Sweeper X H) (limit : ℕ) → IsReady shown x arrival w → IsAtFork shown x (first_fork x arrival) w limit limit
+    at_first w limit h = record { at = ready_at w h; few = omega arith; goes = goes_as_itself x limit }
 
     pub told_first : (w w' : Sweeper X H) → IsReady shown x arrival w → IsAt shown x arrival x.script w' 0 → own_script w' ≡ own_script w → w'.script ≡ w.script → HasTold shown x arrival w'
     told_first w w' h at own script = record {

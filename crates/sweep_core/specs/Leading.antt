@@ -12,9 +12,9 @@ use Rattle.board_model.specs.Run.{Run, run}
 use Rattle.board_model.specs.Script.{Scenario}
 use Rattle.board_core.specs.declared.board.Board.{Board}
 use Rattle.board_core.specs.Data.{Shows}
-use Rattle.board_core.specs.Stands.{Stands, script_of}
+use Rattle.board_core.specs.Stands.{Stands, script_of, turns_of}
 use Rattle.snapshot.specs.Loaded.{sites}
-use Rattle.snapshot.specs.Saved.{SpellsState}
+use Rattle.snapshot.specs.Saved.{SpellsState, spelling}
 use Rattle.sweep_core.specs.declared.leader.Leader.{Leader}
 use Rattle.sweep_core.specs.declared.tally.Tally.{Tally}
 use Rattle.sweep_core.specs.declared.told.Told.{Told}
@@ -79,21 +79,35 @@ IsLeading x limit mem w = IsLedBy x limit mem w.told w.led
 
 -- ## a run that follows
 
+-- the script with which a board runs
+abbrev pub board_script : {X : Type 0} {H : X → Type 0} → Board X H → ScriptData
+board_script b = script_data (script_of b)
+
 -- a board stands for a state, with a script whose arrival is over from turn `over` on
 pub record IsUnderWay {X : Type 0} {H : X → Type 0} (shown : Shows X H) (x : Scenario) (over : ℕ) (b : Board X H) (s : State) : Type 0 where
-  pub stands : Stands shown (with_script x (script_data (script_of b))) b s
+  pub stands : Stands shown (with_script x (board_script b)) b s
   pub sites : sites s.devices ≡ sites x.devices
-  pub goes : GoesOnAs x (script_data (script_of b)) over
+  pub goes : GoesOnAs x (board_script b) over
 
 -- it has gone on from there with this script
 abbrev pub HasGoneOn : {X : Type 0} {H : X → Type 0} → Shows X H → Scenario → ScriptData → State → Board X H → Type 0
 HasGoneOn shown x script s b = (n : ℕ) × Stands shown (with_script x script) b (run Calls (with_script x script) n s).last
+
+-- it stands before turn `stop`, with room beside it for its state
+pub record IsAtStop {X : Type 0} {H : X → Type 0} (shown : Shows X H) (x : Scenario) (b : Board X H) (s : State) (stop : ℕ) (room : List ℕ) : Type 0 where
+  pub stands : Stands shown x b s
+  pub turn : turns_of b ≡ stop
+  pub long : length room ≡ length (spelling (reduced s))
 
 -- a state is one of those that are kept, with as much heard
 pub record HasMet (x : Scenario) (s : State) (tally : Tally) (led : Trail) : Type 0 where
   pub bytes : List ℕ
   pub spelled : SpellsState x.setup (reduced s) bytes
   pub same : HasSame tally bytes led
+
+-- it is none of them
+abbrev pub HasMissed : State → Tally → Trail → Type 0
+HasMissed s tally led = HasNone tally (spelling (reduced s)) led
 
 -- it is kept besides
 pub record HasPassed (x : Scenario) (s : State) (tally : Tally) (stop : ℕ) (old new : Trail) : Type 0 where

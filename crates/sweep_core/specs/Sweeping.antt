@@ -1,6 +1,7 @@
 -- Where a sweep is: its board goes on from arrival time to arrival time, and from each of them to the end of that run and back.
-use Rattle.std.specs.Prelude.{ℕ, ◌≡◌, ◌≤◌, ◌+◌, Bool, List, length, Option, Result}
+use Rattle.std.specs.Prelude.{ℕ, ◌≡◌, ◌≤◌, ◌+◌, Bool, List, length, Result}
 use Rattle.outside_io.specs.Outside.{Pushes}
+use Rattle.outside_io.specs.Seen.{SinkSeen}
 use Rattle.arrayvec.specs.ArrayString.{ArrayString}
 use Rattle.run_script.specs.Events.{script_data}
 use Rattle.run_script.specs.Laying.{HasRoom}
@@ -20,7 +21,7 @@ use Rattle.sweep_core.specs.declared.comparing.Compared.{Compared}
 use Rattle.sweep_core.specs.declared.sweeper.Sweeper.{Sweeper}
 use Rattle.sweep_core.specs.declared.told.Told.{Told}
 use Rattle.sweep_core.specs.Comparing.{compared_of, with_time}
-use Rattle.sweep_core.specs.Leading.{IsLeading}
+use Rattle.sweep_core.specs.Leading.{GoesOnAs, IsLeading, board_script}
 use Rattle.sweep_core.specs.Outcomes.{heard, nothing_heard}
 use Rattle.sweep_core.specs.Swept.{Asking, base_run, outcome_at, times_text}
 use Rattle.sweep_core.specs.Told.{IsTold}
@@ -28,9 +29,13 @@ use Rattle.sweep_core.specs.Told.{IsTold}
 abbrev pub asked : List Listed → ℕ → ℕ → ℕ → Bool → Asking
 asked arrival from to limit mem = record { arrival = arrival; from = from; to = to; limit = limit; mem = mem }
 
+-- of one arrival time
+abbrev pub asked_at : List Listed → ℕ → ℕ → Bool → Asking
+asked_at arrival time limit mem = asked arrival time (time + 1) limit mem
+
 -- the script with which the board runs
 abbrev pub own_script : {X : Type 0} {H : X → Type 0} → Sweeper X H → ScriptData
-own_script w = script_data (script_of w.board)
+own_script w = board_script w.board
 
 -- the run starts sane; the scripts are these two, and there is room for each script that is laid of them and for a state of the run
 pub record HasScripts {X : Type 0} {H : X → Type 0} (x : Scenario) (arrival : List Listed) (w : Sweeper X H) : Type 0 where
@@ -84,6 +89,18 @@ pub record IsAt {X : Type 0} {H : X → Type 0} (shown : Shows X H) (x : Scenari
   pub good : IsAsGood (own_script w) script
   pub come : HasComeTo shown x script w m
 
+-- where a run leaves the one without an arrival: which arrival, with which script, and before which turn
+pub record Fork : Type 0 where
+  pub arrival : List Listed
+  pub script : ScriptData
+  pub turn : ℕ
+
+-- its run goes on from here, up to turn `limit`, and its arrival is over from turn `over` on
+pub record IsAtFork {X : Type 0} {H : X → Type 0} (shown : Shows X H) (x : Scenario) (f : Fork) (w : Sweeper X H) (over limit : ℕ) : Type 0 where
+  pub at : IsAt shown x f.arrival f.script w f.turn
+  pub few : f.turn ≤ limit
+  pub goes : GoesOnAs x f.script over
+
 -- the run without the arrival was made, from the start, and the board stands there again
 pub record HasTold {X : Type 0} {H : X → Type 0} (shown : Shows X H) (x : Scenario) (arrival : List Listed) (w : Sweeper X H) : Type 0 where
   pub scripts : HasScripts x arrival w
@@ -106,5 +123,5 @@ pub record IsBased {X : Type 0} {H : X → Type 0} (shown : Shows X H) (x : Scen
   pub told : IsTold a.mem (base_run x a) base
 
 -- the lines of the arrival times that are asked for were pushed, or after a failure a front of them
-abbrev pub PushesTimes : {T E : Type 0} → Scenario → Asking → Option (List ℕ) → Option (List ℕ) → Result T E → Type 0
-PushesTimes x a old new result = Pushes old new (times_text x a) result
+abbrev pub PushesTimes : {T E : Type 0} → Scenario → Asking → SinkSeen → SinkSeen → Result T E → Type 0
+PushesTimes x a w w' result = Pushes w.written w'.written (times_text x a) result

@@ -5,7 +5,7 @@ use Rattle.board_model.specs.declared.outcomes.End.{End}
 use Rattle.board_model.specs.Run.{Run}
 use Rattle.sweep_core.specs.declared.tally.Tally.{Tally}
 use Rattle.sweep_core.specs.declared.told.Told.{Told}
-use Rattle.sweep_core.specs.Outcomes.{front_words, heard, letters, memory_word, nothing_heard, outcome}
+use Rattle.sweep_core.specs.Outcomes.{front_words, heard, letters, memory_word, nothing_heard}
 use Rattle.sweep_core.specs.Swept.{is_supervisors}
 
 -- of a run that ended so in a state, and of which this was heard
@@ -19,10 +19,8 @@ abbrev pub IsToldFrom : Bool → Tally → Run → Told → Type 0
 IsToldFrom mem front r t = IsToldAt mem r.end (heard front r.notes) r.last t
 
 -- of a whole run
-pub record IsTold (mem : Bool) (r : Run) (t : Told) : Type 0 where
-  pub words : t.words.bytes ≡ outcome mem r
-  pub faults : t.faults ≡ (heard nothing_heard r.notes).faults
-  pub by_supervisor : t.by_supervisor ≡ is_supervisors r.end
+abbrev pub IsTold : Bool → Run → Told → Type 0
+IsTold mem r t = IsToldFrom mem nothing_heard r t
 
 abbrev pub is_worse_told : Told → Told → Bool
 is_worse_told base t = nat_lt base.faults t.faults || (t.by_supervisor && not base.by_supervisor)

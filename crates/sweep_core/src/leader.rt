@@ -1,16 +1,13 @@
 //! The run that was played to its end last, and runs that end as it does.
-ghost use Rattle.std.specs.Prelude.{◌≡◌, ◌<◌, ◌≤◌, ◌+◌, ◌-◌, ◌*◌, ◌⊎◌, true, false, length, IfOk, IfSome};
+ghost use Rattle.std.specs.Prelude.{◌≡◌, ◌<◌, ◌≤◌, ◌+◌, ◌-◌, ◌*◌, ◌⊎◌, true, false, IfOk, IfSome};
 ghost use Rattle.std.specs.Int.{IsNextPowerOfTwo};
 ghost use Rattle.task_table.specs.State.{State};
 ghost use Rattle.board_model.specs.declared.outcomes.Level.TheVariants.{Calls};
-ghost use Rattle.board_model.specs.Alike.{reduced};
 ghost use Rattle.board_model.specs.Run.{run};
 ghost use Rattle.board_model.specs.Script.{Scenario};
 ghost use Rattle.board_core.specs.Data.{boxed};
-ghost use Rattle.board_core.specs.Stands.{Stands, Stood, script_of, turns_of};
-ghost use Rattle.run_script.specs.Events.{script_data};
-ghost use Rattle.sweep_core.specs.Leading.{HasGoneOn, HasMet, HasNone, HasPassed, IsLeading, IsUnderWay, run_from};
-ghost use Rattle.snapshot.specs.Saved.{spelling};
+ghost use Rattle.board_core.specs.Stands.{Stands, Stood, turns_of};
+ghost use Rattle.sweep_core.specs.Leading.{HasGoneOn, HasMet, HasMissed, HasPassed, IsAtStop, IsLeading, IsUnderWay, board_script, run_from};
 ghost use Rattle.sweep_core.specs.Told.{IsToldFrom};
 
 use crate::saving::save;
@@ -104,7 +101,7 @@ impl Leader {
         requires { Stood (boxed shown) board.now }
         ensures at { result ≡ true → turns_of board.now ≡ stop }
         ensures met { result ≡ true → (x : Scenario) (s : State) → Stands (boxed shown) x board.now s → HasMet x s heard.now self.old.led }
-        ensures missed { result ≡ false → turns_of board.now ≡ stop → (x : Scenario) (s : State) → Stands (boxed shown) x board.now s → length self.old.here.items ≡ length (spelling (reduced s)) → HasNone heard.now (spelling (reduced s)) self.old.led }
+        ensures missed { result ≡ false → (x : Scenario) (s : State) → IsAtStop (boxed shown) x board.now s stop self.old.here.items → HasMissed s heard.now self.old.led }
         ensures passed { result ≡ false → (x : Scenario) (s : State) → Stands (boxed shown) x board.now s → (self.new.passed ≡ self.old.passed) ⊎ HasPassed x s heard.now stop self.old.passed self.new.passed }
         ensures led { self.new.led ≡ self.old.led }
         ensures told { self.new.told ≡ self.old.told }
@@ -149,9 +146,9 @@ impl Leader {
         requires from { turns_of board.old ≤ limit }
         requires over { over ≤ 2000000000 }
         requires few { limit ≤ 1000000000 }
-        ensures told { (x : Scenario) (s : State) → IsUnderWay (boxed shown) x over board.old s → IsLeading x limit mem self.old → IsToldFrom mem front.now (run_from x (script_data (script_of board.old)) limit s) result }
+        ensures told { (x : Scenario) (s : State) → IsUnderWay (boxed shown) x over board.old s → IsLeading x limit mem self.old → IsToldFrom mem front.now (run_from x (board_script board.old) limit s) result }
         ensures leads { (x : Scenario) (s : State) → IsUnderWay (boxed shown) x over board.old s → IsLeading x limit mem self.old → IsLeading x limit mem self.new }
-        ensures last { (x : Scenario) (s : State) → IsUnderWay (boxed shown) x over board.old s → HasGoneOn (boxed shown) x (script_data (script_of board.old)) s board.new }
+        ensures last { (x : Scenario) (s : State) → IsUnderWay (boxed shown) x over board.old s → HasGoneOn (boxed shown) x (board_script board.old) s board.new }
     {
         self.passed.clear();
         let mut heard = *front;

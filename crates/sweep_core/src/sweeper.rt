@@ -2,14 +2,14 @@
 ghost use Rattle.std.specs.Prelude.{ℕ, ◌≡◌, ◌≤◌, ◌<◌, min, true, false, List, IfOk};
 ghost use Rattle.outside_io.specs.Outside.{Pushes, HasCause};
 ghost use Rattle.run_script.specs.Events.{script_data};
-ghost use Rattle.run_script.specs.Scripts.{Listed, ScriptData};
+ghost use Rattle.run_script.specs.Scripts.{Listed};
 ghost use Rattle.board_model.specs.Laid.{laid, may_be_laid};
 ghost use Rattle.board_model.specs.Script.{Scenario, start_of};
 ghost use Rattle.board_core.specs.Data.{boxed};
 ghost use Rattle.board_core.specs.Stands.{Stands};
-ghost use Rattle.sweep_core.specs.Leading.{GoesOnAs, IsLeading};
+ghost use Rattle.sweep_core.specs.Leading.{IsLeading};
 ghost use Rattle.sweep_core.specs.Swept.{makes_difference, sweep_text};
-ghost use Rattle.sweep_core.specs.Sweeping.{HasTold, IsAt, IsBased, IsBefore, IsLooked, IsReady, IsSweeping, PushesTimes, asked, own_script, run_of};
+ghost use Rattle.sweep_core.specs.Sweeping.{Fork, HasTold, IsAt, IsAtFork, IsBased, IsBefore, IsLooked, IsReady, IsSweeping, PushesTimes, asked, asked_at, own_script, run_of};
 ghost use Rattle.sweep_core.specs.Told.{IsTold};
 
 use crate::comparing::Compared;
@@ -86,13 +86,13 @@ impl Sweeper {
     /// The run that goes on from here, to its end or to where it meets an earlier one, which it may from turn `over` on. The board stands
     /// here again afterwards.
     fn tell(&mut self, over: u32, limit: u32, mem: bool) -> Told
-        requires at { (x : Scenario) × (arrival : List Listed) × (script : ScriptData) × (m : ℕ) × IsAt (boxed shown) x arrival script self.old m × (m ≤ limit) × GoesOnAs x script over }
+        requires at { (x : Scenario) × (f : Fork) × IsAtFork (boxed shown) x f self.old over limit }
         requires over { over ≤ 2000000000 }
         requires few { limit ≤ 1000000000 }
-        ensures told { (x : Scenario) (arrival : List Listed) (script : ScriptData) (m : ℕ) → IsAt (boxed shown) x arrival script self.old m → m ≤ limit → GoesOnAs x script over → IsLeading x limit mem self.old.leader → IsTold mem (run_of x script limit) result }
-        ensures leads { (x : Scenario) (arrival : List Listed) (script : ScriptData) (m : ℕ) → IsAt (boxed shown) x arrival script self.old m → m ≤ limit → GoesOnAs x script over → IsLeading x limit mem self.old.leader → IsLeading x limit mem self.new.leader }
-        ensures same { (x : Scenario) (arrival : List Listed) (script : ScriptData) (m : ℕ) → IsAt (boxed shown) x arrival script self.old m → m ≤ limit → GoesOnAs x script over → IsAt (boxed shown) x arrival script self.new m }
-        ensures own { (x : Scenario) (arrival : List Listed) (script : ScriptData) (m : ℕ) → IsAt (boxed shown) x arrival script self.old m → m ≤ limit → GoesOnAs x script over → own_script self.new ≡ own_script self.old }
+        ensures told { (x : Scenario) (f : Fork) → IsAtFork (boxed shown) x f self.old over limit → IsLeading x limit mem self.old.leader → IsTold mem (run_of x f.script limit) result }
+        ensures leads { (x : Scenario) (f : Fork) → IsAtFork (boxed shown) x f self.old over limit → IsLeading x limit mem self.old.leader → IsLeading x limit mem self.new.leader }
+        ensures same { (x : Scenario) (f : Fork) → IsAtFork (boxed shown) x f self.old over limit → IsAtFork (boxed shown) x f self.new over limit }
+        ensures own { (x : Scenario) (f : Fork) → IsAtFork (boxed shown) x f self.old over limit → own_script self.new ≡ own_script self.old }
         ensures script { self.new.script ≡ self.old.script }
     {
         saved_states_are_accepted();
@@ -145,7 +145,8 @@ impl Sweeper {
         requires early { time ≤ 1000000000 }
         requires few { limit ≤ 1000000000 }
         ensures before { (x : Scenario) (arrival : List Listed) → IsSweeping (boxed shown) x arrival self.old time limit mem → IsSweeping (boxed shown) x arrival self.new time limit mem }
-        ensures looked { (x : Scenario) (arrival : List Listed) → IsSweeping (boxed shown) x arrival self.old time limit mem → IsLooked x (asked arrival time time limit mem) time base.now compared.old compared.new result }
+        ensures looked { (x : Scenario) (arrival : List Listed) → IsSweeping (boxed shown) x arrival self.old time limit mem →
+            IsLooked x (asked_at arrival time limit mem) time base.now compared.old compared.new result }
     {
         if !self.go_to(time, limit) {
             return full();
@@ -170,7 +171,7 @@ impl Sweeper {
         requires some { from < to }
         requires range { to ≤ 1000000000 }
         requires few { limit ≤ 1000000000 }
-        ensures text { (x : Scenario) (arrival : List Listed) → let a = asked arrival from to limit mem in IsBased (boxed shown) x a self.old base.now → PushesTimes x a (S.seen out.old).written (S.seen out.new).written result }
+        ensures text { (x : Scenario) (arrival : List Listed) → let a = asked arrival from to limit mem in IsBased (boxed shown) x a self.old base.now → PushesTimes x a (S.seen out.old) (S.seen out.new) result }
         ensures makes { (x : Scenario) (arrival : List Listed) → let a = asked arrival from to limit mem in IsBased (boxed shown) x a self.old base.now → IfOk result (λ d. d ≡ makes_difference x a) }
         ensures cause { HasCause (S.seen out.old).faults (S.seen out.new).faults result }
     {

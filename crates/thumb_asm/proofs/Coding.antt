@@ -119,10 +119,10 @@ held_size env at (held.Near e i) p j h = let x = found (fill i) (value env e.now
 held_size env at held.Misplaced p j h = cc
 held_size env at (held.Listed loads text) p j h = sym (list_size loads (ranges_in text.now)) ∙ ap insn_size (fitting_is (list_insn loads (ranges_in text.now)) j h)
 held_size env at (held.Block n raised loads text) p j h = sym (block_size n loads (mask_of (ranges_in text.now))) ∙ ap insn_size (fitting_is (block_insn n loads (mask_of (ranges_in text.now))) j h)
-held_size env at (held.Data s es) p j h = absurd p
-held_size env at (held.Text text) p j h = absurd p
-held_size env at (held.Zeros e) p j h = absurd p
-held_size env at (held.Padding e) p j h = absurd p
+held_size env at (held.Data s es) p j h = cc
+held_size env at (held.Text text) p j h = cc
+held_size env at (held.Zeros e) p j h = cc
+held_size env at (held.Padding e) p j h = cc
 
 held_means : (env : Env) (at : ℕ) (s : Held) → HoldsInsn s → (own : List ℕ) (i : Insn) → insn_at env at (shape_of s) ≡ Ok i → Codes i own → Means env at (shape_of s) own
 unfolding Means
@@ -134,10 +134,10 @@ held_means env at (held.Near e i) p own j q c = (j, q, c)
 held_means env at held.Misplaced p own j q c = (j, q, c)
 held_means env at (held.Listed loads text) p own j q c = (j, q, c)
 held_means env at (held.Block n raised loads text) p own j q c = (j, q, c)
-held_means env at (held.Data s es) p own j q c = absurd p
-held_means env at (held.Text text) p own j q c = absurd p
-held_means env at (held.Zeros e) p own j q c = absurd p
-held_means env at (held.Padding e) p own j q c = absurd p
+held_means env at (held.Data s es) p own j q c = cc
+held_means env at (held.Text text) p own j q c = cc
+held_means env at (held.Zeros e) p own j q c = cc
+held_means env at (held.Padding e) p own j q c = cc
 
 pub held_cause : (env : Env) (at : ℕ) (s : Held) → HoldsInsn s → shape_cause env at (shape_of s) ≡ insn_cause at (insn_at env at (shape_of s))
 unfolding shape_cause
@@ -149,10 +149,10 @@ held_cause env at (held.Near e i) p = refl
 held_cause env at held.Misplaced p = refl
 held_cause env at (held.Listed loads text) p = refl
 held_cause env at (held.Block n raised loads text) p = refl
-held_cause env at (held.Data s es) p = absurd p
-held_cause env at (held.Text text) p = absurd p
-held_cause env at (held.Zeros e) p = absurd p
-held_cause env at (held.Padding e) p = absurd p
+held_cause env at (held.Data s es) p = cc
+held_cause env at (held.Text text) p = cc
+held_cause env at (held.Zeros e) p = cc
+held_cause env at (held.Padding e) p = cc
 
 pub gave_held : (env : Env) (at : ℕ) (s : Held) (old new : List ℕ) (r : Result (Unit {0}) Stop) → HoldsInsn s → OnOk r (Put (insn_at env at (shape_of s)) at old new) → OnOk r (Gave env at (shape_of s) old new)
 gave_held env at s old new r p k = gave_put env at (shape_of s) old new r (held_size env at s p) (held_means env at s p) (held_cause env at s p) k

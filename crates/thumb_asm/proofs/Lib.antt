@@ -14,3 +14,4 @@ pub mod Bytes
 pub mod Lines
 pub mod Tables
 pub mod Strange
+pub mod Placing

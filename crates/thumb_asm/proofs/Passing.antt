@@ -31,11 +31,11 @@ first_none : (given : Env) (base : ℕ) (earlier : Names) (used k : ℕ) → fir
 unfolding first_in
 first_none given base earlier used k = refl
 
-labels_next : (at : ℕ) (l : List ℕ) (ls : List (List ℕ)) → labels_from at (l ∷ ls) ≡ own_label at (parts l).label ++ labels_from (at + line_size at l) ls
+pub labels_next : (at : ℕ) (l : List ℕ) (ls : List (List ℕ)) → labels_from at (l ∷ ls) ≡ own_label at (parts l).label ++ labels_from (at + line_size at l) ls
 unfolding labels_from
 labels_next at l ls = refl
 
-labels_none : (at : ℕ) → labels_from at [] ≡ []
+pub labels_none : (at : ℕ) → labels_from at [] ≡ []
 unfolding labels_from
 labels_none at = refl
 

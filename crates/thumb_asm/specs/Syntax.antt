@@ -76,6 +76,14 @@ pub data Shape : Type 0 where
   Zeros : List ℕ → Shape
   Padding : List ℕ → Shape
 
+-- an instruction, and no data
+abbrev pub is_insn : Shape → Bool
+is_insn (Data k es) = false
+is_insn (Text text) = false
+is_insn (Zeros e) = false
+is_insn (Padding e) = false
+is_insn s = true
+
 abbrev pub is_high : ℕ → Bool
 is_high r = nat_le 8 r
 

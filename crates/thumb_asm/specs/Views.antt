@@ -1,5 +1,5 @@
 -- Values of the program without where their texts lie in memory.
-use Rattle.std.specs.Prelude.{ℕ, ℤ, false, List, Option, option_map, Result, Ok, Err}
+use Rattle.std.specs.Prelude.{◌≡◌, ℕ, ℤ, true, false, List, Option, option_map, Result, Ok, Err}
 use Rattle.thumb_insn.specs.declared.Insn.{Insn}
 use Rattle.thumb_insn.specs.declared.Insn.TheVariants as insn
 use Rattle.thumb_asm.specs.declared.Cause.{Cause}
@@ -13,7 +13,7 @@ use Rattle.thumb_asm.specs.declared.shape.Shape.TheVariants as held
 use Rattle.thumb_asm.specs.Parts.{Parts, operand_pieces}
 use Rattle.thumb_asm.specs.Kinds.{ranges_in, good_text}
 use Rattle.thumb_encode.specs.Codes.{scale}
-use Rattle.thumb_asm.specs.Syntax.{Shape, Fixed, Filled, Within, Aimed, Near, Misplaced, Listed, Block, Data, Text, Zeros, Padding}
+use Rattle.thumb_asm.specs.Syntax.{Shape, Fixed, Filled, Within, Aimed, Near, Misplaced, Listed, Block, Data, Text, Zeros, Padding, is_insn}
 
 abbrev pub parts_of : Line → Parts
 parts_of p = record { label = option_map (λ r. r.now) p.label; statement = p.statement.now }
@@ -75,11 +75,7 @@ shape_of (held.Padding e) = Padding e.now
 
 -- a statement with an instruction's code
 abbrev pub HoldsInsn : Held → Type 0
-HoldsInsn (held.Data s es) = ⊥
-HoldsInsn (held.Text text) = ⊥
-HoldsInsn (held.Zeros e) = ⊥
-HoldsInsn (held.Padding e) = ⊥
-HoldsInsn s = Unit {0}
+HoldsInsn s = is_insn (shape_of s) ≡ true
 
 abbrev pub shown : Result (Option Held) Cause → Result (Option Shape) Cause
 shown (Ok s) = Ok (option_map shape_of s)

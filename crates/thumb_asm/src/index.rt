@@ -82,7 +82,7 @@ fn insert(index: &mut BTreeMap<String, u32>, name: String, value: u32) -> Result
 }
 
 /// A name as a text.
-fn text(alloc: Global, name: &[u8]) -> Result<String, AllocError>
+pub(crate) fn text(alloc: Global, name: &[u8]) -> Result<String, AllocError>
     requires { is_name name.now ≡ true }
     ensures { IfOk result (λ t. string_bytes t ≡ name.now) }
 {

@@ -13,6 +13,7 @@ mod codes;
 mod data;
 mod expr;
 mod index;
+mod listing;
 mod lists;
 mod operand;
 mod parts;
@@ -23,6 +24,9 @@ mod syntax;
 mod words;
 
 pub use index::Symbols;
+pub use listing::{
+    InsnLine, Label, accepted_texts_are_listed_whole, instruction_lines, label_lines,
+};
 pub use passes::{Object, assemble, assemble_with};
 use std::alloc::AllocError;
 use std::fmt;

@@ -75,17 +75,10 @@ fn survey_line(line: &[u8], base: u32, used: u32, names: &Names<'_>) -> Result<u
         Some(cause) => return Err(cause),
         None => {}
     }
-    let size = match shape::statement(parts.statement)? {
-        None => 0,
-        Some(shape) => match shape::size(base + used, &shape) {
-            None => return Err(Cause::TooLong),
-            Some(size) => size,
-        },
-    };
-    if size > 1_048_576 - used {
-        Err(Cause::TooLong)
-    } else {
-        Ok(size)
+    let found = shape::statement(parts.statement)?;
+    match shape::room_for(&found, base, used) {
+        None => Err(Cause::TooLong),
+        Some(size) => Ok(size),
     }
 }
 

@@ -1,6 +1,6 @@
 //! Statements.
 
-ghost use Rattle.std.specs.Prelude.{◌≡◌, ◌<◌, ◌≤◌, ◌+◌, ◌*◌, ◌/◌, ◌^◌, false, length, OnOk, IfOk, IfErr, IfSome, MatchOption, nat_abs, pos, ◌-ℤ◌, Result, Ok, Err, None, Some};
+ghost use Rattle.std.specs.Prelude.{◌≡◌, ◌<◌, ◌≤◌, ◌+◌, ◌*◌, ◌/◌, ◌^◌, false, length, OnOk, IfOk, IfErr, IfSome, MatchOption, option_map, nat_abs, pos, ◌-ℤ◌, Result, Ok, Err, None, Some};
 ghost use Rattle.thumb_asm.specs.Sizes.{statement_of, shape_size, list_insn, block_insn, natural_part, padding, has_bad_count};
 ghost use Rattle.thumb_asm.specs.Operands.{signed};
 ghost use Rattle.thumb_asm.specs.Parts.{operand_pieces};
@@ -8,7 +8,7 @@ ghost use Rattle.thumb_asm.specs.Kinds.{ranges_in, good_text};
 ghost use Rattle.thumb_encode.specs.Codes.{insn_size, scale};
 ghost use Rattle.thumb_asm.specs.Meaning.{insn_at};
 ghost use Rattle.thumb_asm.specs.Syntax.{Filled as SpecFilled, Within as SpecWithin, Aimed as SpecAimed, Near as SpecNear};
-ghost use Rattle.thumb_asm.specs.Causes.{shape_cause};
+ghost use Rattle.thumb_asm.specs.Causes.{shape_cause, size_by};
 ghost use Rattle.thumb_asm.specs.Passes.{env_in, Stops};
 ghost use Rattle.thumb_asm.specs.Views.{shape_of, shown, fill, aim, HoldsInsn};
 ghost use Rattle.thumb_asm.specs.Outputs.{Gave, Finds};
@@ -180,6 +180,25 @@ pub(crate) fn size(at: u32, shape: &Shape<'_>) -> Option<u32>
         Shape::Text(text) => text_size(text),
         Shape::Zeros(piece) => Some(zeros(piece)),
         Shape::Padding(piece) => Some(padding(at, zeros(piece))),
+    }
+}
+
+/// How many bytes a line with this statement, or with none, takes behind those used, where it ends within 1048576 bytes.
+pub(crate) fn room_for(found: &Option<Shape<'_>>, base: u32, used: u32) -> Option<u32>
+    requires counted { IfSome found.now (λ s. has_bad_count (shape_of s) ≡ false) }
+    requires base { base + 1048576 < 2 ^ 32 }
+    requires used { used ≤ 1048576 }
+    ensures value { MatchOption result (1048576 < used + size_by (base + used) (Ok (option_map shape_of found.now))) (λ n. n ≡ size_by (base + used) (Ok (option_map shape_of found.now))) }
+    ensures within { IfSome result (λ n. used + n ≤ 1048576) }
+{
+    let size = match found {
+        None => 0,
+        Some(shape) => size(base + used, shape)?,
+    };
+    if size > 1_048_576 - used {
+        None
+    } else {
+        Some(size)
     }
 }
 

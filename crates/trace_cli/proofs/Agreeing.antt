@@ -3,7 +3,7 @@ use Rattle.std.proofs.Common.{◌≡◌, ℕ, ◌<◌, ◌≤◌, List, [], ◌�
 use Rattle.std.specs.Prelude.{slice_get}
 use Rattle.std.proofs.lemmas.Option.{same_Some, slice_get_within}
 use Rattle.kernel_abi.specs.Devices.{DeviceData}
-use Rattle.command_line.specs.CommandLine.{Asked, build, run, go, list, sample, migrate, audit, save, resume, debug, cover, sweep, timeline, live, help}
+use Rattle.command_line.specs.CommandLine.{Asked, build, run, go, list, sample, migrate, audit, save, resume, debug, cover, sweep, timeline, live, picture, lcov, help}
 use Rattle.trace_cli.specs.Sources.{File, files_of, files_by, first_of, MayBe, Are, Takes}
 use Rattle.trace_cli.proofs.Lists.{get_below, same_lists}
 
@@ -21,8 +21,10 @@ first_file devices (resume image script state steps detail) a b = refl
 first_file devices (debug image script commands) a b = refl
 first_file devices (cover image script steps) a b = refl
 first_file devices (sweep image script arrival from to steps memory) a b = refl
-first_file devices (timeline image script steps) a b = refl
+first_file devices (timeline image script steps names) a b = refl
 first_file devices (live image script commands) a b = refl
+first_file devices (picture image script out steps names) a b = refl
+first_file devices (lcov app script out steps) a b = refl
 first_file devices (help about) a b = refl
 
 pub same_held : (seen : List ℕ → Option (List ℕ)) (name c d : List ℕ) → seen name ≡ Some c → MayBe seen name d → d ≡ c

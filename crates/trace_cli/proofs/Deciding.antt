@@ -6,7 +6,7 @@ use Rattle.kernel_abi.specs.Devices.{DeviceData}
 use Rattle.outside_io.specs.Outside.{WhereSeen}
 use Rattle.image_format.specs.Picture.{Picture}
 use Rattle.sample_gen.specs.Sample.{sample_app, sample_sources}
-use Rattle.command_line.specs.CommandLine.{Asked, build, run, go, list, sample, migrate, audit, save, resume, debug, cover, sweep, timeline, live, help, is_accepted, job_of}
+use Rattle.command_line.specs.CommandLine.{Asked, build, run, go, list, sample, migrate, audit, save, resume, debug, cover, sweep, timeline, live, picture, lcov, help, is_accepted, job_of}
 use Rattle.debug_core.specs.declared.command.Command.{Command}
 use Rattle.debug_core.specs.Reading.{commands_or_fault}
 use Rattle.build_laws.proofs.OnePicture.{one_picture}
@@ -16,7 +16,8 @@ use Rattle.outside_io.specs.Seen.{FilesSeen}
 use Rattle.trace_cli.specs.Words.{job_in}
 use Rattle.trace_cli.specs.Sources.{File, files_by, MayBe, Are, Reaches, TakesAll, IsBuilt, first_of, described, sources_in, script_in, scenario_in}
 use Rattle.trace_cli.specs.Verdict as verdict
-use Rattle.trace_cli.specs.Verdict.{Verdict, IsVerdict, Does, usage, refused, unread, ran, built, sampled, debugged, audited, covered, run_of}
+use Rattle.trace_cli.specs.Verdict.{Verdict, IsVerdict, Does, usage, refused, unread, ran, built, sampled, debugged, audited, covered, traced, run_of}
+use Rattle.trace_cli.specs.Tracing.{sections}
 use Rattle.trace_cli.specs.Answer.{JobReason, cannot_read, refuses, does, IsUnread, IsRefused, Reason, no_job, of_job}
 use Rattle.board_model.specs.declared.outcomes.Level.TheVariants.{All}
 use Rattle.run_cover.specs.Counted.{counts}
@@ -51,8 +52,11 @@ same_done devices (cover image script steps) cs u v p q =
     let r = run_of All steps x in
     p.2 ∙ ap (covered steps x) (one_known x.setup r.last.memory (counts r.notes) p.0 q.0 p.1 q.1) ∙ sym q.2
 same_done devices (sweep image script arrival from to steps memory) cs u v p q = p ∙ sym q
-same_done devices (timeline image script steps) cs u v p q = p ∙ sym q
+same_done devices (timeline image script steps names) cs u v p q = p ∙ sym q
 same_done devices (live image script commands) cs u v p q = p ∙ sym q
+same_done devices (picture image script out steps names) cs u v p q = p ∙ sym q
+same_done devices (lcov app script out steps) cs u v p q =
+    p.2 ∙ ap (λ (i : Picture). traced out steps (sections (described cs) (sources_in cs)) (scenario_of i (script_in cs) devices)) (same_image cs p.0 q.0 p.1 q.1) ∙ sym q.2
 same_done devices (help about) cs u v p q = p ∙ sym q
 
 -- ## three ways in which lengths meet

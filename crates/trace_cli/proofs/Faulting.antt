@@ -9,7 +9,7 @@ use Rattle.trace_cli.specs.declared.file_faults.FileFault.{FileFault}
 use Rattle.trace_cli.specs.declared.file_faults.FileFault.TheVariants as file_faults
 use Rattle.trace_cli.specs.declared.file_faults.NamedFault.{NamedFault}
 use Rattle.trace_cli.specs.declared.file_faults.NamedFault.TheVariants as named_faults
-use Rattle.trace_cli.specs.Contents.{Why, at_number, file_limit, trace_limit, unless_long, or_later, image_refusal, script_refusal, script_of, arrival_fault, arrival_refusal, commands_refusal, app_refusal, source_refusal, state_refusal, trace_refusal}
+use Rattle.trace_cli.specs.Contents.{Why, at_number, file_limit, trace_limit, unless_long, or_later, image_refusal, script_refusal, script_of, arrival_fault, arrival_refusal, commands_refusal, app_refusal, source_refusal, state_refusal, trace_refusal, names_refusal}
 use Rattle.kernel_abi.specs.Devices.{DeviceData}
 use Rattle.image_format.specs.Picture.{Picture}
 use Rattle.outside_io.specs.Seen.{FilesSeen}
@@ -52,6 +52,10 @@ long_commands bytes lt = long_refused file_limit bytes _ lt
 pub long_arrival : (bytes : List ℕ) → file_limit < length bytes → arrival_refusal bytes ≡ too_long file_limit
 unfolding arrival_refusal
 long_arrival bytes lt = ap (λ (o : Option Why). or_later o (arrival_fault (script_of bytes))) (long_script bytes lt)
+
+pub long_names : (tasks : ℕ) (bytes : List ℕ) → file_limit < length bytes → names_refusal tasks bytes ≡ too_long file_limit
+unfolding names_refusal
+long_names tasks bytes lt = long_refused file_limit bytes _ lt
 
 pub long_trace : (bytes : List ℕ) → trace_limit < length bytes → trace_refusal bytes ≡ too_long trace_limit
 unfolding trace_refusal

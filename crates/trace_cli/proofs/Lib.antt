@@ -3,6 +3,7 @@ pub mod Reaching
 pub mod Deciding
 pub mod Lists
 pub mod Living
+pub mod Named
 pub mod OneVerdict
 pub mod Readying
 pub mod Refusals

@@ -1,5 +1,5 @@
 -- Lines that are carried out as they come: from their files to the answer.
-use Rattle.std.proofs.Common.{◌≡◌, ℕ, ◌≤◌, List, [], ◌∷◌, ◌++◌, take, Option, Some, None, refl, sym, ap, subst, ◌∙◌, arith, inl, inr}
+use Rattle.std.proofs.Common.{◌≡◌, ℕ, ◌≤◌, List, [], ◌∷◌, ◌++◌, take, Option, Some, None, refl, sym, subst, ◌∙◌, arith, inl, inr}
 use Rattle.std.proofs.lemmas.List.{take_all}
 use Rattle.std.proofs.lemmas.Option.{same_Some}
 use Rattle.std.specs.Io.KnownBytes.{Appends}
@@ -9,7 +9,7 @@ use Rattle.board_model.specs.Script.{Scenario, start_of}
 use Rattle.board_core.specs.Data.{Shows}
 use Rattle.board_core.specs.declared.board.Board.{Board}
 use Rattle.board_core.specs.Stands.{Stands}
-use Rattle.debug_core.specs.Live.{BreaksTelling, BreaksUnread, OnlyReads, TellsLive, begun_text, live_limit, live_text}
+use Rattle.debug_core.specs.Live.{BreaksTelling, BreaksUnread, MayBeTaken, OnlyReads, TellsLive, begun_text, live_limit, live_text}
 use Rattle.debug_core.specs.Session.{opened}
 use Rattle.command_line.specs.CommandLine.{live}
 use Rattle.outside_io.specs.Outside.{WhereSeen, Rose, IsFront, AppendsFront}
@@ -21,7 +21,7 @@ use Rattle.trace_cli.specs.Sources.{image_file, script_file, lines_file, MayBe, 
 use Rattle.trace_cli.specs.FileFaults.{IsCannotRead}
 use Rattle.trace_cli.specs.Ready.{IsRunSet, TakesImage}
 use Rattle.trace_cli.specs.Pushed.{Pushed, whole, cut, SaysLive, ended, broken, unsaid}
-use Rattle.trace_cli.specs.Verdict.{Verdict, line_alone, lived, unread, unread_line}
+use Rattle.trace_cli.specs.Verdict.{line_alone, lived, unread, unread_line}
 use Rattle.trace_cli.specs.Answer.{JobReason, cannot_read, does, AnswersJob}
 use Rattle.trace_cli.proofs.Faulting.{read_earlier}
 use Rattle.trace_cli.proofs.Lists.{takes_none, takes_first}
@@ -30,7 +30,7 @@ use Rattle.trace_cli.proofs.Readying.{silent_short, answers_pushed}
 -- ## the files
 
 pub takes_lines : (devices : List DeviceData) (image script name : List ℕ) → TakesImage devices (live image script name) image script
-takes_lines devices image script name = record { more = lines_file name ∷ []; files = λ first. refl }
+takes_lines devices image script name = record { more = λ _. lines_file name ∷ []; files = λ first. refl }
 
 -- ## what was told, and a line behind it
 
@@ -41,26 +41,24 @@ pushed_behind w v w' told line r before later (cut is rose front) = cut is (omeg
 -- ## what a session of the debugger told of a file
 
 -- contents that are those that are seen, where some are, and of which it took the front
-whole_of : (x : Scenario) (contents old new : Option (List ℕ)) → TellsLive x opened contents old new → (all : List ℕ) × WhereSeen contents (λ c. all ≡ c) × Appends old new (live_text x opened (take live_limit all))
-whole_of x None old new t = (t.bytes, (λ c is. absurd (cc)), let same : t.bytes ≡ take live_limit t.bytes = sym (take_all live_limit t.bytes t.taken.few) in subst (λ b. Appends old new (live_text x opened b)) same t.told)
-whole_of x (Some all) old new t = (all, (λ c is. same_Some all c is), subst (λ b. Appends old new (live_text x opened b)) (t.taken.front all refl) t.told)
-
-front_of : (x : Scenario) (contents old new : Option (List ℕ)) → BreaksTelling x opened contents old new → (all : List ℕ) × WhereSeen contents (λ c. all ≡ c) × AppendsFront old new (live_text x opened (take live_limit all))
-front_of x None old new t = (t.bytes, (λ c is. absurd (cc)), let same : t.bytes ≡ take live_limit t.bytes = sym (take_all live_limit t.bytes t.taken.few) in subst (λ b. AppendsFront old new (live_text x opened b)) same t.told)
-front_of x (Some all) old new t = (all, (λ c is. same_Some all c is), subst (λ b. AppendsFront old new (live_text x opened b)) (t.taken.front all refl) t.told)
+taken_of : (contents : Option (List ℕ)) (P : List ℕ → Type 0) (bytes : List ℕ) → MayBeTaken contents bytes → P bytes → (all : List ℕ) × WhereSeen contents (λ c. all ≡ c) × P (take live_limit all)
+taken_of None P bytes taken told = (bytes, (λ c is. absurd (cc)), subst P (sym (take_all live_limit bytes taken.few)) told)
+taken_of (Some all) P bytes taken told = (all, (λ c is. same_Some all c is), subst P (taken.front all refl) told)
 
 pub only_read : {a b : FilesSeen} → OnlyReads a b → sources.OnlyReads a b
 only_read h = record { later = h.later; contents = h.contents; puts = h.puts }
 
-pub says_ended : (x : Scenario) (name : List ℕ) (a b : FilesSeen) (w w' : SinkSeen) → TellsLive x opened (a.contents name) w.written w'.written → SaysLive x name a b w w' 0
-says_ended x name a b w w' t = let h = whole_of x (a.contents name) w.written w'.written t in ended h.0 h.1 (whole refl h.2)
+pub says_ended : (x : Scenario) (name : List ℕ) (a b : FilesSeen) (w w' : SinkSeen) → TellsLive x opened name a b w w' → SaysLive x name a b w w' 0
+says_ended x name a b w w' t = let h = taken_of (a.contents name) (λ bytes. Appends w.written w'.written (live_text x opened bytes)) t.bytes t.taken t.told in ended h.0 h.1 (whole refl h.2)
 
-pub says_cut : (x : Scenario) (name : List ℕ) (a b : FilesSeen) (w w' : SinkSeen) → Rose w.faults w'.faults → BreaksTelling x opened (a.contents name) w.written w'.written → SaysLive x name a b w w' 4
-says_cut x name a b w w' rose t = let h = front_of x (a.contents name) w.written w'.written t in ended h.0 h.1 (cut refl rose h.2)
+pub says_cut : (x : Scenario) (name : List ℕ) (a b : FilesSeen) (w w' : SinkSeen) → Rose w.faults w'.faults → BreaksTelling x opened name a w w' → SaysLive x name a b w w' 4
+says_cut x name a b w w' rose t = let h = taken_of (a.contents name) (λ bytes. AppendsFront w.written w'.written (live_text x opened bytes)) t.bytes t.taken t.told in ended h.0 h.1 (cut refl rose h.2)
 
-pub says_broken : (x : Scenario) (name : List ℕ) (a b : FilesSeen) (w v w' : SinkSeen) (r : ℕ) → IsCannotRead a b name → w.faults ≤ v.faults → BreaksUnread x opened (a.contents name) w.written v.written → Pushed v w' (line_alone 3 (unread_line name)) r
+pub says_broken : (x : Scenario) (name : List ℕ) (a b : FilesSeen) (w v w' : SinkSeen) (r : ℕ) → IsCannotRead a b name → w.faults ≤ v.faults → BreaksUnread x opened name a b w v → Pushed v w' (line_alone 3 (unread_line name)) r
     → SaysLive x name a b w w' r
-says_broken x name a b w v w' r failed later t p = broken t.front t.begun failed (pushed_behind w v w' (begun_text x opened t.front) (unread_line name) r t.told later p)
+says_broken x name a b w v w' r failed later t p =
+    let told : Appends w.written v.written (begun_text x opened t.begun.front) = subst (λ text. Appends w.written v.written text) t.begun.is t.told in
+    broken t.begun.front t.begun.held failed (pushed_behind w v w' (begun_text x opened t.begun.front) (unread_line name) r told later p)
 
 -- ## the answer to the job, where its image and its script are accepted and its lines come of a file
 

@@ -5,7 +5,7 @@ use Rattle.image_format.specs.Picture.{Picture}
 use Rattle.board_model.specs.Script.{Scenario, start_of}
 use Rattle.board_core.specs.Data.{Shows}
 use Rattle.board_core.specs.declared.board.Board.{Board}
-use Rattle.board_core.specs.Stands.{Stands, Stood, turns_of}
+use Rattle.board_core.specs.Stands.{Stands, Stood}
 use Rattle.command_line.specs.CommandLine.{cover}
 use Rattle.outside_io.specs.Seen.{FilesSeen, SinkSeen}
 use Rattle.trace_cli.specs.Contents.{picture_of, scenario_of}
@@ -20,7 +20,7 @@ use Rattle.trace_cli.proofs.Readying.{silent_short, answers_pushed}
 -- ## the files
 
 pub covers : (devices : List DeviceData) (image script : List ℕ) (n : ℕ) → TakesImage devices (cover image script n) image script
-covers devices image script n = record { more = []; files = λ first. refl }
+covers devices image script n = record { more = λ _. []; files = λ first. refl }
 
 -- a board that is set stands for the start of its run
 pub set_stood : {X : Type 0} {H : X → Type 0} {shown : Shows X H} {devices : List DeviceData} (image script : List ℕ) (seen : List ℕ → Option (List ℕ)) (bd : Board X H) → IsRunSet shown devices image script seen bd → Stood shown bd

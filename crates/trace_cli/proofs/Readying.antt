@@ -1,5 +1,5 @@
 -- From the files of a job to its answer.
-use Rattle.std.proofs.Common.{◌≡◌, ℕ, suc, ◌≤◌, Bool, Result, Ok, IfOk, List, [], ◌∷◌, ◌++◌, length, take, get_or, Option, Some, None, refl, sym, ap, subst, ◌∙◌, arith, inl, inr, string_bytes}
+use Rattle.std.proofs.Common.{◌≡◌, ℕ, suc, ◌≤◌, Bool, Result, Ok, IfOk, List, [], ◌∷◌, ◌++◌, length, take, get_or, Option, Some, None, refl, sym, ap, subst, ◌∙◌, arith, inl, inr, string_bytes, true}
 use Rattle.std.specs.Prelude.{slice_get}
 use Rattle.kernel_abi.specs.Devices.{DeviceData}
 use Rattle.image_format.specs.Picture.{Picture}
@@ -17,29 +17,35 @@ use Rattle.outside_io.specs.Outside.{Rose}
 use Rattle.audit_runs.specs.Last.{IsGoodText}
 use Rattle.trace_audit.specs.declared.verdict.Verdict as trace
 use Rattle.trace_audit.specs.declared.verdict.Verdict.TheVariants.{Yes, No}
-use Rattle.command_line.specs.CommandLine.{Asked, build, run, go, list, sample, migrate, audit, save, resume, debug, cover, sweep, timeline, live, help}
+use Rattle.command_line.specs.CommandLine.{Asked, build, run, go, list, sample, migrate, audit, save, resume, debug, cover, sweep, timeline, live, picture as draw_picture, lcov, help}
 use Rattle.command_line.specs.declared.job.Detail.{Detail}
 use Rattle.debug_core.specs.declared.command.Command.{Command}
 use Rattle.trace_cli.specs.declared.file_faults.NamedFault.{NamedFault}
 use Rattle.trace_cli.specs.declared.file_faults.NamedFault.TheVariants as named_faults
 use Rattle.trace_cli.specs.Contents.{Why, picture_of, scenario_of, script_of, state_refusal, application_of}
 use Rattle.outside_io.specs.Seen.{FilesSeen, SinkSeen}
-use Rattle.trace_cli.specs.Sources.{File, image_file, script_file, state_file, trace_file, commands_file, arrival_file, files_of, files_by, files_to_build, first_of, MayBe, Takes, IsBuilt, script_in, scenario_in, state_by}
+use Rattle.trace_cli.specs.Sources.{File, image_file, script_file, state_file, trace_file, commands_file, arrival_file, files_of, files_by, files_to_build, first_of, MayBe, Takes, IsBuilt, sources_in, script_in, scenario_in, state_by}
 use Rattle.trace_cli.specs.FileFaults.{IsNamedFaultOf}
-use Rattle.trace_cli.specs.Building.{IsImage, IsNamedFaultInApp}
-use Rattle.trace_cli.specs.Ready.{StartsWell, StartsSeen, IsImageFile, IsScriptFile, IsSet, TakesImage, RunsImage, IsReady, IsLoaded, IsStateSet, IsResumable, IsCommandsFile, IsDebugReady, IsArrivalFile, IsSweepReady, IsAuditOf, IsNamedFaultIn}
+use Rattle.app_toml.specs.Apps.{AppData}
+use Rattle.run_cover.specs.Tracefile.{Section}
+use Rattle.trace_cli.specs.declared.source_lines.SourceLines.{SourceLines}
+use Rattle.trace_cli.specs.Building.{IsBuiltApp, IsImage, IsNamedFaultInApp, kept_lines}
+use Rattle.trace_cli.specs.Tracing.{sections, sections_by}
+use Rattle.thumb_asm.specs.declared.listing.InsnLine.{InsnLine}
+use Rattle.trace_cli.specs.Ready.{StartsWell, StartsSeen, IsImageFile, IsScriptFile, IsSet, TakesImage, RunsImage, RunsApp, IsReady, IsAppReady, IsLoaded, IsStateSet, IsResumable, IsCommandsFile, IsDebugReady, IsArrivalFile, IsSweepReady, IsAuditOf, IsNamedFaultIn}
 use Rattle.trace_cli.specs.Pushed.{Pushed, whole, cut, Says, pushed, silent, IsSilent, SaysNamedFault}
-use Rattle.trace_cli.specs.Verdict.{Verdict, Does, refused, unread, ran, listed, built, saved, resumed, debugged, swept, timed, audited}
+use Rattle.trace_cli.specs.Verdict.{Verdict, Does, refused, unread, ran, listed, built, saved, resumed, debugged, swept, timed, drawn, traced, audited}
 use Rattle.trace_cli.specs.Answer as answer
 use Rattle.trace_cli.specs.Answer.{JobReason, cannot_read, refuses, does, IsShort, HasPut, HasSpoiled, Tells, IsOfRun, WasTold, TellsGood, AnswersJob}
 use Rattle.trace_cli.proofs.Lists.{at_end, longer, takes_none, takes_first, takes_wider, takes_last, get_more, get_last}
 use Rattle.trace_cli.proofs.Faulting.{faults_earlier}
 use Rattle.trace_cli.proofs.Starting.{told_from_start}
 use Rattle.trace_cli.proofs.Taking.{as_many_sources}
+use Rattle.std.proofs.lemmas.List.{take_all}
 
 -- a job that runs an image takes it and a script, and no more
 pub takes_of : {devices : List DeviceData} {job : Asked} {image script : List ℕ} {verdict : Scenario → Verdict} → RunsImage devices job image script verdict → TakesImage devices job image script
-takes_of runs = record { more = []; files = runs.files }
+takes_of runs = record { more = λ _. []; files = runs.files }
 
 -- a board that is ready, where there is one
 pub ready_there : {X : Type 0} {H : X → Type 0} {shown : Shows X H} {devices : List DeviceData} {job : Asked} {seen : List ℕ → Option (List ℕ)} {verdict : Scenario → Verdict} {r : Result (Board X H) NamedFault} {b : Board X H} → r ≡ Ok b → IfOk r (IsReady shown devices job seen verdict) → IsReady shown devices job seen verdict b
@@ -97,7 +103,7 @@ pub script_faults : {devices : List DeviceData} (a b c : FilesSeen) (job : Asked
     → a.read_faults ≤ b.read_faults → IsNamedFaultOf b c (script_file script) h → IsNamedFaultIn devices job a c h
 script_faults a b c job image script picture h takes i seen later fault =
     faults_at job (i.bytes ∷ []) (script_file script) a b c h
-    (subst (λ (fs : List File). Takes (MayBe a.contents) fs (i.bytes ∷ [])) (sym (takes.files i.bytes)) (one_file a.contents image picture (script_file script ∷ takes.more) i))
+    (subst (λ (fs : List File). Takes (MayBe a.contents) fs (i.bytes ∷ [])) (sym (takes.files i.bytes)) (one_file a.contents image picture (script_file script ∷ takes.more i.bytes) i))
     (ap (λ (fs : List File). slice_get fs 1) (takes.files i.bytes)) seen later fault
 
 pub set_by_script : {X : Type 0} {H : X → Type 0} {shown : Shows X H} {devices : List DeviceData} (seen : List ℕ → Option (List ℕ)) (image : Picture) (name : List ℕ) (script : ScriptData) (b : Board X H) → IsScriptFile seen name script
@@ -310,51 +316,74 @@ go_image bytes sources script picture count h =
 pub go_script : (bytes : List ℕ) (sources : List (List ℕ)) (script : List ℕ) → length (application_of bytes).tasks ≡ length sources → script_in (bytes ∷ (sources ++ script ∷ [])) ≡ script
 go_script bytes sources script count = ap (λ n. get_or (sources ++ script ∷ []) n []) count ∙ at_end sources script []
 
-pub go_ready : {X : Type 0} {H : X → Type 0} {shown : Shows X H} {devices : List DeviceData} (seen : List ℕ → Option (List ℕ)) (app script : List ℕ) (n : ℕ) (detail : Detail) (picture : Picture) (b : Board X H) → IsImage seen app picture → IsSet shown devices seen picture script b
-    → IsReady shown devices (go app script n detail) seen (ran n detail) b
-go_ready {X} {H} {shown} {devices} seen app script n detail picture b i s =
+-- the sources alone
+app_sources : (bytes : List ℕ) (sources : List (List ℕ)) (script : List ℕ) → length (application_of bytes).tasks ≡ length sources → sources_in (bytes ∷ (sources ++ script ∷ [])) ≡ sources
+app_sources bytes sources script count =
+    let n = length (application_of bytes).tasks in
+    ap (λ k. take k (sources ++ script ∷ [])) count ∙ take_front sources (script ∷ []) ∙ take_all (length sources) sources (omega arith)
+
+pub app_ready : {X : Type 0} {H : X → Type 0} {shown : Shows X H} {devices : List DeviceData} {seen : List ℕ → Option (List ℕ)} {app script : List ℕ} {wanted : Bool} {described : AppData} {l : SourceLines} (job : Asked) (verdict : AppData → List (List ℕ) → Scenario → Verdict) (picture : Picture) (b : Board X H)
+    → RunsApp devices job app script verdict → IsBuiltApp seen app wanted described picture l → IsSet shown devices seen picture script b → IsAppReady shown devices job seen verdict wanted b described l
+app_ready {X} {H} {shown} {devices} {seen} {app} {script} {wanted} {described} {l} job verdict picture b runs i s =
     let files = files_to_build app i.bytes in
+    let contents = i.bytes ∷ (i.sources ++ s.script ∷ []) in
     let count : length (application_of i.bytes).tasks ≡ length i.sources = (let all = i.each.all in let many = as_many_sources (application_of i.bytes) in omega arith) in
+    let takes : Takes (MayBe seen) (files ++ script_file script ∷ []) contents =
+    takes_last (MayBe seen) (files ++ script_file script ∷ []) (i.bytes ∷ i.sources) (script_file script) s.script
+    (takes_wider (MayBe seen) files (script_file script ∷ []) (i.bytes ∷ i.sources) i.each.takes)
+    (files_then files (script_file script) (length (i.bytes ∷ i.sources)) i.each.all) s.held s.accepted in
+    let does = runs.does contents picture (go_image i.bytes i.sources s.script picture count i.is) in
+    let by_sources = subst (λ (ss : List (List ℕ)). Does devices job contents (verdict (application_of i.bytes) ss (scenario_of picture (script_in contents) devices))) (app_sources i.bytes i.sources s.script count) does in
+    let by_script = subst (λ (t : List ℕ). Does devices job contents (verdict (application_of i.bytes) i.sources (scenario_of picture t devices))) (go_script i.bytes i.sources s.script count) by_sources in
     record {
-      contents = i.bytes ∷ (i.sources ++ s.script ∷ []);
-      accepted = record {
-        takes = takes_last (MayBe seen) (files ++ script_file script ∷ []) (i.bytes ∷ i.sources) (script_file script) s.script
-            (takes_wider (MayBe seen) files (script_file script ∷ []) (i.bytes ∷ i.sources) i.each.takes)
-            (files_then files (script_file script) (length (i.bytes ∷ i.sources)) i.each.all) s.held s.accepted;
-        all = longer files (script_file script) ∙ ap suc i.each.all ∙ sym (longer (i.bytes ∷ i.sources) s.script);
+      sources = i.sources;
+      ready = record {
+        contents = contents;
+        accepted = record {
+          takes = subst (λ (fs : List File). Takes (MayBe seen) fs contents) (sym (runs.files i.bytes)) takes;
+          all = ap length (runs.files i.bytes) ∙ longer files (script_file script) ∙ ap suc i.each.all ∙ sym (longer (i.bytes ∷ i.sources) s.script);
+        };
+        scenario = scenario_of picture s.script devices;
+        done = subst (λ (a : AppData). Does devices job contents (verdict a i.sources (scenario_of picture s.script devices))) i.described by_script;
+        stands = s.stands;
+        turns = s.turns;
       };
-      scenario = scenario_of picture s.script devices;
-      done = (picture, go_image i.bytes i.sources s.script picture count i.is, ap (λ (t : List ℕ). ran n detail (scenario_of picture t devices)) (sym (go_script i.bytes i.sources s.script count)));
-      stands = s.stands;
-      turns = s.turns;
+      wants = i.wants;
+      lines = i.lines;
     }
 
-pub go_app_faults : {devices : List DeviceData} (a c : FilesSeen) (app script : List ℕ) (n : ℕ) (detail : Detail) (h : NamedFault) → IsNamedFaultInApp a c app h → IsNamedFaultIn devices (go app script n detail) a c h
-go_app_faults a c app script n detail h i =
+pub app_faults : {devices : List DeviceData} {app script : List ℕ} (a c : FilesSeen) (job : Asked) (verdict : AppData → List (List ℕ) → Scenario → Verdict) (h : NamedFault) → RunsApp devices job app script verdict → IsNamedFaultInApp a c app h → IsNamedFaultIn devices job a c h
+app_faults {app = app} {script = script} a c job verdict h runs i =
     let files = files_to_build app (first_of i.contents) in
+    let same = runs.files (first_of i.contents) in
     record {
       contents = i.contents;
       at = record {
-        takes = takes_wider (MayBe a.contents) files (script_file script ∷ []) i.contents i.at.takes;
+        takes = subst (λ (fs : List File). Takes (MayBe a.contents) fs i.contents) (sym same) (takes_wider (MayBe a.contents) files (script_file script ∷ []) i.contents i.at.takes);
         file = i.at.file;
-        next = get_more files (script_file script ∷ []) (length i.contents) i.at.file i.at.next;
+        next = ap (λ (fs : List File). slice_get fs (length i.contents)) same ∙ get_more files (script_file script ∷ []) (length i.contents) i.at.file i.at.next;
         fault = i.at.fault;
       };
     }
 
-pub go_script_faults : {devices : List DeviceData} (a b c : FilesSeen) (app script : List ℕ) (n : ℕ) (detail : Detail) (picture : Picture) (h : NamedFault) → IsImage a.contents app picture → b.contents ≡ a.contents
-    → a.read_faults ≤ b.read_faults → IsNamedFaultOf b c (script_file script) h → IsNamedFaultIn devices (go app script n detail) a c h
-go_script_faults a b c app script n detail picture h i seen later fault =
+pub app_script_faults : {devices : List DeviceData} {app script : List ℕ} {wanted : Bool} {described : AppData} {l : SourceLines} (a b c : FilesSeen) (job : Asked) (verdict : AppData → List (List ℕ) → Scenario → Verdict) (picture : Picture) (h : NamedFault) → RunsApp devices job app script verdict
+    → IsBuiltApp a.contents app wanted described picture l → b.contents ≡ a.contents → a.read_faults ≤ b.read_faults → IsNamedFaultOf b c (script_file script) h → IsNamedFaultIn devices job a c h
+app_script_faults {app = app} {script = script} a b c job verdict picture h runs i seen later fault =
     let files = files_to_build app i.bytes in
+    let same = runs.files i.bytes in
     record {
       contents = i.bytes ∷ i.sources;
       at = record {
-        takes = takes_wider (MayBe a.contents) files (script_file script ∷ []) (i.bytes ∷ i.sources) i.each.takes;
+        takes = subst (λ (fs : List File). Takes (MayBe a.contents) fs (i.bytes ∷ i.sources)) (sym same) (takes_wider (MayBe a.contents) files (script_file script ∷ []) (i.bytes ∷ i.sources) i.each.takes);
         file = script_file script;
-        next = files_then files (script_file script) (length (i.bytes ∷ i.sources)) i.each.all;
+        next = ap (λ (fs : List File). slice_get fs (length (i.bytes ∷ i.sources))) same ∙ files_then files (script_file script) (length (i.bytes ∷ i.sources)) i.each.all;
         fault = faults_earlier a b c (script_file script) h seen later fault;
       };
     }
+
+-- `go` answers the run alone
+pub goes : (devices : List DeviceData) (app script : List ℕ) (n : ℕ) (detail : Detail) → RunsApp devices (go app script n detail) app script (λ _ _. ran n detail)
+goes devices app script n detail = record { files = λ first. refl; does = λ contents image built. (image, built, refl) }
 
 -- ## what an audit says of it
 
@@ -371,8 +400,10 @@ tells_good (resume image script state steps detail) v r h = tt
 tells_good (debug image script commands) v r h = tt
 tells_good (cover image script steps) v r h = tt
 tells_good (sweep image script arrival from to steps memory) v r h = tt
-tells_good (timeline image script steps) v r h = tt
+tells_good (timeline image script steps names) v r h = tt
 tells_good (live image script commands) v r h = tt
+tells_good (draw_picture image script out steps names) v r h = tt
+tells_good (lcov app script out steps) v r h = tt
 tells_good (help about) v r h = tt
 
 no_run : (r : ℕ) → 1 ≤ r → r ≤ 5 → IsOfRun r → ⊥
@@ -418,8 +449,10 @@ nothing_told devices (resume image script state steps detail) seen contents = re
 nothing_told devices (debug image script commands) seen contents = refl
 nothing_told devices (cover image script steps) seen contents = refl
 nothing_told devices (sweep image script arrival from to steps memory) seen contents = refl
-nothing_told devices (timeline image script steps) seen contents = refl
+nothing_told devices (timeline image script steps names) seen contents = refl
 nothing_told devices (live image script commands) seen contents = inl refl
+nothing_told devices (draw_picture image script out steps names) seen contents = refl
+nothing_told devices (lcov app script out steps) seen contents = refl
 nothing_told devices (help about) seen contents = refl
 
 pub answers_named_fault : {devices : List DeviceData} (job : Asked) (a b : FilesSeen) (w w' : SinkSeen) (h : NamedFault) (r : ℕ) → b.contents ≡ a.contents → IsNamedFaultIn devices job a b h → SaysNamedFault w w' h r → AnswersJob devices job a b w w' r
@@ -473,10 +506,10 @@ resumable_stood {devices = devices} job seen m detail bd h = ((scenario_in devic
 pub ready_stood : {X : Type 0} {H : X → Type 0} {shown : Shows X H} {devices : List DeviceData} (job : Asked) (seen : List ℕ → Option (List ℕ)) (verdict : Scenario → Verdict) (bd : Board X H) → IsReady shown devices job seen verdict bd → Stood shown bd × (turns_of bd ≡ 0)
 ready_stood job seen verdict bd h = ((h.scenario, start_of h.scenario, h.stands), h.turns)
 
-pub answers_timed : {X : Type 0} {H : X → Type 0} {shown : Shows X H} {devices : List DeviceData} (image script : List ℕ) (a b : FilesSeen) (w w' : SinkSeen) (n : ℕ) (bd : Board X H) (r : ℕ) → b.contents ≡ a.contents → IsReady shown devices (timeline image script n) a.contents (timed n) bd
-    → ((x : Scenario) → Stands shown x bd (start_of x) → Says w w' (timed n x) r) → AnswersJob devices (timeline image script n) a b w w' r
-answers_timed image script a b w w' n bd r same h says =
-    answers_said (timeline image script n) a b w w' (timed n h.scenario) r same refl (does h.contents h.accepted h.done) tt (says h.scenario h.stands)
+pub answers_timed : {X : Type 0} {H : X → Type 0} {shown : Shows X H} {devices : List DeviceData} (image script : List ℕ) (named : Option (List ℕ)) (a b : FilesSeen) (w w' : SinkSeen) (n : ℕ) (names : List (List ℕ)) (bd : Board X H) (r : ℕ) → b.contents ≡ a.contents
+    → IsReady shown devices (timeline image script n named) a.contents (timed n names) bd → ((x : Scenario) → Stands shown x bd (start_of x) → Says w w' (timed n names x) r) → AnswersJob devices (timeline image script n named) a b w w' r
+answers_timed image script named a b w w' n names bd r same h says =
+    answers_said (timeline image script n named) a b w w' (timed n names h.scenario) r same refl (does h.contents h.accepted h.done) tt (says h.scenario h.stands)
 
 -- ## what an image is put under
 
@@ -508,6 +541,24 @@ pub answers_saved : {X : Type 0} {H : X → Type 0} {shown : Shows X H} {devices
 answers_saved image script out a b c w w' n bd r same puts h tells =
     let x = h.scenario in
     inr (saved out n x, does h.contents h.accepted h.done, tells_earlier a b c w w' (saved out n x) r same puts (tells x h.stands), tt)
+
+pub answers_drawn : {X : Type 0} {H : X → Type 0} {shown : Shows X H} {devices : List DeviceData} (image script out : List ℕ) (named : Option (List ℕ)) (a b c : FilesSeen) (w w' : SinkSeen) (n : ℕ) (names : List (List ℕ)) (bd : Board X H) (r : ℕ) → b.contents ≡ a.contents → b.put_faults ≡ a.put_faults
+    → IsReady shown devices (draw_picture image script out n named) a.contents (drawn out n image names) bd → ((x : Scenario) → Stands shown x bd (start_of x) → Tells b c w w' (drawn out n image names x) r) → AnswersJob devices (draw_picture image script out n named) a c w w' r
+answers_drawn image script out named a b c w w' n names bd r same puts h tells =
+    let x = h.scenario in
+    inr (drawn out n image names x, does h.contents h.accepted h.done, tells_earlier a b c w w' (drawn out n image names x) r same puts (tells x h.stands), tt)
+
+-- where the lines of the sources are kept, the run is answered by them
+pub lines_ready : {X : Type 0} {H : X → Type 0} {shown : Shows X H} {devices : List DeviceData} (job : Asked) (out : List ℕ) (n : ℕ) (seen : List ℕ → Option (List ℕ)) (bd : Board X H) (app : AppData) (l : SourceLines)
+    → IsAppReady shown devices job seen (λ described sources. traced out n (sections described sources)) true bd app l → IsReady shown devices job seen (traced out n (sections_by app (kept_lines l))) bd
+lines_ready {shown = shown} {devices = devices} job out n seen bd app l h =
+    subst (λ (lists : List (List InsnLine)). IsReady shown devices job seen (traced out n (sections_by app lists)) bd) (sym (h.lines h.wants)) h.ready
+
+pub answers_traced : {X : Type 0} {H : X → Type 0} {shown : Shows X H} {devices : List DeviceData} (app script out : List ℕ) (a b c : FilesSeen) (w w' : SinkSeen) (n : ℕ) (secs : List Section) (bd : Board X H) (r : ℕ) → b.contents ≡ a.contents → b.put_faults ≡ a.put_faults
+    → IsReady shown devices (lcov app script out n) a.contents (traced out n secs) bd → ((x : Scenario) → Stands shown x bd (start_of x) → Tells b c w w' (traced out n secs x) r) → AnswersJob devices (lcov app script out n) a c w w' r
+answers_traced app script out a b c w w' n secs bd r same puts h tells =
+    let x = h.scenario in
+    inr (traced out n secs x, does h.contents h.accepted h.done, tells_earlier a b c w w' (traced out n secs x) r same puts (tells x h.stands), tt)
 
 pub answers_audited : {devices : List DeviceData} (a b : FilesSeen) (w w' : SinkSeen) (name : List ℕ) (found : trace.Verdict) (r : ℕ) → b.contents ≡ a.contents → IsAuditOf a.contents name found → Says w w' (audited found) r
     → AnswersJob devices (audit name) a b w w' r

@@ -1,6 +1,7 @@
 -- Why an application or a source is refused, by what its builder says.
-use Rattle.std.proofs.Common.{◌≡◌, ℕ, ◌<◌, ◌≤◌, ◌↔◌, ◌++◌, true, false, List, length, Option, Some, None, refl, sym, ap, ◌∙◌, arith, ltb, cond, nat_lt, codes}
+use Rattle.std.proofs.Common.{◌≡◌, ℕ, ◌<◌, ◌≤◌, ◌↔◌, ◌++◌, true, false, List, length, Option, Some, None, refl, sym, ap, ◌∙◌, arith, ltb, cond, nat_lt, codes, Bool, string_bytes}
 use Rattle.std.specs.Prelude.{decimal, is_some, option_map, Ok, Err}
+use Rattle.std.proofs.lemmas.Bool.{eq-eqb, ne_eqb}
 use Rattle.std.proofs.lemmas.Bool.Decides.{nat_tests}
 use Rattle.app_toml.specs.Apps.{AppData}
 use Rattle.app_toml.specs.Reading.{read_app}
@@ -19,12 +20,15 @@ use Rattle.kernel_abi.specs.Devices.{DeviceData}
 use Rattle.snapshot.specs.Records.{header_at}
 use Rattle.snapshot.specs.Saved.{expected_of}
 use Rattle.snapshot.specs.Waits.{state_fault}
-use Rattle.trace_cli.specs.Contents.{Why, file_limit, trace_limit, trace_refusal, setup_of_image, state_refusal, turn_refusal, or_later, at_number, commands_refusal, script_in, script_refusal, script_of, arrival_fault, arrival_refusal, at_line, fault_in, app_in, image_in, image_refusal, picture_of, application_of, app_refusal, room_refusal, source_refusal, code_refusal, code_length}
+use Rattle.trace_cli.specs.Contents.{Why, file_limit, trace_limit, trace_refusal, setup_of_image, state_refusal, turn_refusal, or_later, at_number, commands_refusal, script_in, script_refusal, script_of, arrival_fault, arrival_refusal, at_line, fault_in, app_in, image_in, image_refusal, picture_of, application_of, app_refusal, room_refusal, source_refusal, code_refusal, code_length, names_refusal, tasks_refusal}
 use Rattle.trace_audit.specs.declared.verdict.Verdict.{Verdict}
 use Rattle.trace_audit.specs.declared.verdict.Verdict.TheVariants.{Yes, No}
 use Rattle.trace_audit.specs.Texts as trace
 use Rattle.trace_audit.specs.Rules.{IsFirstBad}
 use Rattle.trace_audit.specs.Verdicts.{first_cause, read_lines, IsGoodWith, IsVerdict}
+use Rattle.trace_cli.specs.declared.file_faults.FileFault.{FileFault}
+use Rattle.trace_cli.specs.declared.file_faults.FileFault.TheVariants as file_faults
+use Rattle.trace_cli.specs.FileFaults.{IsFaultFor}
 use Rattle.trace_cli.proofs.Faulting.{short}
 
 -- ## an image
@@ -132,6 +136,37 @@ unfolding application_of
 is_application bytes app is = ap app_in is
 
 -- of a description that is accepted the plan decides
+-- what its description is refused for, it is refused for whatever it is wanted for
+pub app_described : (bytes : List ℕ) (why : Why) → length bytes ≤ file_limit → fault_in (read_app bytes) ≡ Some why → app_refusal bytes ≡ Some why
+unfolding app_refusal
+app_described bytes why le is = short file_limit bytes _ le ∙ ap (λ (o : Option Why). or_later o (room_refusal (application_of bytes))) is
+
+pub names_described : (tasks : ℕ) (bytes : List ℕ) (why : Why) → length bytes ≤ file_limit → fault_in (read_app bytes) ≡ Some why → names_refusal tasks bytes ≡ Some why
+unfolding names_refusal
+names_described tasks bytes why le is = short file_limit bytes _ le ∙ ap (λ (o : Option Why). or_later o (tasks_refusal tasks (application_of bytes))) is
+
+-- so is the file
+pub app_faulty : (bytes : List ℕ) (h : FileFault) → length bytes ≤ file_limit → IsFaultFor (fault_in (read_app bytes)) h → IsFaultFor (app_refusal bytes) h
+app_faulty bytes file_faults.Memory le is = tt
+app_faulty bytes file_faults.CannotRead le is = is
+app_faulty bytes (file_faults.Refused cause place) le is = app_described bytes (cause, string_bytes place) le is
+
+pub names_faulty : (tasks : ℕ) (bytes : List ℕ) (h : FileFault) → length bytes ≤ file_limit → IsFaultFor (fault_in (read_app bytes)) h → IsFaultFor (names_refusal tasks bytes) h
+names_faulty tasks bytes file_faults.Memory le is = tt
+names_faulty tasks bytes file_faults.CannotRead le is = is
+names_faulty tasks bytes (file_faults.Refused cause place) le is = names_described tasks bytes (cause, string_bytes place) le is
+
+-- names of a description that is accepted: by the number of its tasks
+pub names_by_tasks : (tasks : ℕ) (bytes : List ℕ) (app : AppData) → length bytes ≤ file_limit → read_app bytes ≡ Ok app → names_refusal tasks bytes ≡ tasks_refusal tasks app
+unfolding names_refusal
+names_by_tasks tasks bytes app le is = short file_limit bytes _ le ∙ ap (λ r. or_later (fault_in r) (tasks_refusal tasks (application_of bytes))) is ∙ ap (tasks_refusal tasks) (is_application bytes app is)
+
+pub tasks_taken : (tasks : ℕ) (app : AppData) → length app.tasks ≡ tasks → tasks_refusal tasks app ≡ None
+tasks_taken tasks app is = ap (λ (b : Bool). cond b None (Some (22, codes "task"))) (eq-eqb (length app.tasks) tasks is)
+
+pub tasks_refused : (tasks : ℕ) (app : AppData) → (length app.tasks ≡ tasks → ⊥) → tasks_refusal tasks app ≡ Some (22, codes "task")
+tasks_refused tasks app isnt = ap (λ (b : Bool). cond b None (Some (22, codes "task"))) (ne_eqb (length app.tasks) tasks isnt)
+
 pub app_by_room : (bytes : List ℕ) (app : AppData) → length bytes ≤ file_limit → read_app bytes ≡ Ok app → app_refusal bytes ≡ room_refusal app
 unfolding app_refusal
 app_by_room bytes app le is = short file_limit bytes _ le ∙ ap (λ r. or_later (fault_in r) (room_refusal (application_of bytes))) is ∙ ap room_refusal (is_application bytes app is)

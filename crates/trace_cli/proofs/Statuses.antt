@@ -5,7 +5,7 @@ use Rattle.kernel_abi.specs.Devices.{DeviceData}
 use Rattle.outside_io.specs.Outside.{Rose}
 use Rattle.board_model.specs.declared.outcomes.End.{End}
 use Rattle.board_model.specs.declared.outcomes.End.TheVariants.{Bound, Still, Supervisor}
-use Rattle.command_line.specs.CommandLine.{Asked, build, run, go, list, sample, migrate, audit, save, resume, debug, cover, sweep, timeline, live, help, is_accepted, job_of}
+use Rattle.command_line.specs.CommandLine.{Asked, build, run, go, list, sample, migrate, audit, save, resume, debug, cover, sweep, timeline, live, picture, lcov, help, is_accepted, job_of}
 use Rattle.trace_audit.specs.declared.verdict.Verdict as trace
 use Rattle.trace_audit.specs.declared.verdict.Verdict.TheVariants.{Yes, No}
 use Rattle.outside_io.specs.Seen.{FilesSeen, SinkSeen}
@@ -102,8 +102,10 @@ done_status devices (resume image script state steps detail) cs v p = ran_as v _
 done_status devices (debug image script name) cs v p = inl (status_as v _ p.2)
 done_status devices (cover image script steps) cs v p = ran_as v _ _ p.2
 done_status devices (sweep image script arrival from to steps memory) cs v p = of_sweep v.status _ (status_as v _ p)
-done_status devices (timeline image script steps) cs v p = ran_as v _ _ p
+done_status devices (timeline image script steps names) cs v p = ran_as v _ _ p
 done_status devices (live image script commands) cs v p = inl (status_as v _ p)
+done_status devices (picture image script out steps names) cs v p = inl (status_as v _ p)
+done_status devices (lcov app script out steps) cs v p = inl (status_as v _ p.2)
 done_status devices (help about) cs v p = inl (status_as v _ p)
 
 not_done : (v : Verdict) (n : ℕ) → IsDone v.status → v.status ≡ n → (n ≡ 0 → ⊥) → (6 ≤ n → ⊥) → ⊥
@@ -296,8 +298,10 @@ done_puts devices words (resume image script state steps detail) cs v at p = alo
 done_puts devices words (debug image script name) cs v at p = alone words v _ p.2 refl
 done_puts devices words (cover image script steps) cs v at p = alone words v _ p.2 refl
 done_puts devices words (sweep image script arrival from to steps memory) cs v at p = alone words v _ p refl
-done_puts devices words (timeline image script steps) cs v at p = alone words v _ p refl
+done_puts devices words (timeline image script steps names) cs v at p = alone words v _ p refl
 done_puts devices words (live image script commands) cs v at p = alone words v _ p refl
+done_puts devices words (picture image script out steps names) cs v at p = under words v out _ _ p (ap out_of at)
+done_puts devices words (lcov app script out steps) cs v at p = under words v out _ _ p.2 (ap out_of at)
 done_puts devices words (help about) cs v at p = alone words v _ p refl
 
 reason_puts : {devices : List DeviceData} (words : List (List ℕ)) (a b : FilesSeen) (v : Verdict) → Reason devices words a b v → Puts words v

@@ -1,5 +1,5 @@
 -- The sources that a builder has accepted, as files of its application.
-use Rattle.std.proofs.Common.{◌≡◌, ℕ, zero, suc, ◌+◌, ◌<◌, ◌≤◌, List, [], ◌∷◌, ◌++◌, length, get_or, map, Option, Some, None, refl, sym, ap, subst, ◌∙◌, arith, ◌⊎◌, inl, inr}
+use Rattle.std.proofs.Common.{◌≡◌, ℕ, zero, suc, ◌+◌, ◌<◌, ◌≤◌, Bool, true, List, [], ◌∷◌, ◌++◌, length, get_or, map, Option, Some, None, refl, sym, ap, subst, ◌∙◌, arith, ◌⊎◌, inl, inr}
 use Rattle.std.specs.Prelude.{slice_get, Ok}
 use Rattle.std.proofs.lemmas.Option.{same_Some}
 use Rattle.app_toml.specs.Apps.{AppData, TaskData}
@@ -13,7 +13,9 @@ use Rattle.trace_cli.specs.Contents.{file_limit, source_refusal, app_refusal, ap
 use Rattle.outside_io.specs.Seen.{FilesSeen}
 use Rattle.trace_cli.specs.Sources.{File, source_file, sources_from, source_files, files_to_build, app_file, first_of, MayBe, Takes}
 use Rattle.trace_cli.specs.FileFaults.{IsNamedFaultOf}
-use Rattle.trace_cli.specs.Building.{HasNext, HasAll, IsImageOf, IsImage, IsNamedFaultInSources, IsNamedFaultInApp}
+use Rattle.thumb_asm.specs.declared.listing.InsnLine.{InsnLine}
+use Rattle.trace_cli.specs.declared.source_lines.SourceLines.{SourceLines}
+use Rattle.trace_cli.specs.Building.{AreLines, HasListed, HasNext, HasAll, IsBuiltApp, IsImageOf, IsImage, lines_at, lines_from, IsNamedFaultInSources, IsNamedFaultInApp}
 use Rattle.trace_cli.specs.declared.file_faults.NamedFault.{NamedFault}
 use Rattle.trace_cli.specs.declared.file_faults.NamedFault.TheVariants as named_faults
 use Rattle.trace_cli.proofs.Lists.{at_end, longer, takes_none, takes_last, takes_first}
@@ -60,15 +62,29 @@ as_many_sources app = as_many app 0 app.tasks
 -- ## sources one by one
 
 -- these sources were accepted of the first files, so many
-pub record HasFirst (seen : List ℕ → Option (List ℕ)) (app : AppData) (builder : Builder) (k : ℕ) : Type 0 where
+pub record HasFirst (seen : List ℕ → Option (List ℕ)) (app : AppData) (builder : Builder) (l : SourceLines) (k : ℕ) : Type 0 where
   pub sources : List (List ℕ)
   pub count : length sources ≡ k
   pub takes : Takes (MayBe seen) (source_files app) sources
   pub accepted_sources : HasAccepted sources builder
+  pub lines : AreLines app sources l
 
-pub one_more : (seen : List ℕ → Option (List ℕ)) (app : AppData) (old new : Builder) (k : ℕ) (t : TaskData) (h : HasFirst seen app old k) → described old ≡ app
-    → slice_get app.tasks k ≡ Some t → HasNext seen t.source h.sources old new → HasFirst seen app new (k + 1)
-one_more seen app old new k t h same at next =
+-- the lines of one source more stand behind those of the ones before
+lines_more : (app : AppData) (i : ℕ) (sources : List (List ℕ)) (bytes : List ℕ) → lines_from app i (sources ++ bytes ∷ []) ≡ lines_from app i sources ++ lines_at app (i + length sources) bytes ∷ []
+lines_more app i [] bytes = let same : i ≡ i + 0 = omega arith in ap (λ (n : ℕ). lines_at app n bytes ∷ []) same
+lines_more app i (s ∷ sources) bytes =
+    let same : i + 1 + length sources ≡ i + suc (length sources) = omega arith in
+    ap (λ (ls : List (List InsnLine)). lines_at app i s ∷ ls) (lines_more app (i + 1) sources bytes ∙ ap (λ (n : ℕ). lines_from app (i + 1) sources ++ lines_at app n bytes ∷ []) same)
+
+still_lines : (app : AppData) (i : ℕ) (sources : List (List ℕ)) (bytes : List ℕ) (l l' : SourceLines) → i ≡ length sources → AreLines app sources l → HasListed (lines_at app i bytes) l l' → AreLines app (sources ++ bytes ∷ []) l'
+still_lines app i sources bytes l l' count are more wanted =
+    let was : l.wanted ≡ true = sym more.wanted ∙ wanted in
+    let from : i ≡ 0 + length sources = omega (arith, count) in
+    more.listed was ∙ ap (λ (ls : List (List InsnLine)). ls ++ lines_at app i bytes ∷ []) (are was) ∙ ap (λ (n : ℕ). lines_from app 0 sources ++ lines_at app n bytes ∷ []) from ∙ sym (lines_more app 0 sources bytes)
+
+pub one_more : (seen : List ℕ → Option (List ℕ)) (app : AppData) (old new : Builder) (l l' : SourceLines) (k : ℕ) (t : TaskData) (h : HasFirst seen app old l k) → described old ≡ app
+    → slice_get app.tasks k ≡ Some t → HasNext seen t.source h.sources old new l l' → HasFirst seen app new l' (k + 1)
+one_more seen app old new l l' k t h same at next =
     let index : next_task old ≡ k = h.accepted_sources.next ∙ h.count in
     let file : slice_get (source_files app) (length h.sources) ≡ Some (source_file app k t) = ap (λ n. slice_get (source_files app) n) h.count ∙ source_at_index app k t at in
     let mine : source_refusal app (next_task old) next.bytes ≡ None = subst (λ (a : AppData). source_refusal a (next_task old) next.bytes ≡ None) same next.accepted in
@@ -78,11 +94,12 @@ one_more seen app old new k t h same at next =
       count = (let more = longer h.sources next.bytes in let count = h.count in omega arith);
       takes = takes_last (MayBe seen) (source_files app) h.sources (source_file app k t) next.bytes h.takes file next.held accepted;
       accepted_sources = next.accepted_sources;
+      lines = still_lines app (next_task old) h.sources next.bytes l l' h.accepted_sources.next h.lines (subst (λ (a : AppData). HasListed (lines_at a (next_task old) next.bytes) l l') same next.listed);
     }
 
-pub each_accepted : (seen : List ℕ → Option (List ℕ)) (app : AppData) (builder : Builder) (k : ℕ) → k ≡ length app.tasks → HasFirst seen app builder k → HasAll seen app builder
-each_accepted seen app builder k all h =
-    record { sources = h.sources; each = record { takes = h.takes; all = as_many_sources app ∙ sym all ∙ sym h.count }; accepted_sources = h.accepted_sources }
+pub each_accepted : (seen : List ℕ → Option (List ℕ)) (app : AppData) (builder : Builder) (l : SourceLines) (k : ℕ) → k ≡ length app.tasks → HasFirst seen app builder l k → HasAll seen app builder l
+each_accepted seen app builder l k all h =
+    record { sources = h.sources; each = record { takes = h.takes; all = as_many_sources app ∙ sym all ∙ sym h.count }; accepted_sources = h.accepted_sources; lines = h.lines }
 
 -- ## an application before its sources
 
@@ -91,10 +108,10 @@ pub app_then_sources : (seen : List ℕ → Option (List ℕ)) (name bytes : Lis
 app_then_sources seen name bytes app sources held accepted takes = takes_first (MayBe seen) (app_file name) (source_files app) bytes sources held accepted takes
 
 -- the next source is not accepted
-pub faults_next : (a b c : FilesSeen) (app : AppData) (builder : Builder) (k : ℕ) (t : TaskData) (named_fault : NamedFault) → HasFirst a.contents app builder k → b.contents ≡ a.contents → a.read_faults ≤ b.read_faults
+pub faults_next : (a b c : FilesSeen) (app : AppData) (builder : Builder) (l : SourceLines) (k : ℕ) (t : TaskData) (named_fault : NamedFault) → HasFirst a.contents app builder l k → b.contents ≡ a.contents → a.read_faults ≤ b.read_faults
     → described builder ≡ app → slice_get app.tasks k ≡ Some t → IsNamedFaultOf b c record { name = t.source; limit = file_limit; refusal = source_refusal (described builder) (next_task builder) } named_fault
     → IsNamedFaultInSources a c app named_fault
-faults_next a b c app builder k t named_fault h seen le same at fault =
+faults_next a b c app builder l k t named_fault h seen le same at fault =
     let index : next_task builder ≡ k = h.accepted_sources.next ∙ h.count in
     let at_app : AppData → File = λ x. record { name = t.source; limit = file_limit; refusal = source_refusal x (next_task builder) } in
     let at_index : ℕ → File = λ i. record { name = t.source; limit = file_limit; refusal = source_refusal app i } in
@@ -117,10 +134,10 @@ get_mapped f (x ∷ xs) (suc k) d lt = get_mapped f xs k d (omega arith)
 
 -- ## an application's files
 
-sources_are : (seen : List ℕ → Option (List ℕ)) (name bytes : List ℕ) (app : AppData) (image : Picture) → application_of bytes ≡ app → MayBe seen name bytes → app_refusal bytes ≡ None
-    → IsImageOf seen app image → IsImage seen name image
-sources_are seen name bytes app image is held accepted h =
-    let mine : IsImageOf seen (application_of bytes) image = subst (λ (a : AppData). IsImageOf seen a image) (sym is) h in
+sources_are : (seen : List ℕ → Option (List ℕ)) (name bytes : List ℕ) (app : AppData) (image : Picture) (l : SourceLines) (wanted : Bool) → application_of bytes ≡ app → MayBe seen name bytes → app_refusal bytes ≡ None
+    → l.wanted ≡ wanted → IsImageOf seen app image l → IsBuiltApp seen name wanted app image l
+sources_are seen name bytes app image l wanted is held accepted wants h =
+    let mine : IsImageOf seen (application_of bytes) image l = subst (λ (a : AppData). IsImageOf seen a image l) (sym is) h in
     let count : length mine.sources ≡ length (application_of bytes).tasks = sym mine.each.all ∙ as_many_sources (application_of bytes) in
     record {
       bytes = bytes;
@@ -133,12 +150,19 @@ sources_are seen name bytes app image is held accepted h =
         built = subst (λ (ss : List (List ℕ)). Built (application_of bytes) ss image) (sym (take_all (length (application_of bytes).tasks) mine.sources (omega arith))) mine.built;
         sound = mine.sound;
       };
+      described = is;
+      wants = wants;
+      lines = subst (λ (a : AppData). AreLines a mine.sources l) is mine.lines;
     }
 
-pub image_of_files : (seen : List ℕ → Option (List ℕ)) (name bytes : List ℕ) (app : AppData) (image : Picture) → length bytes ≤ file_limit → read_app bytes ≡ Ok app → room_refusal app ≡ None
-    → MayBe seen name bytes → IsImageOf seen app image → IsImage seen name image
-image_of_files seen name bytes app image le is room held h =
-    sources_are seen name bytes app image (is_application bytes app is) held (app_by_room bytes app le is ∙ room) h
+pub image_of_files : (seen : List ℕ → Option (List ℕ)) (name bytes : List ℕ) (app : AppData) (image : Picture) (l : SourceLines) (wanted : Bool) → length bytes ≤ file_limit → read_app bytes ≡ Ok app → room_refusal app ≡ None
+    → MayBe seen name bytes → l.wanted ≡ wanted → IsImageOf seen app image l → IsBuiltApp seen name wanted app image l
+image_of_files seen name bytes app image l wanted le is room held wants h =
+    sources_are seen name bytes app image l wanted (is_application bytes app is) held (app_by_room bytes app le is ∙ room) wants h
+
+-- the image alone
+pub image_in_app : {seen : List ℕ → Option (List ℕ)} {name : List ℕ} {wanted : Bool} {app : AppData} {image : Picture} {l : SourceLines} → IsBuiltApp seen name wanted app image l → IsImage seen name image
+image_in_app b = record { bytes = b.bytes; sources = b.sources; each = b.each; is = b.is }
 
 -- a source is not accepted
 pub faults_in_app : (a b c : FilesSeen) (name bytes : List ℕ) (app : AppData) (named_fault : NamedFault) → length bytes ≤ file_limit → read_app bytes ≡ Ok app → room_refusal app ≡ None
@@ -169,16 +193,16 @@ faults_at_app a c name named_fault h = record {
   };
 }
 
-pub image_of_all : (seen : List ℕ → Option (List ℕ)) (app : AppData) (builder : Builder) (image : Picture) → described builder ≡ app → HasAll seen app builder
-    → ((sources : List (List ℕ)) → HasAccepted sources builder → Built (described builder) sources image) → Sound image → IsImageOf seen app image
-image_of_all seen app builder image same all built sound =
-    record { sources = all.sources; each = all.each; built = subst (λ (a : AppData). Built a all.sources image) same (built all.sources all.accepted_sources); sound = sound }
+pub image_of_all : (seen : List ℕ → Option (List ℕ)) (app : AppData) (builder : Builder) (image : Picture) (l : SourceLines) → described builder ≡ app → HasAll seen app builder l
+    → ((sources : List (List ℕ)) → HasAccepted sources builder → Built (described builder) sources image) → Sound image → IsImageOf seen app image l
+image_of_all seen app builder image l same all built sound =
+    record { sources = all.sources; each = all.each; lines = all.lines; built = subst (λ (a : AppData). Built a all.sources image) same (built all.sources all.accepted_sources); sound = sound }
 
 pub memory_in_app : (a c : FilesSeen) (name : List ℕ) (named_fault : NamedFault) → named_fault ≡ named_faults.Memory → IsNamedFaultInApp a c name named_fault
 memory_in_app a c name named_fault is = subst (λ (h : NamedFault). IsNamedFaultInApp a c name h) (sym is) (faults_at_app a c name named_faults.Memory tt)
 
-pub all_next : (seen : List ℕ → Option (List ℕ)) (app : AppData) (builder : Builder) → described builder ≡ app → HasAll seen app builder → next_task builder ≡ length (described builder).tasks
-all_next seen app builder same all =
+pub all_next : (seen : List ℕ → Option (List ℕ)) (app : AppData) (builder : Builder) (l : SourceLines) → described builder ≡ app → HasAll seen app builder l → next_task builder ≡ length (described builder).tasks
+all_next seen app builder l same all =
     let count : length app.tasks ≡ length all.sources = sym (as_many_sources app) ∙ all.each.all in
     all.accepted_sources.next ∙ sym count ∙ ap (λ (a : AppData). length a.tasks) (sym same)
 

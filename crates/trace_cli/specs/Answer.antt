@@ -10,7 +10,7 @@ use Rattle.task_table.specs.Sane.{Sane}
 use Rattle.audit_runs.specs.Last.{IsGoodText}
 use Rattle.debug_core.specs.Live.{begun_text}
 use Rattle.debug_core.specs.Session.{opened}
-use Rattle.command_line.specs.CommandLine.{Asked, build, run, go, list, sample, migrate, audit, save, resume, debug, cover, sweep, timeline, live, help, is_accepted}
+use Rattle.command_line.specs.CommandLine.{Asked, build, run, go, list, sample, migrate, audit, save, resume, debug, cover, sweep, timeline, live, picture, lcov, help, is_accepted}
 use Rattle.command_line.specs.declared.job.Detail.{Detail}
 use Rattle.trace_cli.specs.Contents.{Why, image_refusal, script_refusal, picture_of, scenario_of}
 use Rattle.outside_io.specs.Seen.{FilesSeen, SinkSeen}
@@ -114,8 +114,10 @@ TellsGood (resume image script state steps detail) v r = Unit {0}
 TellsGood (debug image script commands) v r = Unit {0}
 TellsGood (cover image script steps) v r = Unit {0}
 TellsGood (sweep image script arrival from to steps memory) v r = Unit {0}
-TellsGood (timeline image script steps) v r = Unit {0}
+TellsGood (timeline image script steps names) v r = Unit {0}
 TellsGood (live image script commands) v r = Unit {0}
+TellsGood (picture image script out steps names) v r = Unit {0}
+TellsGood (lcov app script out steps) v r = Unit {0}
 TellsGood (help about) v r = Unit {0}
 
 -- where the words ask for a job

@@ -1,15 +1,46 @@
 -- The image that is built of files.
-use Rattle.std.specs.Prelude.{◌≡◌, ℕ, List, [], ◌∷◌, ◌++◌, length, slice_get, Option, Some, None}
+use Rattle.std.specs.Prelude.{◌≡◌, ℕ, ◌+◌, Bool, true, List, [], ◌∷◌, ◌++◌, length, map, slice_get, Option, Some, None}
+use Rattle.text_lines.specs.Text.{lines_of}
+use Rattle.thumb_asm.specs.Listed.{insn_lines, placed}
+use Rattle.thumb_asm.specs.declared.listing.InsnLine.{InsnLine}
 use Rattle.app_toml.specs.Apps.{AppData}
 use Rattle.image_format.specs.Picture.{Picture, Sound}
 use Rattle.image_build.specs.Built.{Built}
+use Rattle.image_build.specs.Layout.{flash_base}
 use Rattle.image_build.specs.Accepted.{HasAccepted, described, next_task}
 use Rattle.image_build.specs.declared.builder.Builder.{Builder}
 use Rattle.trace_cli.specs.declared.file_faults.NamedFault.{NamedFault}
-use Rattle.trace_cli.specs.Contents.{source_refusal}
+use Rattle.trace_cli.specs.declared.source_lines.SourceLines.{SourceLines}
+use Rattle.trace_cli.specs.Contents.{application_of, source_refusal}
 use Rattle.outside_io.specs.Seen.{FilesSeen}
 use Rattle.trace_cli.specs.Sources.{File, files_to_build, first_of, source_files, MayBe, Takes, IsBuilt}
 use Rattle.trace_cli.specs.FileFaults.{IsNamedFaultOf}
+
+-- ## where the instructions of sources lie
+
+-- those of the i-th task's source
+abbrev pub lines_at : AppData → ℕ → List ℕ → List InsnLine
+lines_at app i source = insn_lines (placed (flash_base app i) (lines_of source))
+
+-- those of sources in their order, of which the first is the i-th
+abbrev pub lines_from : AppData → ℕ → List (List ℕ) → List (List InsnLine)
+lines_from app i [] = []
+lines_from app i (source ∷ sources) = lines_at app i source ∷ lines_from app (i + 1) sources
+
+-- the lists that are kept
+abbrev pub kept_lines : SourceLines → List (List InsnLine)
+kept_lines l = map (λ v. v.items) l.lists.items
+
+-- where they are wanted, they are those of these sources
+abbrev pub AreLines : AppData → List (List ℕ) → SourceLines → Type 0
+AreLines app sources l = l.wanted ≡ true → kept_lines l ≡ lines_from app 0 sources
+
+-- a list more is kept, where it is wanted
+pub record HasListed (more : List InsnLine) (l l' : SourceLines) : Type 0 where
+  pub wanted : l'.wanted ≡ l.wanted
+  pub listed : l.wanted ≡ true → kept_lines l' ≡ kept_lines l ++ more ∷ []
+
+-- ## files that are accepted
 
 -- each of these files was accepted with its contents
 pub record TakesEach (seen : List ℕ → Option (List ℕ)) (files : List File) (contents : List (List ℕ)) : Type 0 where
@@ -24,24 +55,27 @@ pub record IsNamedFaultAfter (before after : FilesSeen) (files : List File) (con
   pub fault : IsNamedFaultOf before after file named_fault
 
 -- the builder has accepted one more source
-pub record HasNext (seen : List ℕ → Option (List ℕ)) (name : List ℕ) (sources : List (List ℕ)) (before after : Builder) : Type 0 where
+pub record HasNext (seen : List ℕ → Option (List ℕ)) (name : List ℕ) (sources : List (List ℕ)) (before after : Builder) (l l' : SourceLines) : Type 0 where
   pub bytes : List ℕ
   pub held : MayBe seen name bytes
   pub accepted : source_refusal (described before) (next_task before) bytes ≡ None
   pub accepted_sources : HasAccepted (sources ++ bytes ∷ []) after
+  pub listed : HasListed (lines_at (described before) (next_task before) bytes) l l'
 
 -- it has accepted those of all tasks
-pub record HasAll (seen : List ℕ → Option (List ℕ)) (app : AppData) (builder : Builder) : Type 0 where
+pub record HasAll (seen : List ℕ → Option (List ℕ)) (app : AppData) (builder : Builder) (l : SourceLines) : Type 0 where
   pub sources : List (List ℕ)
   pub each : TakesEach seen (source_files app) sources
   pub accepted_sources : HasAccepted sources builder
+  pub lines : AreLines app sources l
 
 -- an image was built of the application and of the files of its sources
-pub record IsImageOf (seen : List ℕ → Option (List ℕ)) (app : AppData) (image : Picture) : Type 0 where
+pub record IsImageOf (seen : List ℕ → Option (List ℕ)) (app : AppData) (image : Picture) (l : SourceLines) : Type 0 where
   pub sources : List (List ℕ)
   pub each : TakesEach seen (source_files app) sources
   pub built : Built app sources image
   pub sound : Sound image
+  pub lines : AreLines app sources l
 
 -- an image was built of the application's files: its own holds these bytes, and then come the sources
 pub record IsImage (seen : List ℕ → Option (List ℕ)) (app : List ℕ) (image : Picture) : Type 0 where
@@ -49,6 +83,16 @@ pub record IsImage (seen : List ℕ → Option (List ℕ)) (app : List ℕ) (ima
   pub sources : List (List ℕ)
   pub each : TakesEach seen (files_to_build app bytes) (bytes ∷ sources)
   pub is : IsBuilt (bytes ∷ sources) image
+
+-- so it was, with where the instructions of its sources lie
+pub record IsBuiltApp (seen : List ℕ → Option (List ℕ)) (name : List ℕ) (wanted : Bool) (app : AppData) (image : Picture) (l : SourceLines) : Type 0 where
+  pub bytes : List ℕ
+  pub sources : List (List ℕ)
+  pub each : TakesEach seen (files_to_build name bytes) (bytes ∷ sources)
+  pub is : IsBuilt (bytes ∷ sources) image
+  pub described : application_of bytes ≡ app
+  pub wants : l.wanted ≡ wanted
+  pub lines : AreLines app sources l
 
 -- one of its sources was not accepted
 pub record IsNamedFaultInSources (before after : FilesSeen) (app : AppData) (named_fault : NamedFault) : Type 0 where

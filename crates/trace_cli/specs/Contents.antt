@@ -1,5 +1,5 @@
 -- The contents of a file: why they are refused, and what they say.
-use Rattle.std.specs.Prelude.{ℕ, ◌^◌, ◌-◌, min, nat_lt, if◌then◌else◌, List, [], ◌++◌, length, codes, decimal, Option, Some, None, is_some, option_map, Result, Ok, Err}
+use Rattle.std.specs.Prelude.{ℕ, ◌^◌, ◌-◌, ◌==◌, min, nat_lt, if◌then◌else◌, List, [], ◌++◌, length, map, codes, decimal, Option, Some, None, is_some, option_map, Result, Ok, Err}
 use Rattle.kernel_abi.specs.Devices.{DeviceData}
 use Rattle.app_toml.specs.Apps.{AppData}
 use Rattle.app_toml.specs.Reading.{read_app}
@@ -159,6 +159,20 @@ state_refusal devices image bound bytes =
 -- why a text of commands is refused, if it is (docs/FORMATS.md, Commands)
 unfoldable pub commands_refusal : List ℕ → Option Why
 commands_refusal bytes = unless_long file_limit bytes (option_map at_number (fault_in (commands_or_fault bytes)))
+
+-- ## names of tasks
+
+-- the application has another number of tasks
+abbrev pub tasks_refusal : ℕ → AppData → Option Why
+tasks_refusal tasks app = if length app.tasks == tasks then None else Some (22, codes "task")
+
+-- why an application is refused as one that names so many tasks, if it is: its description (docs/FORMATS.md, Application), or its number of tasks
+unfoldable pub names_refusal : ℕ → List ℕ → Option Why
+names_refusal tasks bytes = unless_long file_limit bytes (or_later (fault_in (read_app bytes)) (tasks_refusal tasks (application_of bytes)))
+
+-- the names that it gives them
+abbrev pub names_in : List ℕ → List (List ℕ)
+names_in bytes = map (λ t. t.name) (application_of bytes).tasks
 
 -- ## an arrival
 

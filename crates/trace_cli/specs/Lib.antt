@@ -7,3 +7,4 @@ pub mod FileFaults
 pub mod Pushed
 pub mod Verdict
 pub mod Words
+pub mod Tracing

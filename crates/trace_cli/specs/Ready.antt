@@ -1,6 +1,7 @@
 -- A board at the start of a job's run, or the file that is not accepted.
-use Rattle.std.specs.Prelude.{◌≡◌, ◌⊎◌, ◌≤◌, ℕ, List, [], ◌∷◌, Bool, Option, Some, None, Ok, length, slice_index_or}
+use Rattle.std.specs.Prelude.{◌≡◌, ◌⊎◌, ◌≤◌, ℕ, List, [], ◌∷◌, ◌++◌, Bool, Option, Some, None, Ok, length, slice_index_or}
 use Rattle.kernel_abi.specs.Devices.{DeviceData}
+use Rattle.app_toml.specs.Apps.{AppData}
 use Rattle.image_format.specs.Picture.{Picture}
 use Rattle.image_build.specs.Built.{Built}
 use Rattle.sample_gen.specs.Sample.{sample_app, sample_sources}
@@ -24,12 +25,14 @@ use Rattle.command_line.specs.declared.job.Detail.{Detail}
 use Rattle.debug_core.specs.declared.command.Command.{Command}
 use Rattle.debug_core.specs.Reading.{commands_or_fault}
 use Rattle.trace_cli.specs.declared.file_faults.NamedFault.{NamedFault}
-use Rattle.trace_cli.specs.Contents.{image_refusal, script_refusal, state_refusal, commands_refusal, arrival_refusal, trace_refusal, picture_of, script_of, scenario_of, sample_scenario}
+use Rattle.trace_cli.specs.declared.file_faults.NamedFault.TheVariants as named_faults
+use Rattle.trace_cli.specs.Contents.{image_refusal, script_refusal, state_refusal, commands_refusal, arrival_refusal, names_refusal, names_in, trace_refusal, picture_of, script_of, scenario_of, sample_scenario}
 use Rattle.outside_io.specs.Seen.{FilesSeen}
-use Rattle.trace_cli.specs.Sources.{File, MayBe, TakesAll, files_of, files_by, image_file, script_file, scenario_in, state_by}
-use Rattle.trace_cli.specs.Verdict.{Verdict, Does, resumed, debugged, swept}
+use Rattle.trace_cli.specs.Sources.{File, MayBe, TakesAll, files_of, files_by, image_file, script_file, names_file, names_files, image_tasks, files_to_build, IsBuilt, described, sources_in, script_in, scenario_in, state_by}
+use Rattle.trace_cli.specs.Verdict.{Verdict, Does, names_by, task_names, resumed, debugged, swept}
 use Rattle.trace_cli.specs.FileFaults.{IsNamedFaultOf}
-use Rattle.trace_cli.specs.Building.{IsNamedFaultAfter}
+use Rattle.trace_cli.specs.declared.source_lines.SourceLines.{SourceLines}
+use Rattle.trace_cli.specs.Building.{AreLines, IsNamedFaultAfter}
 
 -- an image is that which the file of this name spells
 pub record IsImageFile (seen : List ℕ → Option (List ℕ)) (name : List ℕ) (image : Picture) : Type 0 where
@@ -61,13 +64,42 @@ pub record IsRunSet {X : Type 0} {H : X → Type 0} (shown : Shows X H) (devices
 
 -- the job takes this image, then this script, and then some more files
 pub record TakesImage (devices : List DeviceData) (job : Asked) (image script : List ℕ) : Type 0 where
-  pub more : List File
-  pub files : (first : List ℕ) → files_of devices job first ≡ image_file image ∷ script_file script ∷ more
+  pub more : List ℕ → List File
+  pub files : (first : List ℕ) → files_of devices job first ≡ image_file image ∷ script_file script ∷ more first
 
 -- the job takes this image and then this script, and answers their run by this verdict
 pub record RunsImage (devices : List DeviceData) (job : Asked) (image script : List ℕ) (verdict : Scenario → Verdict) : Type 0 where
   pub files : (first : List ℕ) → files_of devices job first ≡ image_file image ∷ script_file script ∷ []
   pub does : (contents : List (List ℕ)) → Does devices job contents (verdict (scenario_in devices contents))
+
+-- the job takes this image, this script and the names of the tasks, and answers their run by this verdict on the names and on it
+pub record RunsNamed (devices : List DeviceData) (job : Asked) (image script : List ℕ) (names : Option (List ℕ)) (verdict : List (List ℕ) → Scenario → Verdict) : Type 0 where
+  pub files : (first : List ℕ) → files_of devices job first ≡ image_file image ∷ script_file script ∷ names_files (image_tasks first) names
+  pub does : (contents : List (List ℕ)) → Does devices job contents (verdict (names_by names contents) (scenario_in devices contents))
+
+-- the job takes the files of this application and then this script, and answers their run by this verdict on the application, its sources
+-- and it
+pub record RunsApp (devices : List DeviceData) (job : Asked) (app script : List ℕ) (verdict : AppData → List (List ℕ) → Scenario → Verdict) : Type 0 where
+  pub files : (first : List ℕ) → files_of devices job first ≡ files_to_build app first ++ script_file script ∷ []
+  pub does : (contents : List (List ℕ)) (image : Picture) → IsBuilt contents image
+      → Does devices job contents (verdict (described contents) (sources_in contents) (scenario_of image (script_in contents) devices))
+
+-- these are the names that the application of this name has, which is accepted as one of so many tasks
+pub record IsNamesFile (seen : List ℕ → Option (List ℕ)) (tasks : ℕ) (name : List ℕ) (names : List (List ℕ)) : Type 0 where
+  pub bytes : List ℕ
+  pub held : MayBe seen name bytes
+  pub accepted : names_refusal tasks bytes ≡ None
+  pub is : names ≡ names_in bytes
+
+-- these are the names of so many tasks: their places, or those of the application of this name
+abbrev pub AreNames : (List ℕ → Option (List ℕ)) → ℕ → Option (List ℕ) → List (List ℕ) → Type 0
+AreNames seen tasks None names = names ≡ task_names tasks
+AreNames seen tasks (Some name) names = IsNamesFile seen tasks name names
+
+-- why there are none: that application is not accepted, or memory is short
+abbrev pub IsNamesFault : FilesSeen → FilesSeen → ℕ → Option (List ℕ) → NamedFault → Type 0
+IsNamesFault before after tasks None h = h ≡ named_faults.Memory
+IsNamesFault before after tasks (Some name) h = IsNamedFaultOf before after (names_file tasks name) h
 
 -- each file of the job is accepted, and the board stands for the start of the run that it answers by this verdict
 pub record IsReady {X : Type 0} {H : X → Type 0} (shown : Shows X H) (devices : List DeviceData) (job : Asked) (seen : List ℕ → Option (List ℕ)) (verdict : Scenario → Verdict) (b : Board X H) : Type 0 where
@@ -176,3 +208,11 @@ pub record IsAuditOf (seen : List ℕ → Option (List ℕ)) (name : List ℕ) (
 pub record IsNamedFaultIn (devices : List DeviceData) (job : Asked) (before after : FilesSeen) (named_fault : NamedFault) : Type 0 where
   pub contents : List (List ℕ)
   pub at : IsNamedFaultAfter before after (files_by devices job contents) contents named_fault
+
+-- Each file of the job is accepted, among them the sources of this application, and the board stands for the start of the run that it
+-- answers by this verdict; where the instructions of the sources lie is known, if that is wanted.
+pub record IsAppReady {X : Type 0} {H : X → Type 0} (shown : Shows X H) (devices : List DeviceData) (job : Asked) (seen : List ℕ → Option (List ℕ)) (verdict : AppData → List (List ℕ) → Scenario → Verdict) (wanted : Bool) (b : Board X H) (app : AppData) (l : SourceLines) : Type 0 where
+  pub sources : List (List ℕ)
+  pub ready : IsReady shown devices job seen (verdict app sources) b
+  pub wants : l.wanted ≡ wanted
+  pub lines : AreLines app sources l

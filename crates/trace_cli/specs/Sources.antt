@@ -10,8 +10,8 @@ use Rattle.board_model.specs.Script.{Scenario}
 use Rattle.task_table.specs.State.{State}
 use Rattle.snapshot.specs.Restored.{state_in}
 use Rattle.debug_core.specs.Live.{live_limit}
-use Rattle.command_line.specs.CommandLine.{Asked, build, run, go, list, sample, migrate, audit, save, resume, debug, cover, sweep, timeline, live, help}
-use Rattle.trace_cli.specs.Contents.{Why, file_limit, trace_limit, image_refusal, script_refusal, app_refusal, source_refusal, trace_refusal, state_refusal, commands_refusal, arrival_refusal, picture_of, application_of, scenario_of}
+use Rattle.command_line.specs.CommandLine.{Asked, build, run, go, list, sample, migrate, audit, save, resume, debug, cover, sweep, timeline, live, picture, lcov, help}
+use Rattle.trace_cli.specs.Contents.{Why, file_limit, trace_limit, image_refusal, script_refusal, app_refusal, source_refusal, trace_refusal, state_refusal, commands_refusal, arrival_refusal, names_refusal, picture_of, application_of, scenario_of}
 
 -- a file, the most bytes that it may have, and why contents of it are refused
 pub record File : Type 0 where
@@ -45,6 +45,15 @@ commands_file name = record { name = name; limit = file_limit; refusal = command
 abbrev pub arrival_file : List ℕ → File
 arrival_file name = record { name = name; limit = file_limit; refusal = arrival_refusal }
 
+-- the application by whose names so many tasks are told
+abbrev pub names_file : ℕ → List ℕ → File
+names_file tasks name = record { name = name; limit = file_limit; refusal = names_refusal tasks }
+
+-- it, where one is named
+abbrev pub names_files : ℕ → Option (List ℕ) → List File
+names_files tasks None = []
+names_files tasks (Some name) = names_file tasks name ∷ []
+
 -- lines that are carried out as they come, of which none refuses the file
 abbrev pub lines_file : List ℕ → File
 lines_file name = record { name = name; limit = live_limit; refusal = λ _. None }
@@ -61,9 +70,15 @@ source_files app = sources_from app 0 app.tasks
 abbrev pub files_to_build : List ℕ → List ℕ → List File
 files_to_build app first = app_file app ∷ source_files (application_of first)
 
--- The files of a job of which the first file holds these bytes: `build` takes those of its application, `go` too and then
--- its script; `run`, `save`, `cover` and `timeline` take their image and then their script, `resume` too and then its state, `debug` and `live` too and then their
--- commands, `sweep` too and then its arrival, `list` and `migrate` their image, `audit` its trace, `sample` and `help` none. The devices are those of a run.
+-- how many tasks the image has that is in these bytes
+abbrev pub image_tasks : List ℕ → ℕ
+image_tasks bytes = length (picture_of bytes).tasks
+
+-- The files of a job of which the first file holds these bytes: `build` takes those of its application, `go` and `lcov` too and then
+-- their script; `run`, `save`, `cover`, `timeline` and `picture` take their image and then their script, the last two then the application
+-- that names the tasks, where one is named; `resume` its image, its script and its state, `debug` and `live` their image, their script and their
+-- commands, `sweep` its image, its script and its arrival; `list` and `migrate` take their image, `audit` its trace, `sample` and `help` none. The
+-- devices are those of a run.
 abbrev pub files_of : List DeviceData → Asked → List ℕ → List File
 files_of devices (build app out) first = files_to_build app first
 files_of devices (run image script steps detail) first = image_file image ∷ script_file script ∷ []
@@ -77,8 +92,10 @@ files_of devices (resume image script state steps detail) first = image_file ima
 files_of devices (debug image script commands) first = image_file image ∷ script_file script ∷ commands_file commands ∷ []
 files_of devices (cover image script steps) first = image_file image ∷ script_file script ∷ []
 files_of devices (sweep image script arrival from to steps memory) first = image_file image ∷ script_file script ∷ arrival_file arrival ∷ []
-files_of devices (timeline image script steps) first = image_file image ∷ script_file script ∷ []
+files_of devices (timeline image script steps names) first = image_file image ∷ script_file script ∷ names_files (image_tasks first) names
 files_of devices (live image script commands) first = image_file image ∷ script_file script ∷ lines_file commands ∷ []
+files_of devices (picture image script out steps names) first = image_file image ∷ script_file script ∷ names_files (image_tasks first) names
+files_of devices (lcov app script out steps) first = files_to_build app first ++ script_file script ∷ []
 files_of devices (help about) first = []
 
 abbrev pub first_of : List (List ℕ) → List ℕ

@@ -22,6 +22,8 @@ use Rattle.board_run.specs.Counts.{summary_text}
 use Rattle.board_run.specs.MemoryText.{memory_text}
 use Rattle.run_cover.specs.Known.{IsKnownOf}
 use Rattle.run_cover.specs.Text.{cover_text}
+use Rattle.run_cover.specs.Tracefile.{Section, run_tracefile}
+use Rattle.run_lanes.specs.Pictured.{picture_text}
 use Rattle.run_lanes.specs.Timeline.{timeline_text}
 use Rattle.sweep_core.specs.Swept.{Asking, makes_difference, sweep_text}
 use Rattle.sweep_core.specs.Sweeping.{asked}
@@ -33,13 +35,14 @@ use Rattle.debug_core.specs.Session.{opened}
 use Rattle.trace_audit.specs.declared.verdict.Verdict as trace
 use Rattle.trace_audit.specs.declared.verdict.Verdict.TheVariants.{Yes, No}
 use Rattle.trace_audit.specs.Verdicts as trace_audit
-use Rattle.command_line.specs.CommandLine.{Asked, build, run, go, list, sample, migrate, audit, save, resume, debug, cover, sweep, timeline, live, help, is_accepted}
+use Rattle.command_line.specs.CommandLine.{Asked, build, run, go, list, sample, migrate, audit, save, resume, debug, cover, sweep, timeline, live, picture, lcov, help, is_accepted}
 use Rattle.command_line.specs.declared.job.CommandName.{CommandName}
 use Rattle.command_line.specs.declared.job.Detail.{Detail}
 use Rattle.help_text.specs.Help.{help_text}
-use Rattle.trace_cli.specs.Contents.{Why, picture_of, script_of, scenario_of, sample_scenario}
+use Rattle.trace_cli.specs.Contents.{Why, names_in, picture_of, script_of, scenario_of, sample_scenario}
+use Rattle.trace_cli.specs.Tracing.{sections}
 use Rattle.trace_cli.specs.Words.{job_in}
-use Rattle.trace_cli.specs.Sources.{File, Are, Reaches, TakesAll, IsBuilt, first_of, script_in, scenario_in, state_by}
+use Rattle.trace_cli.specs.Sources.{File, Are, Reaches, TakesAll, IsBuilt, described, first_of, image_tasks, sources_in, script_in, scenario_in, state_by}
 
 pub record Verdict : Type 0 where
   pub status : ℕ
@@ -52,7 +55,7 @@ abbrev pub line_alone : ℕ → List ℕ → Verdict
 line_alone status line = record { status = status; text = line; put = None }
 
 abbrev pub usage_line : List ℕ
-usage_line = codes "usage: hubris build, run, go, list, sample, migrate, audit, save, resume, debug, cover, sweep, timeline, live or help\n"
+usage_line = codes "usage: hubris build, run, go, list, sample, migrate, audit, save, resume, debug, cover, sweep, timeline, live, picture, lcov or help\n"
 
 -- `refused <name> <cause> <place>`
 unfoldable pub refused_front : List ℕ → ℕ → List ℕ
@@ -72,6 +75,14 @@ built_line bytes = codes "built " ++ decimal bytes ++ codes " bytes\n"
 -- `saved <length> bytes`
 unfoldable pub saved_line : ℕ → List ℕ
 saved_line bytes = codes "saved " ++ decimal bytes ++ codes " bytes\n"
+
+-- `traced <length> bytes`
+unfoldable pub traced_line : ℕ → List ℕ
+traced_line length = codes "traced " ++ decimal length ++ codes " bytes\n"
+
+-- `drawn <length> bytes`
+unfoldable pub drawn_line : ℕ → List ℕ
+drawn_line length = codes "drawn " ++ decimal length ++ codes " bytes\n"
 
 -- `yes <calls> <left>`
 unfoldable pub yes_line : ℕ → ℕ → List ℕ
@@ -174,7 +185,7 @@ lived x bytes = line_alone 0 (live_text x opened (take live_limit bytes))
 abbrev pub covered : ℕ → Scenario → (ℕ → Bool) → Verdict
 covered n x known =
     let r = run_of All n x in
-    line_alone (status_of r.end) (cover_text x.setup r known)
+    line_alone (status_of r.end) (cover_text x.setup r known [])
 
 -- the test is true just of what is known of that run
 abbrev pub IsKnownIn : ℕ → Scenario → (ℕ → Bool) → Type 0
@@ -195,9 +206,26 @@ task_name i = codes "task " ++ decimal i
 abbrev pub task_names : ℕ → List (List ℕ)
 task_names n = map task_name (range_with_len 0 n)
 
--- a run as a timeline
-abbrev pub timed : ℕ → Scenario → Verdict
-timed n x = line_alone (status_of (run_of Calls n x).end) (timeline_text (task_names (length x.setup.tasks)) x n (start_of x))
+-- the names of an image's tasks, where these are the contents of a job's files: their places, or those of the application in the third one
+abbrev pub names_by : Option (List ℕ) → List (List ℕ) → List (List ℕ)
+names_by None contents = task_names (image_tasks (first_of contents))
+names_by (Some name) contents = names_in (slice_index_or contents 2 [])
+
+-- a run as a timeline, of tasks with these names
+abbrev pub timed : ℕ → List (List ℕ) → Scenario → Verdict
+timed n names x = line_alone (status_of (run_of Calls n x).end) (timeline_text names x n (start_of x))
+
+-- a run as a picture under this title, of tasks with these names: it was put under a name
+abbrev pub drawn : List ℕ → ℕ → List ℕ → List (List ℕ) → Scenario → Verdict
+drawn out n title names x =
+    let bytes = picture_text title names x n (start_of x) in
+    record { status = 0; text = drawn_line (length bytes); put = Some (out, bytes) }
+
+-- how often a run executed each line of these sections: it was put under a name
+abbrev pub traced : List ℕ → ℕ → List Section → Scenario → Verdict
+traced out n sections x =
+    let bytes = run_tracefile (run_of All n x) sections in
+    record { status = 0; text = traced_line (length bytes); put = Some (out, bytes) }
 
 -- what the commands are, or what one of them takes and answers
 abbrev pub helped : Option CommandName → Verdict
@@ -221,8 +249,11 @@ Does devices (cover image script steps) contents v =
     let x = scenario_in devices contents in
     (known : ℕ → Bool) × IsKnownIn steps x known × (v ≡ covered steps x known)
 Does devices (sweep image script arrival from to steps memory) contents v = v ≡ swept (scenario_in devices contents) (asking (slice_index_or contents 2 []) from to steps memory)
-Does devices (timeline image script steps) contents v = v ≡ timed steps (scenario_in devices contents)
+Does devices (timeline image script steps names) contents v = v ≡ timed steps (names_by names contents) (scenario_in devices contents)
 Does devices (live image script name) contents v = v ≡ lived (scenario_in devices contents) (slice_index_or contents 2 [])
+Does devices (picture image script out steps names) contents v = v ≡ drawn out steps image (names_by names contents) (scenario_in devices contents)
+Does devices (lcov app script out steps) contents v =
+    (image : Picture) × IsBuilt contents image × (v ≡ traced out steps (sections (described contents) (sources_in contents)) (scenario_of image (script_in contents) devices))
 Does devices (help about) contents v = v ≡ helped about
 
 -- ## the verdict on words and contents, where they are seen as far as they count and a run has these devices

@@ -2,7 +2,7 @@
 use Rattle.std.specs.Prelude.{ℕ, if◌then◌else◌, List, map, Option, Some, None, string_bytes}
 use Rattle.std.specs.declared.string.String.{String}
 use Rattle.std.specs.declared.alloc.Global.{Global}
-use Rattle.command_line.specs.CommandLine.{Asked, build, run, go, list, sample, migrate, audit, save, resume, debug, cover, sweep, timeline, live, help, is_accepted, job_of}
+use Rattle.command_line.specs.CommandLine.{Asked, build, run, go, list, sample, migrate, audit, save, resume, debug, cover, sweep, timeline, live, picture, lcov, help, is_accepted, job_of}
 
 abbrev pub texts_of : List (String Global) → List (List ℕ)
 texts_of words = map string_bytes words
@@ -26,6 +26,8 @@ out_of (Some (resume image script state steps detail)) = None
 out_of (Some (debug image script commands)) = None
 out_of (Some (cover image script steps)) = None
 out_of (Some (sweep image script arrival from to steps memory)) = None
-out_of (Some (timeline image script steps)) = None
+out_of (Some (timeline image script steps names)) = None
 out_of (Some (live image script commands)) = None
+out_of (Some (picture image script out steps names)) = Some out
+out_of (Some (lcov app script out steps)) = Some out
 out_of (Some (help about)) = None

@@ -8,13 +8,15 @@ ghost use Rattle.image_build.specs.Accepted.{HasAccepted, described, next_task};
 ghost use Rattle.trace_cli.specs.Contents.{file_limit, room_refusal, source_refusal};
 ghost use Rattle.trace_cli.specs.Sources.{OnlyReads};
 ghost use Rattle.trace_cli.specs.FileFaults.{IsFaultFor, IsNamedFaultOf};
-ghost use Rattle.trace_cli.specs.Building.{HasNext, HasAll, IsImageOf, IsImage, IsNamedFaultInApp, IsNamedFaultInSources};
+ghost use Rattle.trace_cli.specs.Building.{HasNext, HasAll, IsBuiltApp, IsImageOf, IsImage, kept_lines, IsNamedFaultInApp, IsNamedFaultInSources};
 ghost use Rattle.trace_cli.specs.Verdict.{built};
 ghost use Rattle.trace_cli.specs.Answer.{Tells, AnswersJob};
 
 use crate::file_faults::{FileFault, NamedFault, fault_by_plan, fault_by_source, fault_named};
+use crate::putting::put_told;
+use crate::source_lines::SourceLines;
 use crate::sources::{FILE_LIMIT, app_in, read_contents};
-use crate::telling::{line_of_built, tell, tell_named_fault};
+use crate::telling::{line_of_built, tell_named_fault};
 use app_toml::App;
 use image_build::Builder;
 use image_format::Image;
@@ -55,10 +57,11 @@ fn take_source<F: Files>(
     files: &mut F,
     name: &str,
     builder: &mut Builder<'_>,
+    lines: &mut SourceLines,
 ) -> Result<(), NamedFault>
     requires next { next_task builder.old < length (described builder.old).tasks }
     ensures described { described builder.new ≡ described builder.old }
-    ensures accepted_sources { (sources : List (List ℕ)) → HasAccepted sources builder.old → OnOk result (HasNext (F.seen files.old).contents name.now sources builder.old builder.new) }
+    ensures accepted_sources { (sources : List (List ℕ)) → HasAccepted sources builder.old → OnOk result (HasNext (F.seen files.old).contents name.now sources builder.old builder.new lines.old lines.new) }
     ensures named_fault { IfErr result (IsNamedFaultOf (F.seen files.old) (F.seen files.new) record { name = name.now; limit = file_limit; refusal = source_refusal (described builder.old) (next_task builder.old) }) }
     ensures only_reads { OnlyReads (F.seen files.old) (F.seen files.new) }
 {
@@ -66,9 +69,14 @@ fn take_source<F: Files>(
         Ok(bytes) => bytes,
         Err(file_fault) => return Err(fault_named(alloc, name, file_fault)),
     };
+    let base = builder.base();
     match take_bytes(alloc, builder, &bytes) {
+        Ok(()) => {}
+        Err(file_fault) => return Err(fault_named(alloc, name, file_fault)),
+    }
+    match lines.add(alloc, &bytes, base) {
         Ok(()) => Ok(()),
-        Err(file_fault) => Err(fault_named(alloc, name, file_fault)),
+        Err(_) => Err(NamedFault::Memory),
     }
 }
 
@@ -78,16 +86,19 @@ fn take_sources<F: Files>(
     files: &mut F,
     app: &App,
     builder: &mut Builder<'_>,
+    lines: &mut SourceLines,
 ) -> Result<(), NamedFault>
     requires described { described builder.old ≡ app_of app.now }
     requires none { HasAccepted [] builder.old }
+    requires unlisted { kept_lines lines.old ≡ [] }
     ensures described { described builder.new ≡ described builder.old }
-    ensures accepted_sources { OnOk result (HasAll (F.seen files.old).contents (app_of app.now) builder.new) }
+    ensures wanted { OnOk result (lines.new.wanted ≡ lines.old.wanted) }
+    ensures accepted_sources { OnOk result (HasAll (F.seen files.old).contents (app_of app.now) builder.new lines.new) }
     ensures named_fault { IfErr result (IsNamedFaultInSources (F.seen files.old) (F.seen files.new) (app_of app.now)) }
     ensures only_reads { OnlyReads (F.seen files.old) (F.seen files.new) }
 {
     for task in app.tasks() {
-        match take_source(alloc, files, &task.source, builder) {
+        match take_source(alloc, files, &task.source, builder, lines) {
             Ok(()) => {}
             Err(named_fault) => return Err(named_fault),
         }
@@ -101,15 +112,18 @@ fn image_of<F: Files>(
     files: &mut F,
     app: &App,
     builder: Builder<'_>,
+    lines: &mut SourceLines,
 ) -> Result<Image, NamedFault>
     requires described { described builder ≡ app_of app.now }
     requires none { HasAccepted [] builder }
-    ensures image { IfOk result (λ i. IsImageOf (F.seen files.old).contents (app_of app.now) (picture i)) }
+    requires unlisted { kept_lines lines.old ≡ [] }
+    ensures wanted { IfOk result (λ _. lines.new.wanted ≡ lines.old.wanted) }
+    ensures image { IfOk result (λ i. IsImageOf (F.seen files.old).contents (app_of app.now) (picture i) lines.new) }
     ensures named_fault { IfErr result (λ h. (h ≡ NamedFault.Memory) ⊎ IsNamedFaultInSources (F.seen files.old) (F.seen files.new) (app_of app.now) h) }
     ensures only_reads { OnlyReads (F.seen files.old) (F.seen files.new) }
 {
     let mut builder = builder;
-    match take_sources(alloc, files, app, &mut builder) {
+    match take_sources(alloc, files, app, &mut builder, lines) {
         Ok(()) => {}
         Err(named_fault) => return Err(named_fault),
     }
@@ -119,9 +133,22 @@ fn image_of<F: Files>(
     }
 }
 
-/// The image of the application under a name.
-pub fn built_image<F: Files>(alloc: Global, files: &mut F, name: &str) -> Result<Image, NamedFault>
-    ensures image { IfOk result (λ i. IsImage (F.seen files.old).contents name.now (picture i)) }
+/// An application, its image, and where the instructions of its sources lie.
+#[derive(Drop)]
+pub struct BuiltApp {
+    pub app: App,
+    pub image: Image,
+    pub lines: SourceLines,
+}
+
+/// The application under a name, and its image; and where the instructions of its sources lie, if that is wanted.
+pub fn built_app<F: Files>(
+    alloc: Global,
+    files: &mut F,
+    name: &str,
+    wanted: bool,
+) -> Result<BuiltApp, NamedFault>
+    ensures built { IfOk result (λ b. IsBuiltApp (F.seen files.old).contents name.now wanted (app_of b.app) (picture b.image) b.lines) }
     ensures named_fault { IfErr result (IsNamedFaultInApp (F.seen files.old) (F.seen files.new) name.now) }
     ensures only_reads { OnlyReads (F.seen files.old) (F.seen files.new) }
 {
@@ -133,9 +160,26 @@ pub fn built_image<F: Files>(alloc: Global, files: &mut F, name: &str) -> Result
         Ok(app) => app,
         Err(file_fault) => return Err(fault_named(alloc, name, file_fault)),
     };
-    match opened(alloc, &app) {
-        Ok(builder) => image_of(alloc, files, &app, builder),
-        Err(file_fault) => Err(fault_named(alloc, name, file_fault)),
+    let mut lines = SourceLines::none(alloc, wanted);
+    let builder = match opened(alloc, &app) {
+        Ok(builder) => builder,
+        Err(file_fault) => return Err(fault_named(alloc, name, file_fault)),
+    };
+    match image_of(alloc, files, &app, builder, &mut lines) {
+        Ok(image) => Ok(BuiltApp { app, image, lines }),
+        Err(named_fault) => Err(named_fault),
+    }
+}
+
+/// The image of the application under a name.
+pub fn built_image<F: Files>(alloc: Global, files: &mut F, name: &str) -> Result<Image, NamedFault>
+    ensures image { IfOk result (λ i. IsImage (F.seen files.old).contents name.now (picture i)) }
+    ensures named_fault { IfErr result (IsNamedFaultInApp (F.seen files.old) (F.seen files.new) name.now) }
+    ensures only_reads { OnlyReads (F.seen files.old) (F.seen files.new) }
+{
+    match built_app(alloc, files, name, false) {
+        Ok(built) => Ok(built.image),
+        Err(named_fault) => Err(named_fault),
     }
 }
 
@@ -159,10 +203,7 @@ pub fn put_image<F: Files, S: Sink>(
         Ok(line) => line,
         Err(_) => return 5,
     };
-    match files.put(name, &bytes) {
-        Ok(()) => tell(line.as_bytes(), 0, out),
-        Err(_) => 4,
-    }
+    put_told(&bytes, name, line.as_bytes(), files, out)
 }
 
 /// `build APP OUT`.

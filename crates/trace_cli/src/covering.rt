@@ -28,7 +28,7 @@ fn cover_board<S: Sink>(alloc: Global, board: &mut Board, steps: u32, out: &mut 
         Ok(cover) => cover,
         Err(_) => return 5,
     };
-    match write_cover(board, steps, &mut cover, out) {
+    match write_cover(board, steps, &mut cover, &[], out) {
         Ok(end) => status_by(end),
         Err(_) => 4,
     }

@@ -1,6 +1,8 @@
 //! From the files of a job to the board of its run.
-ghost use Rattle.std.specs.Prelude.{ℕ, map, IfOk, IfErr};
+ghost use Rattle.std.specs.Prelude.{ℕ, List, map, IfOk, IfErr};
 ghost use Rattle.kernel_abi.specs.Devices.{AreFresh};
+ghost use Rattle.app_toml.specs.Apps.{AppData};
+ghost use Rattle.app_toml.specs.Held.{app_of};
 ghost use Rattle.image_format.specs.Images.{picture};
 ghost use Rattle.board_model.specs.Script.{Scenario};
 ghost use Rattle.run_script.specs.Events.{script_data};
@@ -9,9 +11,9 @@ ghost use Rattle.command_line.specs.declared.job.Detail.{Detail};
 ghost use Rattle.trace_cli.specs.Sources.{image_file, script_file, OnlyReads};
 ghost use Rattle.trace_cli.specs.FileFaults.{IsNamedFaultOf};
 ghost use Rattle.trace_cli.specs.Verdict.{Verdict, ran};
-ghost use Rattle.trace_cli.specs.Ready.{IsImageFile, IsScriptFile, IsSet, IsRunSet, TakesImage, RunsImage, IsReady, IsNamedFaultIn};
+ghost use Rattle.trace_cli.specs.Ready.{IsImageFile, IsScriptFile, IsSet, IsRunSet, TakesImage, RunsImage, RunsApp, IsReady, IsAppReady, IsNamedFaultIn};
 
-use crate::building::built_image;
+use crate::building::{BuiltApp, built_app};
 use crate::file_faults::{NamedFault, fault_named};
 use crate::sources::{FILE_LIMIT, image_in, read_contents, script_in};
 use board_core::Board;
@@ -97,6 +99,33 @@ pub fn prepare_run<F: Files>(
     }
 }
 
+/// The board at the start of the run of the application and the script under these names, with devices, and the application; and where the
+/// instructions of its sources lie, if that is wanted. It is the run of each job that takes these files.
+pub fn prepare_app<F: Files>(
+    alloc: Global,
+    files: &mut F,
+    app: &str,
+    script: &str,
+    wanted: bool,
+    devices: Vec<Box<dyn Device>>,
+) -> Result<(Board, BuiltApp), NamedFault>
+    requires fresh { AreFresh (map shown devices.items) }
+    ensures ready { (job : Asked) (verdict : AppData → List (List ℕ) → Scenario → Verdict) → RunsApp (map shown devices.items) job app.now script.now verdict
+        → IfOk result (λ p. IsAppReady shown (map shown devices.items) job (F.seen files.old).contents verdict wanted p.0 (app_of p.1.app) p.1.lines) }
+    ensures named_fault { (job : Asked) (verdict : AppData → List (List ℕ) → Scenario → Verdict) → RunsApp (map shown devices.items) job app.now script.now verdict
+        → IfErr result (IsNamedFaultIn (map shown devices.items) job (F.seen files.old) (F.seen files.new)) }
+    ensures only_reads { OnlyReads (F.seen files.old) (F.seen files.new) }
+{
+    let built = match built_app(alloc, files, app, wanted) {
+        Ok(built) => built,
+        Err(named_fault) => return Err(named_fault),
+    };
+    match set_up(alloc, files, &built.image, script, devices) {
+        Ok(board) => Ok((board, built)),
+        Err(named_fault) => Err(named_fault),
+    }
+}
+
 /// The board at the start of the run of the application and the script under these names, with devices.
 pub fn prepare_go<F: Files>(
     alloc: Global,
@@ -110,8 +139,8 @@ pub fn prepare_go<F: Files>(
     ensures named_fault { (n : ℕ) (detail : Detail) → IfErr result (IsNamedFaultIn (map shown devices.items) (go_job app.now script.now n detail) (F.seen files.old) (F.seen files.new)) }
     ensures only_reads { OnlyReads (F.seen files.old) (F.seen files.new) }
 {
-    match built_image(alloc, files, app) {
-        Ok(picture) => set_up(alloc, files, &picture, script, devices),
+    match prepare_app(alloc, files, app, script, false, devices) {
+        Ok((board, _)) => Ok(board),
         Err(named_fault) => Err(named_fault),
     }
 }

@@ -12,6 +12,7 @@ use crate::auditing::audit_file;
 use crate::building::build_file;
 use crate::covering::cover_files;
 use crate::debugging::debug_files;
+use crate::drawing::picture_files;
 use crate::helping::help;
 use crate::listing::list_file;
 use crate::live::live_files;
@@ -23,6 +24,7 @@ use crate::saving::save_file;
 use crate::sweeping::sweep_files;
 use crate::telling::tell_usage;
 use crate::timeline::timeline_files;
+use crate::tracing::lcov_files;
 use command_line::{Job, Refusal, read_words};
 use devices::Device;
 use outside_io::{Files, Sink};
@@ -116,8 +118,9 @@ fn answer<F: Files, S: Sink>(
                 image,
                 script,
                 steps,
+                names,
             },
-        ) => timeline_files(alloc, image, script, steps, files, out, devices),
+        ) => timeline_files(alloc, image, script, steps, names, files, out, devices),
         Ok(
             Job::Live {
                 image,
@@ -125,6 +128,25 @@ fn answer<F: Files, S: Sink>(
                 commands,
             },
         ) => live_files(alloc, image, script, commands, files, out, devices),
+        Ok(
+            Job::Picture {
+                image,
+                script,
+                out: name,
+                steps,
+                names,
+            },
+        ) => picture_files(
+            alloc, image, script, name, steps, names, files, out, devices,
+        ),
+        Ok(
+            Job::Lcov {
+                app,
+                script,
+                out: name,
+                steps,
+            },
+        ) => lcov_files(alloc, app, script, name, steps, files, out, devices),
         Ok(Job::Help { about }) => help(about, out),
         Err(Refusal::NotAccepted) => tell_usage(out),
         Err(Refusal::Memory) => 5,
@@ -133,7 +155,7 @@ fn answer<F: Files, S: Sink>(
 
 /// All that the program does. The words, the program's name first, and the files are handed in, and
 /// the lines go to the sink, one push each; the answer is the program's exit status. The devices are those of a run of `run`,
-/// `go`, `save`, `resume`, `debug`, `cover`, `sweep`, `timeline` or `live`, as they are handed in: at most eight, to which nothing has come as yet, each at a place of its own.
+/// `go`, `save`, `resume`, `debug`, `cover`, `sweep`, `timeline`, `live`, `picture` or `lcov`, as they are handed in: at most eight, to which nothing has come as yet, each at a place of its own.
 /// `sample` runs without a device.
 ///
 /// - 0: the trace of the run (docs/FORMATS.md, Trace), with `--all` each of its instructions, with `--mem` its last
@@ -144,7 +166,8 @@ fn answer<F: Files, S: Sink>(
 ///   (docs/FORMATS.md, Commands), and the answer to each was written; or how often the run executed each instruction was written
 ///   (docs/FORMATS.md, Cover); or how the runs end into which the events of an arrival come was written (docs/FORMATS.md, Sweep), and
 ///   no arrival time makes a difference; or the run was written as events (docs/FORMATS.md, Timeline); or the lines that came were
-///   carried out, and the answer to each was written (docs/FORMATS.md, Live); or what the commands are, or what one of them takes and answers, was written.
+///   carried out, and the answer to each was written (docs/FORMATS.md, Live); or the picture of the run (docs/FORMATS.md, Picture), or how
+///   often it executed each line of its sources (docs/FORMATS.md, Tracefile), is under OUT, and its line was written; or what the commands are, or what one of them takes and answers, was written.
 /// - 1: a file is refused, and `refused <name> <cause> <place>` was written.
 /// - 2: the words are not accepted (docs/FORMATS.md, Command line), and the usage line was written.
 /// - 3: a file cannot be read, and `cannot read <name>` was written, behind the answers to the lines that came where it is the
@@ -164,12 +187,14 @@ pub fn hubris_main_with<F: Files, S: Sink>(
 ) -> u8
     requires fresh { AreFresh (map shown devices.items) }
 
-    // Where the words and the seen contents give a verdict (of accepted words and files: the trace of
-    // their run, the listing, the image that is built or migrated, the state that is saved, the trace from a saved state, the two lines of
-    // a sample, what an audit found, the answers to commands, how often each instruction was executed, the lines of a sweep, the events of a timeline, the answers to lines as they come, or what `help` says), its file was put, its whole text was pushed under its status; or the sink's count of faults rose, the status is 4, and a front of the text was
-    // pushed; or the count of failed puts rose, the status is 4, and nothing was pushed; or memory is
-    // short, the status is 5, and nothing was pushed or put; or the count of failed reads rose, and the
-    // same holds of the line of a file that cannot be read, behind what was told before.
+    // Where the words and the seen contents give a verdict (of accepted words and files: the trace of their run, the listing, the
+    // image that is built or migrated, the state that is saved, the trace from a saved state, the two lines of a sample, what an audit
+    // found, the answers to commands, how often each instruction was executed, the lines of a sweep, the events of a timeline, the
+    // answers to lines as they come, the picture of a run, how often each line was executed, or what `help` says), its file was put, its
+    // whole text was pushed under its status; or the sink's count of faults rose, the status is 4, and a front of the text was pushed; or
+    // the count of failed puts rose, the status is 4, and nothing was pushed; or memory is short, the status is 5, and nothing was pushed
+    // or put; or the count of failed reads rose, and the same holds of the line of a file that cannot be read, behind what was told
+    // before.
     ensures seen { AnswersEach (map shown devices.items) (texts_of words.now) (F.seen files.old) (F.seen files.new) (S.seen out.old) (S.seen out.new) result }
     ensures complete { ¬ Rose (F.seen files.old).read_faults (F.seen files.new).read_faults → ¬ Rose (F.seen files.old).put_faults (F.seen files.new).put_faults → ¬ Rose (S.seen out.old).faults (S.seen out.new).faults →
         (v : Verdict) → IsVerdict (map shown devices.items) (texts_of words.now) (F.seen files.old).contents v → IsComplete (F.seen files.old) (F.seen files.new) (S.seen out.old) (S.seen out.new) v result }
@@ -203,12 +228,14 @@ pub fn hubris_main<F: Files, S: Sink>(
     files: &mut F,
     out: &mut S,
 ) -> u8
-    // Where the words and the seen contents give a verdict (of accepted words and files: the trace of
-    // their run, the listing, the image that is built or migrated, the state that is saved, the trace from a saved state, the two lines of
-    // a sample, what an audit found, the answers to commands, how often each instruction was executed, the lines of a sweep, the events of a timeline, the answers to lines as they come, or what `help` says), its file was put, its whole text was pushed under its status; or the sink's count of faults rose, the status is 4, and a front of the text was
-    // pushed; or the count of failed puts rose, the status is 4, and nothing was pushed; or memory is
-    // short, the status is 5, and nothing was pushed or put; or the count of failed reads rose, and the
-    // same holds of the line of a file that cannot be read, behind what was told before.
+    // Where the words and the seen contents give a verdict (of accepted words and files: the trace of their run, the listing, the
+    // image that is built or migrated, the state that is saved, the trace from a saved state, the two lines of a sample, what an audit
+    // found, the answers to commands, how often each instruction was executed, the lines of a sweep, the events of a timeline, the
+    // answers to lines as they come, the picture of a run, how often each line was executed, or what `help` says), its file was put, its
+    // whole text was pushed under its status; or the sink's count of faults rose, the status is 4, and a front of the text was pushed; or
+    // the count of failed puts rose, the status is 4, and nothing was pushed; or memory is short, the status is 5, and nothing was pushed
+    // or put; or the count of failed reads rose, and the same holds of the line of a file that cannot be read, behind what was told
+    // before.
     ensures seen { AnswersEach [] (texts_of words.now) (F.seen files.old) (F.seen files.new) (S.seen out.old) (S.seen out.new) result }
     ensures complete { ¬ Rose (F.seen files.old).read_faults (F.seen files.new).read_faults → ¬ Rose (F.seen files.old).put_faults (F.seen files.new).put_faults → ¬ Rose (S.seen out.old).faults (S.seen out.new).faults →
         (v : Verdict) → IsVerdict [] (texts_of words.now) (F.seen files.old).contents v → IsComplete (F.seen files.old) (F.seen files.new) (S.seen out.old) (S.seen out.new) v result }

@@ -9,7 +9,8 @@ ghost use Rattle.trace_cli.specs.Answer.{Tells, AnswersJob};
 ghost use Rattle.trace_cli.specs.Verdict.{saved, saved_bytes};
 
 use crate::preparing::prepare_run;
-use crate::telling::{line_of_saved, tell, tell_named_fault};
+use crate::putting::put_told;
+use crate::telling::{line_of_saved, tell_named_fault};
 use board_core::{Board, Level};
 use board_run::{Nobody, play};
 use devices::Device;
@@ -46,10 +47,7 @@ fn put_state<F: Files, S: Sink>(
         Ok(line) => line,
         Err(_) => return 5,
     };
-    match files.put(name, bytes) {
-        Ok(()) => tell(line.as_bytes(), 0, out),
-        Err(_) => 4,
-    }
+    put_told(bytes, name, line.as_bytes(), files, out)
 }
 
 // Puts the last state of the run of a board from its start.

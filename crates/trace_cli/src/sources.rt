@@ -4,7 +4,7 @@ ghost use Rattle.app_toml.specs.Held.{app_of};
 ghost use Rattle.app_toml.specs.Reading.{read_app};
 ghost use Rattle.image_format.specs.Images.{picture};
 ghost use Rattle.run_script.specs.Events.{script_data};
-ghost use Rattle.trace_cli.specs.Contents.{file_limit, image_refusal, picture_of, script_refusal, script_of, app_refusal};
+ghost use Rattle.trace_cli.specs.Contents.{file_limit, image_refusal, picture_of, script_refusal, script_of, fault_in};
 ghost use Rattle.trace_cli.specs.Sources.{MayBe, OnlyReads};
 ghost use Rattle.trace_cli.specs.FileFaults.{IsFaultFor, CannotTake};
 
@@ -70,11 +70,11 @@ pub fn script_in(alloc: Global, bytes: &[u8]) -> Result<Script, FileFault>
     }
 }
 
-/// The application that the bytes of a file describe.
+/// The application that the bytes of a file describe, whatever it is wanted for.
 pub fn app_in(alloc: Global, bytes: &[u8]) -> Result<App, FileFault>
     requires { length bytes.now ≤ file_limit }
     ensures app { IfOk result (λ a. read_app bytes.now ≡ Ok (app_of a)) }
-    ensures file_fault { IfErr result (IsFaultFor (app_refusal bytes.now)) }
+    ensures file_fault { IfErr result (IsFaultFor (fault_in (read_app bytes.now))) }
 {
     match App::read(alloc, bytes) {
         Ok(app) => Ok(app),

@@ -2,7 +2,7 @@
 ghost use Rattle.std.specs.Prelude.{◌≡◌, [], IfOk, string_bytes};
 ghost use Rattle.image_format.specs.Images.{picture};
 ghost use Rattle.trace_cli.specs.Pushed.{Pushed, Says, SaysNamedFault};
-ghost use Rattle.trace_cli.specs.Verdict.{Verdict, usage, unread, refused, refused_front, refused_line, unread_line, built_line, saved_line, listed, listing_line, status_of};
+ghost use Rattle.trace_cli.specs.Verdict.{Verdict, usage, unread, refused, refused_front, refused_line, unread_line, built_line, saved_line, drawn_line, traced_line, listed, listing_line, status_of};
 
 use crate::file_faults::NamedFault;
 use board_core::End;
@@ -35,7 +35,7 @@ pub fn tell_usage<S: Sink>(out: &mut S) -> u8
     ensures { Says (S.seen out.old) (S.seen out.new) usage result }
 {
     tell(
-        "usage: hubris build, run, go, list, sample, migrate, audit, save, resume, debug, cover, sweep, timeline, live or help\n".as_bytes(),
+        "usage: hubris build, run, go, list, sample, migrate, audit, save, resume, debug, cover, sweep, timeline, live, picture, lcov or help\n".as_bytes(),
         2,
         out,
     )
@@ -119,6 +119,22 @@ pub fn line_of_saved(alloc: Global, bytes: usize) -> Result<String, AllocError>
     ensures { IfOk result (λ line. string_bytes line ≡ saved_line bytes) }
 {
     format!(in alloc; "saved {bytes} bytes\n")
+}
+
+/// The line of a picture of so many bytes that was put.
+#[tactic(auto, unfolding(crate::specs::Verdict::drawn_line))]
+pub fn line_of_drawn(alloc: Global, bytes: usize) -> Result<String, AllocError>
+    ensures { IfOk result (λ line. string_bytes line ≡ drawn_line bytes) }
+{
+    format!(in alloc; "drawn {bytes} bytes\n")
+}
+
+/// The line of a tracefile of so many bytes that was put.
+#[tactic(auto, unfolding(crate::specs::Verdict::traced_line))]
+pub fn line_of_traced(alloc: Global, bytes: usize) -> Result<String, AllocError>
+    ensures { IfOk result (λ line. string_bytes line ≡ traced_line bytes) }
+{
+    format!(in alloc; "traced {bytes} bytes\n")
 }
 
 /// What is told of a file that is not accepted.

@@ -1,78 +1,64 @@
 //! A run as a timeline, told.
-ghost use Rattle.std.specs.Prelude.{◌≡◌, ◌≤◌, IfOk, map, string_bytes};
+ghost use Rattle.std.specs.Prelude.{◌≡◌, ◌≤◌, length, map, option_map, string_bytes};
 ghost use Rattle.kernel_abi.specs.Devices.{AreFresh};
 ghost use Rattle.board_model.specs.Script.{Scenario, start_of};
 ghost use Rattle.board_core.specs.Data.{boxed};
-ghost use Rattle.board_core.specs.Stands.{Stands, Stood, turns_of};
+ghost use Rattle.board_core.specs.Stands.{Stands, Stood, count_of, turns_of};
 ghost use Rattle.command_line.specs.CommandLine.{timeline as timeline_job};
 ghost use Rattle.trace_cli.specs.Sources.{OnlyReads};
 ghost use Rattle.trace_cli.specs.Pushed.{Says};
-ghost use Rattle.trace_cli.specs.Verdict.{task_name, task_names, timed};
+ghost use Rattle.trace_cli.specs.Verdict.{timed};
 ghost use Rattle.trace_cli.specs.Answer.{AnswersJob};
 
-use crate::preparing::prepare_run;
+use crate::naming::prepare_named;
 use crate::telling::{status_by, tell_named_fault};
 use board_core::Board;
 use devices::Device;
 use outside_io::{Files, Sink};
 use run_lanes::{TimelineFault, write_timeline};
-use std::alloc::{AllocError, Global};
+use std::alloc::Global;
 
-// The name of a task of an image, which has none: its place.
-fn task_name(alloc: Global, i: usize) -> Result<String, AllocError>
-    ensures { IfOk result (λ name. string_bytes name ≡ task_name i) }
-{
-    let name = format!(in alloc; "task {i}")?;
-    Ok(name)
-}
-
-fn task_names(alloc: Global, tasks: usize) -> Result<Vec<String>, AllocError>
-    ensures { IfOk result (λ v. map string_bytes v.items ≡ task_names tasks) }
-{
-    let mut names = Vec::new(alloc);
-    for i in 0..tasks {
-        names.push(task_name(alloc, i)?)?;
-    }
-    Ok(names)
-}
-
-// The run of a board from its start as events.
-fn time_board<S: Sink>(alloc: Global, board: &mut Board, steps: u32, out: &mut S) -> u8
+// The run of a board from its start as events, of tasks with these names.
+fn time_board<S: Sink>(
+    alloc: Global,
+    board: &mut Board,
+    names: &[String],
+    steps: u32,
+    out: &mut S,
+) -> u8
     requires stood { Stood (boxed shown) board.old }
     requires fresh { turns_of board.old ≡ 0 }
     requires few { steps ≤ 1000000000 }
-    ensures { (x : Scenario) → Stands (boxed shown) x board.old (start_of x) → Says (S.seen out.old) (S.seen out.new) (timed steps x) result }
+    requires named { length names.now ≡ count_of board.old }
+    ensures { (x : Scenario) → Stands (boxed shown) x board.old (start_of x) → Says (S.seen out.old) (S.seen out.new) (timed steps (map string_bytes names.now) x) result }
 {
-    let names = match task_names(alloc, board.task_count()) {
-        Ok(names) => names,
-        Err(_) => return 5,
-    };
-    match write_timeline(alloc, board, steps, names.as_slice(), out) {
+    match write_timeline(alloc, board, steps, names, out) {
         Ok(end) => status_by(end),
         Err(TimelineFault::Memory) => 5,
         Err(TimelineFault::Failed) => 4,
     }
 }
 
-/// `timeline IMAGE SCRIPT --steps N`.
+/// `timeline IMAGE SCRIPT --steps N [--names APP]`.
 pub fn timeline_files<F: Files, S: Sink>(
     alloc: Global,
     image: &str,
     script: &str,
     steps: u32,
+    names: Option<&str>,
     files: &mut F,
     out: &mut S,
     devices: Vec<Box<dyn Device>>,
 ) -> u8
     requires fresh { AreFresh (map shown devices.items) }
     requires few { steps ≤ 1000000000 }
-    ensures answer { AnswersJob (map shown devices.items) (timeline_job image.now script.now steps) (F.seen files.old) (F.seen files.new) (S.seen out.old) (S.seen out.new) result }
+    ensures answer { AnswersJob (map shown devices.items) (timeline_job image.now script.now steps (option_map (λ n. n.now) names.entry)) (F.seen files.old) (F.seen files.new) (S.seen out.old) (S.seen out.new) result }
     ensures only_reads { OnlyReads (F.seen files.old) (F.seen files.new) }
 {
-    match prepare_run(alloc, files, image, script, devices) {
-        Ok(board) => {
+    match prepare_named(alloc, files, image, script, names, devices) {
+        Ok((board, names)) => {
             let mut board = board;
-            time_board(alloc, &mut board, steps, out)
+            time_board(alloc, &mut board, &names, steps, out)
         }
         Err(named_fault) => tell_named_fault(alloc, &named_fault, out),
     }

@@ -1,7 +1,7 @@
 use Rattle.std.proofs.Common.{◌≡◌, ◌∙◌, ap, subst}
 use Rattle.std.specs.Prelude.{IfOk}
 use Rattle.clap.specs.Simple.{App, app_of, with_subcommand}
-use Rattle.command_line.specs.CommandLine.{Form, build_form, run_form, go_form, list_form, sample_form, migrate_form, audit_form, save_form, resume_form, debug_form, cover_form, sweep_form, timeline_form, live_form, help_form, shape_of_form}
+use Rattle.command_line.specs.CommandLine.{Form, build_form, run_form, go_form, list_form, sample_form, migrate_form, audit_form, save_form, resume_form, debug_form, cover_form, sweep_form, timeline_form, live_form, picture_form, lcov_form, help_form, shape_of_form}
 use Rattle.command_line.proofs.definition.hubris_command.Goals as goal
 
 abbrev with_form : Form → App → App
@@ -23,5 +23,7 @@ returns c =
     let sweep = c.in_ok-hubris-12.ensures sweep_form c.sweep_command.ensures.shape c.sweep_command.ensures.local ∙ ap (with_form sweep_form) cover in
     let timeline = c.in_ok-hubris-13.ensures timeline_form c.timeline_command.ensures.shape c.timeline_command.ensures.local ∙ ap (with_form timeline_form) sweep in
     let live = c.in_ok-hubris-14.ensures live_form c.live_command.ensures.shape c.live_command.ensures.local ∙ ap (with_form live_form) timeline in
-    let help = c.with_command-15.ensures help_form c.help_command.ensures.shape c.help_command.ensures.local in
-    record { shape = subst (λ app. IfOk c.with_command-15.result (λ p. app_of p ≡ with_form help_form app)) live help }
+    let picture = c.in_ok-hubris-15.ensures picture_form c.picture_command.ensures.shape c.picture_command.ensures.local ∙ ap (with_form picture_form) live in
+    let lcov = c.in_ok-hubris-16.ensures lcov_form c.lcov_command.ensures.shape c.lcov_command.ensures.local ∙ ap (with_form lcov_form) picture in
+    let help = c.with_command-17.ensures help_form c.help_command.ensures.shape c.help_command.ensures.local in
+    record { shape = subst (λ app. IfOk c.with_command-17.result (λ p. app_of p ≡ with_form help_form app)) lcov help }

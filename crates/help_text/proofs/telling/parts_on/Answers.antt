@@ -61,3 +61,11 @@ returns-in-Timeline c = sym (ap parts_on c.in-Timeline.is)
 pub returns-in-Live : goal.returns-in-Live
 unfolding parts_on
 returns-in-Live c = sym (ap parts_on c.in-Live.is)
+
+pub returns-in-Picture : goal.returns-in-Picture
+unfolding parts_on
+returns-in-Picture c = sym (ap parts_on c.in-Picture.is)
+
+pub returns-in-Lcov : goal.returns-in-Lcov
+unfolding parts_on
+returns-in-Lcov c = sym (ap parts_on c.in-Lcov.is)

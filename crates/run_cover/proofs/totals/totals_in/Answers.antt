@@ -1,7 +1,6 @@
 use Rattle.std.proofs.Common.{◌≡◌, ◌+◌, ◌*◌, ◌^◌, ◌∙◌, ℕ, sym, subst, arith}
 use Rattle.run_cover.specs.declared.totals.Totals.{Totals}
-use Rattle.run_cover.specs.Counted.{count_of}
-use Rattle.run_cover.specs.Marked.{known_of}
+use Rattle.run_cover.specs.Covered.{covered}
 use Rattle.run_cover.specs.Totals.{AreAtMost, added, no_totals, totals_at, totals_in}
 use Rattle.run_cover.proofs.Adding.{fold_range, wider, most_added}
 use Rattle.run_cover.proofs.totals.totals_in.Goals as goal
@@ -20,19 +19,17 @@ pub loop-j-preserved : goal.loop-j-preserved
 unfolding totals_in
 loop-j-preserved g c = record {
   is = λ x s st.
-      let m = s.memory in
-      let n = count_of c.args.cover.now.counts in
-      let k = known_of c.args.cover.now.marks in
+      let v = covered s.memory c.args.cover.now in
       let j = c.loop-j.j in
       c.added-totals.ensures ∙ (λ i. added (c.loop-j.invariant.is x s st i) (c.totals_at.ensures.is x s st i))
-      ∙ sym (fold_range (λ (t : Totals) (i : ℕ). added t (totals_at m n k (c.args.base + 2 * i))) no_totals j);
+      ∙ sym (fold_range (λ (t : Totals) (i : ℕ). added t (totals_at v (c.args.base + 2 * i))) no_totals j);
   few = subst (λ (t : Totals). AreAtMost (2 * (c.loop-j.j + 1)) t) (sym c.added-totals.ensures) (most_added (2 * c.loop-j.j) 2 _ _ _ (omega arith) c.loop-j.invariant.few c.totals_at.ensures.few);
 }
 
 pub returns-clause-is : goal.returns-clause-is
 returns-clause-is g c = λ x s st.
     let all : c.loop-j.j ≡ c.args.count = omega (arith, c.loop-j.auto.j-end, c.loop-j-test.false) in
-    subst (λ (n : ℕ). c.loop-j.totals ≡ totals_in s.memory (count_of c.args.cover.now.counts) (known_of c.args.cover.now.marks) c.args.base n) all (c.loop-j.invariant.is x s st)
+    subst (λ (n : ℕ). c.loop-j.totals ≡ totals_in (covered s.memory c.args.cover.now) c.args.base n) all (c.loop-j.invariant.is x s st)
 
 pub returns-clause-few : goal.returns-clause-few
 returns-clause-few g c =

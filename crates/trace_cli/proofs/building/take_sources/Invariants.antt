@@ -10,6 +10,7 @@ abbrev pub invariant-loop-task : goal.invariant-loop-task
 invariant-loop-task g l = record {
   described : described l.builder ≡ app_of l.app;
   items : map task_of l.task-items ≡ (app_of l.app).tasks;
-  first : HasFirst (g.F.Files.seen l.fn.files).contents (app_of l.app) l.builder l.task-index;
+  first : HasFirst (g.F.Files.seen l.fn.files).contents (app_of l.app) l.builder l.lines l.task-index;
+  wanted : l.lines.wanted ≡ l.fn.lines.wanted;
   reads : OnlyReads (g.F.Files.seen l.fn.files) (g.F.Files.seen l.files);
 }

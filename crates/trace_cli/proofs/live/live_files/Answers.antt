@@ -1,5 +1,3 @@
-use Rattle.std.proofs.Common.{◌∙◌}
-use Rattle.board_model.specs.Script.{start_of}
 use Rattle.command_line.specs.CommandLine.{live}
 use Rattle.trace_cli.specs.Contents.{scenario_of}
 use Rattle.trace_cli.proofs.Living.{answers_live, takes_lines}

@@ -1,7 +1,6 @@
 use Rattle.std.proofs.Common.{◌∙◌, arith, refl}
 use Rattle.image_format.specs.Images.{picture}
 use Rattle.run_script.specs.Events.{script_data}
-use Rattle.board_core.specs.Opened as opened
 use Rattle.trace_cli.specs.declared.file_faults.NamedFault.TheVariants as named_faults
 use Rattle.trace_cli.proofs.Readying.{sweep_ready, script_there, arrival_there, sweep_image_faults, sweep_script_faults, sweep_arrival_faults}
 use Rattle.trace_cli.proofs.OnlyReading.{reads_more}

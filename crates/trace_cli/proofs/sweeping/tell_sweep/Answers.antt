@@ -1,6 +1,5 @@
-use Rattle.std.proofs.Common.{refl, ap, sym, ◌∙◌, cond}
-use Rattle.sweep_core.specs.Sweeping.{asked}
-use Rattle.trace_cli.specs.Pushed.{whole, cut}
+use Rattle.std.proofs.Common.{refl}
+use Rattle.trace_cli.specs.Pushed.{cut}
 use Rattle.trace_cli.proofs.sweeping.tell_sweep.Goals as goal
 
 pub returns-in-Err : goal.returns-in-Err

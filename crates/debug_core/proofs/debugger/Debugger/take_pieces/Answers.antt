@@ -1,7 +1,9 @@
 use Rattle.std.proofs.Common.{◌≡◌, ◌∙◌, ◌+◌, ◌++◌, ◌<◌, ◌≤◌, [], List, ℕ, length, refl, sym, ap, subst, arith, take, drop}
 use Rattle.std.proofs.lemmas.List.{length-append, length-drop, length-take, take-append-le}
 use Rattle.outside_io.specs.Outside.{IsPart, WhereSeen}
-use Rattle.debug_core.proofs.Taking.{IsRead, read_begun, read_end, read_most, read_none, read_on, read_within}
+use Rattle.debug_core.specs.Live.{begun_text}
+use Rattle.debug_core.proofs.OnlyReading.{none_read, reads_more}
+use Rattle.debug_core.proofs.Taking.{IsRead, given_all, given_end, given_more, given_none, given_same, read_begun, read_end, read_most, read_none, read_on, read_within}
 use Rattle.debug_core.proofs.Telling.{amid_begun, amid_none}
 use Rattle.debug_core.proofs.debugger.Debugger.take_pieces.Goals as goal
 
@@ -10,14 +12,19 @@ pieces-init g c = record {
   most = omega arith;
   room = refl;
   amid = λ x s h. ([], read_none _, amid_none _ x s _ _ _ h c.requires.none);
+  given = given_none _;
   later = omega arith;
-  only_reads = record { later = omega arith; grown = omega arith; contents = refl; puts = refl };
+  only_reads = none_read _;
 }
 
 pub returns-in_default-clause-unread : goal.returns-in_default-clause-unread
 returns-in_default-clause-unread g c = λ x s h e.
     let i = c.pieces.invariant.amid x s h in
-    record { front = i.0; begun = read_begun _ _ _ i.1; told = amid_begun _ x s i.0 _ _ _ _ i.2 }
+    record {
+      text = begun_text x s i.0;
+      begun = record { front = i.0; held = read_begun _ _ _ i.1; given = given_all _ _ _ _ _ i.1 (given_same _ _ _ _ c.pieces.invariant.given c.in_default.ensures.count); is = refl };
+      told = amid_begun _ x s i.0 _ _ _ _ i.2;
+    }
 
 pub returns-then-count-eq0-clause-amid : goal.returns-then-count-eq0-clause-amid
 returns-then-count-eq0-clause-amid g c = λ x s h.
@@ -27,7 +34,12 @@ returns-then-count-eq0-clause-amid g c = λ x s h.
     let part : WhereSeen ((g.F.Files.seen c.args.files.now).contents c.args.name.now) (λ all. IsPart all c.pieces.place 0 c.read.new.buf) = λ all seen.
     let contents = ap (λ (t : List ℕ → _). t c.args.name.now) c.pieces.invariant.only_reads.contents ∙ seen in
     subst (λ (n : ℕ). IsPart all c.pieces.place n c.read.new.buf) none (c.in-Ok.ensures.bytes.1 all contents) in
-    (i.0, read_end _ c.pieces.place i.0 c.read.new.buf c.pieces.invariant.most room i.1 part, i.2)
+    record {
+      text = i.0;
+      taken = read_end _ c.pieces.place i.0 c.read.new.buf c.pieces.invariant.most room i.1 part;
+      given = given_all _ _ _ _ i.0 i.1 (given_end _ _ _ _ c.in-Ok.count c.pieces.invariant.given c.in-Ok.ensures.count none);
+      amid = i.2;
+    }
 
 pub take_piece-requires : goal.take_piece-requires
 take_piece-requires g c =
@@ -65,16 +77,12 @@ pieces-preserved g c =
           let read = subst (λ (t : List ℕ). IsRead contents (c.pieces.place + count) (i.0 ++ t)) same (read_on contents c.pieces.place count i.0 c.read.new.buf within i.1 part) in
           (_, read, c.in-Ok-take_piece.ensures.amid x s i.0 _ i.2);
       later = omega (arith, c.pieces.invariant.later, c.in-Ok-take_piece.ensures.cause.later);
-      only_reads = record {
-        later = omega (arith, c.pieces.invariant.only_reads.later, c.in-Ok.ensures.cause.later);
-        grown = omega (arith, c.pieces.invariant.only_reads.grown, c.in-Ok.ensures.grown);
-        contents = c.in-Ok.ensures.contents ∙ c.pieces.invariant.only_reads.contents;
-        puts = c.in-Ok.ensures.puts ∙ c.pieces.invariant.only_reads.puts;
-      };
+      given = given_more _ _ _ c.pieces.place count c.pieces.invariant.given c.in-Ok.ensures.count;
+      only_reads = reads_more c.pieces.invariant.only_reads (record { later = c.in-Ok.ensures.cause.later; grown = c.in-Ok.ensures.grown; contents = c.in-Ok.ensures.contents; puts = c.in-Ok.ensures.puts });
     }
 
 pub returns-clause-amid : goal.returns-clause-amid
 returns-clause-amid g c = λ x s h.
     let i = c.pieces.invariant.amid x s h in
     let all : c.pieces.place ≡ 4294967295 = omega (arith, c.pieces.invariant.most, c.pieces-test.false) in
-    (i.0, read_most _ c.pieces.place i.0 all i.1, i.2)
+    record { text = i.0; taken = read_most _ c.pieces.place i.0 all i.1; given = given_all _ _ _ _ i.0 i.1 c.pieces.invariant.given; amid = i.2 }

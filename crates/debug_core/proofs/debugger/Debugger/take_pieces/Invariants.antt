@@ -1,7 +1,7 @@
 use Rattle.std.proofs.Common.{◌≡◌, ◌≤◌, ◌-◌, length, List, ℕ}
 use Rattle.board_model.specs.Script.{Scenario}
 use Rattle.board_core.specs.Data.{boxed}
-use Rattle.debug_core.specs.Live.{OnlyReads}
+use Rattle.debug_core.specs.Live.{HasGiven, OnlyReads}
 use Rattle.debug_core.specs.Session.{Session}
 use Rattle.debug_core.specs.Sessions.{IsSession}
 use Rattle.debug_core.specs.UnderWay.{IsAmid}
@@ -16,6 +16,7 @@ invariant-pieces g l =
       room : length l.buf ≡ 4096;
       amid : (x : Scenario) (s : Session) → IsSession shown x l.fn.self s
           → (text : List ℕ) × IsRead ((g.F.Files.seen l.fn.files).contents l.name) l.place text × IsAmid shown x s text (g.S.Sink.seen l.fn.out).written (g.S.Sink.seen l.out).written l.self l.under_way;
+      given : HasGiven (g.F.Files.seen l.fn.files).given (g.F.Files.seen l.files).given l.place;
       later : (g.S.Sink.seen l.fn.out).faults ≤ (g.S.Sink.seen l.out).faults;
       only_reads : OnlyReads (g.F.Files.seen l.fn.files) (g.F.Files.seen l.files);
     }

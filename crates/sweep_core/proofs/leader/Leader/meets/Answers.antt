@@ -24,7 +24,7 @@ returns-clause-passed g c = λ no x s st.
     ]
 
 pub returns-clause-missed : goal.returns-clause-missed
-returns-clause-missed g c = λ no at x s st long.
-    let bytes = (c.save.ensures.spelled x s st).is in
+returns-clause-missed g c = λ no x s h.
+    let bytes = (c.save.ensures.spelled x s h.stands).is in
     let P : List ℕ → Type 0 = λ b. HasNone c.args.heard.now b c.args.self.now.led in
     subst P (c.as_slice.ensures.value ∙ bytes) (c.has.ensures.none c.if-has.false)

@@ -1,0 +1,19 @@
+use Rattle.lane_picture.specs.Drawing.{words_text}
+use Rattle.lane_picture.proofs.Pieces.{ended, grown, numbered}
+use Rattle.lane_picture.proofs.lanes.push_words.Goals as goal
+
+pub returns : goal.returns
+unfolding words_text
+returns c =
+    let o = c.args.out.now.items in
+    let to_2 = numbered o _ _ _ _ _ c.in_ok-push_text.ensures c.in_ok-push_decimal.ensures c.lane_words-line.ensures in
+    let to_3 = grown o _ _ _ _ to_2 c.in_ok-push_text-2.ensures in
+    let to_4 = grown o _ _ _ _ to_3 c.in_ok-push_name.ensures in
+    let to_5 = grown o _ _ _ _ to_4 c.in_ok-push_text-3.ensures in
+    let to_6 = numbered o _ _ _ _ _ to_5 c.in_ok-push_decimal-2.ensures c.from.ensures in
+    let to_7 = grown o _ _ _ _ to_6 c.in_ok-push_text-4.ensures in
+    let to_8 = numbered o _ _ _ _ _ to_7 c.in_ok-push_decimal-3.ensures c.lane_words-line.ensures in
+    let to_9 = grown o _ _ _ _ to_8 c.in_ok-push_text-5.ensures in
+    let to_10 = grown o _ _ _ _ to_9 (rw c.running.ensures.is at c.in_ok-push_share.ensures) in
+    let to_11 = grown o _ _ _ _ to_10 c.in_ok-push_calls_at.ensures in
+    ended _ o _ _ _ _ to_11 c.push_text-6.ensures

@@ -1,0 +1,17 @@
+//! A picture of lanes as SVG (docs/FORMATS.md, Picture), of what was counted before: what each of some tasks did in each column of
+//! turns, the arrows of calls, and what is told of them in words.
+#![tactic(auto)]
+
+mod arrows;
+mod drawing;
+mod events;
+mod heading;
+mod lanes;
+mod names;
+mod outside;
+mod parts;
+mod sizes;
+mod text;
+
+pub use drawing::draw;
+pub use parts::{Arrow, Asked, Calls, Cell, Longest, Picture, Way};

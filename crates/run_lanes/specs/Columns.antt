@@ -1,0 +1,71 @@
+-- The columns of a picture (docs/FORMATS.md, Picture; this project's own): as many turns each as the least power of two of which 1,200
+-- are all turns of the run.
+use Rattle.std.specs.Prelude.{ℕ, zero, suc, ◌+◌, ◌-◌, ◌*◌, ◌/◌, ◌==◌, Bool, true, false, nat_le, if◌then◌else◌, List, [], ◌∷◌, length, map, take, drop, count_by}
+use Rattle.std.specs.List.{flat_map, list_any, range_with_len}
+use Rattle.kernel_abi.specs.declared.Note.{Note}
+use Rattle.kernel_abi.specs.declared.Note.TheVariants as note
+use Rattle.lane_picture.specs.declared.parts.Cell.{Cell}
+use Rattle.run_lanes.specs.declared.word.Word.{Word}
+use Rattle.run_lanes.specs.declared.word.Word.TheVariants as word
+use Rattle.run_lanes.specs.Timeline.{word_at}
+use Rattle.run_lanes.specs.Words.{Sight, is_same}
+
+-- the most columns
+abbrev pub most_columns : ℕ
+most_columns = 1200
+
+-- the first one of p, 2 p, 4 p .. of which the most columns are at least so many turns
+unfoldable pub doubled_until : ℕ → ℕ → ℕ → ℕ
+doubled_until zero p turns = p
+doubled_until (suc more) p turns = if nat_le turns (most_columns * p) then p else doubled_until more (2 * p) turns
+
+-- how many turns a column has, where there are so many in all
+abbrev pub column_turns : ℕ → ℕ
+column_turns turns = doubled_until 20 1 turns
+
+-- how many columns there are then: the last one may have fewer turns
+abbrev pub columns : ℕ → ℕ
+columns turns = (turns + column_turns turns - 1) / column_turns turns
+
+-- the turns of the k-th column
+abbrev pub column : List Sight → ℕ → List Sight
+column turns k = take (column_turns (length turns)) (drop (k * column_turns (length turns)) turns)
+
+-- the words in their order
+abbrev pub words : List Word
+words = word.Runs ∷ word.Ready ∷ word.Offers ∷ word.Awaits ∷ word.Listens ∷ word.Faulted ∷ word.Stopped ∷ []
+
+-- in how many of some turns a task has a word
+abbrev pub turns_with : ℕ → List Sight → Word → ℕ
+turns_with i turns w = count_by (λ t. is_same (word_at t.words i) w) turns
+
+-- in one of them something like this is noted
+abbrev pub is_noted : (Note → Bool) → List Sight → Bool
+is_noted is turns = list_any (λ t. list_any is t.notes) turns
+
+abbrev pub is_fault_of : ℕ → Note → Bool
+is_fault_of i (note.Fault task fault) = task == i
+is_fault_of i _ = false
+
+abbrev pub is_birth_of : ℕ → Note → Bool
+is_birth_of i (note.Restart task generation) = task == i
+is_birth_of i _ = false
+
+-- what a task does in some turns, and what befalls it
+abbrev pub cell_of : List Sight → ℕ → Cell
+cell_of turns i = record { words = map (turns_with i turns) words; faulted = is_noted (is_fault_of i) turns; born = is_noted (is_birth_of i) turns }
+
+-- the cells of so many tasks, of each column one behind the other
+abbrev pub cells : ℕ → List Sight → List Cell
+cells tasks turns = flat_map (λ k. map (cell_of (column turns k)) (range_with_len 0 tasks)) (range_with_len 0 (columns (length turns)))
+
+abbrev pub is_outside : Note → Bool
+is_outside (note.Tick now) = true
+is_outside (note.Irq line handled) = true
+is_outside (note.In device byte fed) = true
+is_outside (note.Out device byte) = true
+is_outside _ = false
+
+-- in how many turns of each column something came from outside
+abbrev pub outside : List Sight → List ℕ
+outside turns = map (λ k. count_by (λ t. list_any is_outside t.notes) (column turns k)) (range_with_len 0 (columns (length turns)))

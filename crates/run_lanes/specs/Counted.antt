@@ -1,0 +1,55 @@
+-- The cells of a column, as turns are counted in it and as neighbours become one.
+use Rattle.std.specs.Prelude.{◌≡◌, ◌≤◌, ◌<◌, ℕ, ◌+◌, ◌-◌, ◌*◌, ◌^◌, ◌||◌, Bool, List, length, map, take, drop, min, count_by, slice_index_or, slice_set}
+use Rattle.std.specs.List.{list_any, range_with_len}
+use Rattle.kernel_abi.specs.declared.Note.{Note}
+use Rattle.lane_picture.specs.declared.parts.Cell.{Cell}
+use Rattle.run_lanes.specs.declared.word.Word.{Word}
+use Rattle.run_lanes.specs.Columns.{cell_of, is_birth_of, is_fault_of, is_outside, most_columns}
+use Rattle.run_lanes.specs.Timeline.{word_at}
+use Rattle.run_lanes.specs.Words.{Sight, word_number}
+
+-- the turns of the k-th column where each has so many
+abbrev pub column_by : ℕ → List Sight → ℕ → List Sight
+column_by width turns k = take width (drop (k * width) turns)
+
+-- two counts, as far as a number of 32 bits says it
+abbrev pub both : ℕ → ℕ → ℕ
+both a b = min (a + b) (2 ^ 32 - 1)
+
+-- two columns one behind the other
+abbrev pub joined : Cell → Cell → Cell
+joined a b = record {
+  words = map (λ w. both (slice_index_or a.words w 0) (slice_index_or b.words w 0)) (range_with_len 0 7);
+  faulted = a.faulted || b.faulted;
+  born = a.born || b.born;
+}
+
+-- a turn more, in which a task does this
+abbrev pub counted : Cell → Word → Cell
+counted c w = record { words = slice_set c.words (word_number w) (both (slice_index_or c.words (word_number w) 0) 1); faulted = c.faulted; born = c.born }
+
+-- with these notes
+abbrev pub marked : List Note → ℕ → Cell → Cell
+marked notes i c = record { words = c.words; faulted = c.faulted || list_any (is_fault_of i) notes; born = c.born || list_any (is_birth_of i) notes }
+
+-- a turn more of the i-th task
+abbrev pub turned : List Word → List Note → ℕ → Cell → Cell
+turned words notes i c = marked notes i (counted c (word_at words i))
+
+-- so many cells from one on are made of what they were, and the others stay
+pub record Changed (old new : List Cell) (at many : ℕ) (f : ℕ → Cell → Cell) : Type 0 where
+  pub as_many : length new ≡ length old
+  pub made : (i : ℕ) (d : Cell) → i < many → slice_index_or new (at + i) d ≡ f i (slice_index_or old (at + i) d)
+  pub before : (j : ℕ) (d : Cell) → j < at → slice_index_or new j d ≡ slice_index_or old j d
+  pub behind : (j : ℕ) (d : Cell) → at + many ≤ j → slice_index_or new j d ≡ slice_index_or old j d
+
+-- something comes from outside in a turn
+abbrev pub comes_from_outside : Sight → Bool
+comes_from_outside t = list_any is_outside t.notes
+
+-- cells are those of the columns of so many turns each
+abbrev pub CellsOf : ℕ → ℕ → List Sight → List Cell → Type 0
+CellsOf width tasks turns cells = (k i : ℕ) (d : Cell) → k < most_columns → i < tasks → slice_index_or cells (k * tasks + i) d ≡ cell_of (column_by width turns k) i
+
+abbrev pub OutsideOf : ℕ → List Sight → List ℕ → Type 0
+OutsideOf width turns outside = (k d : ℕ) → k < most_columns → slice_index_or outside k d ≡ count_by comes_from_outside (column_by width turns k)

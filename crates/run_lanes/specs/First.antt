@@ -1,0 +1,12 @@
+-- The first ones of what comes one by one, and how many came.
+use Rattle.std.specs.Prelude.{◌≡◌, ℕ, ◌-◌, ◌^◌, List, length, min, take}
+
+-- how many there are, as far as a number of 64 bits says it
+abbrev pub counted : {T : Type 0} → List T → ℕ
+counted xs = min (length xs) (2 ^ 64 - 1)
+
+-- of all of these the first ones are kept, as many as there is memory for
+pub record IsFirst {T : Type 0} (most : ℕ) (kept : List T) (capacity all : ℕ) (xs : List T) : Type 0 where
+  pub first : kept ≡ take most xs
+  pub room : capacity ≡ most
+  pub many : all ≡ counted xs

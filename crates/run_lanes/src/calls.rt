@@ -1,0 +1,164 @@
+//! The calls of tasks, and the arrows between lanes (docs/FORMATS.md, Picture).
+ghost use Rattle.std.specs.Prelude.{◌≡◌, ◌≤◌, length, option_to_list};
+ghost use Rattle.run_lanes.specs.Told.{arrows_of, by, calls_after, client_of, closed, closed_arrow, has_asked, longer, offered};
+
+use kernel_abi::{Ending, Note};
+use lane_picture::{Arrow, Asked, Calls, Longest, Way};
+
+/// Nothing is offered yet.
+pub const NO_CALLS: Calls = Calls {
+    count: 0,
+    asked: None,
+    longest: None,
+};
+
+// The call that a task has open is this one.
+fn has_asked(call: u32, asked: &Option<Asked>) -> bool
+    ensures { result ≡ has_asked call asked.now }
+{
+    match asked {
+        Some(asked) => asked.call == call,
+        None => false,
+    }
+}
+
+// A call, and the index of its client.
+fn by(client: u16, asked: Option<Asked>) -> Option<(u16, Asked)>
+    ensures { result ≡ by client asked }
+{
+    match asked {
+        Some(asked) => Some((client, asked)),
+        None => None,
+    }
+}
+
+// The first task that has the call open, and the call.
+fn client_of(calls: &[Calls], call: u32) -> Option<(u16, Asked)>
+    requires few { length calls.now ≤ 65536 }
+    ensures { result ≡ client_of call 0 calls.now }
+{
+    for (i, c) in calls.iter().enumerate() {
+        if has_asked(call, &c.asked) {
+            return by(i as u16, c.asked);
+        }
+    }
+    None
+}
+
+// The first of the longest ones.
+fn longer(longest: Option<Longest>, other: Longest) -> Longest
+    ensures { result ≡ longer longest other }
+{
+    match longest {
+        None => other,
+        Some(longest) => {
+            if longest.turns < other.turns {
+                other
+            } else {
+                longest
+            }
+        }
+    }
+}
+
+// A task offers one more.
+fn offered(call: u32, server: u16, turn: u32, calls: &Calls) -> Calls
+    ensures { result ≡ offered call server turn calls.now }
+{
+    Calls {
+        count: calls.count.saturating_add(1),
+        asked: Some(Asked {
+            call,
+            server,
+            since: turn,
+        }),
+        longest: calls.longest,
+    }
+}
+
+// The one that it had open is closed.
+fn closed(turn: u32, asked: &Asked, calls: &Calls) -> Calls
+    ensures { result ≡ closed turn asked.now calls.now }
+{
+    let last = Longest {
+        server: asked.server,
+        from: asked.since,
+        turns: turn.saturating_sub(asked.since),
+    };
+    Calls {
+        count: calls.count,
+        asked: None,
+        longest: Some(longer(calls.longest, last)),
+    }
+}
+
+/// The calls after a note of a turn.
+pub fn renew(turn: u32, note: &Note, calls: &mut [Calls])
+    requires few { length calls.old ≤ 65536 }
+    ensures { calls.new ≡ calls_after turn calls.old note.now }
+{
+    match note {
+        Note::Offer {
+            call,
+            client,
+            server,
+        } => {
+            let i = usize::from(*client);
+            if i < calls.len() {
+                calls[i] = offered(*call, *server, turn, &calls[i]);
+            }
+        }
+        Note::Close { call, .. } => match client_of(calls, *call) {
+            Some((client, asked)) => {
+                let i = usize::from(client);
+                if i < calls.len() {
+                    calls[i] = closed(turn, &asked, &calls[i]);
+                }
+            }
+            None => {}
+        },
+        _ => {}
+    }
+}
+
+// From the server of a call that is closed back to its client; none where the client ended it.
+fn closed_arrow(turn: u32, ending: Ending, client: u16, asked: &Asked) -> Option<Arrow>
+    ensures { option_to_list result ≡ closed_arrow turn ending (client, asked.now) }
+{
+    let way = match ending {
+        Ending::Reply => Way::Answer,
+        Ending::ReplyFault | Ending::Restart => Way::Break,
+        Ending::Client => return None,
+    };
+    Some(Arrow {
+        way,
+        from: asked.server,
+        at: turn,
+        to: client,
+        until: turn,
+    })
+}
+
+/// The arrow of a note of a turn, if it has one: of a call that is taken, from the turn of its offer on, and of one that is closed.
+pub fn arrow_of(turn: u32, calls: &[Calls], note: &Note) -> Option<Arrow>
+    requires few { length calls.now ≤ 65536 }
+    ensures { option_to_list result ≡ arrows_of turn calls.now note.now }
+{
+    match note {
+        Note::Take { call, .. } => match client_of(calls, *call) {
+            Some((client, asked)) => Some(Arrow {
+                way: Way::Call,
+                from: client,
+                at: asked.since,
+                to: asked.server,
+                until: turn,
+            }),
+            None => None,
+        },
+        Note::Close { call, ending } => match client_of(calls, *call) {
+            Some((client, asked)) => closed_arrow(turn, *ending, client, &asked),
+            None => None,
+        },
+        _ => None,
+    }
+}

@@ -1,0 +1,184 @@
+//! The cells of columns of turns, one column behind the other (docs/FORMATS.md, Picture): a turn more, and neighbours that become one.
+ghost use Rattle.std.specs.Prelude.{◌≡◌, ◌≤◌, ◌<◌, ◌+◌, ◌*◌, ℕ, ◌∷◌, [], length, map, slice_index_or};
+ghost use Rattle.std.specs.List.{list_any, range_with_len};
+ghost use Rattle.lane_picture.specs.declared.parts.Cell.{Cell as ACell};
+ghost use Rattle.lane_picture.specs.Sizes.{no_cell};
+ghost use Rattle.run_lanes.specs.Columns.{is_outside, most_columns};
+ghost use Rattle.run_lanes.specs.Counted.{Changed, both, counted, joined, marked, turned};
+ghost use Rattle.run_lanes.specs.Timeline.{word_at};
+
+use crate::lanes::word_at;
+use crate::word::Word;
+use kernel_abi::Note;
+use lane_picture::Cell;
+
+/// There is memory for so many.
+pub const MOST_COLUMNS: usize = 1200;
+
+/// A column in which there is no turn.
+pub const NO_CELL: Cell = Cell {
+    words: [0; 7],
+    faulted: false,
+    born: false,
+};
+
+// Each count and the one of its kind.
+fn add_counts(counts: &mut [u32], more: &[u32])
+    requires { length more.now ≡ length counts.old }
+    ensures { counts.new ≡ map (λ w. both (slice_index_or counts.old w 0) (slice_index_or more.now w 0)) (range_with_len 0 (length counts.old)) }
+{
+    for w in 0..counts.len() {
+        counts[w] = counts[w].saturating_add(more[w]);
+    }
+}
+
+// Two columns one behind the other.
+fn joined(first: &Cell, second: &Cell) -> Cell
+    ensures { result ≡ joined first.now second.now }
+{
+    let mut words = first.words;
+    add_counts(&mut words, &second.words);
+    Cell {
+        words,
+        faulted: first.faulted | second.faulted,
+        born: first.born | second.born,
+    }
+}
+
+// A turn more, in which a task does this.
+fn count(cell: &mut Cell, word: Word)
+    ensures { cell.new ≡ counted cell.old word }
+{
+    let w = usize::from(word.number());
+    cell.words[w] = cell.words[w].saturating_add(1);
+}
+
+// What each task does in a turn more of the column that begins at a cell.
+fn count_words(cells: &mut [Cell], at: usize, tasks: usize, words: &[Word])
+    requires room { at + tasks ≤ length cells.old }
+    ensures { Changed cells.old cells.new at tasks (λ i c. counted c (word_at words.now i)) }
+{
+    for i in 0..tasks {
+        count(&mut cells[at + i], word_at(words, i));
+    }
+}
+
+// A note of a turn in that column.
+fn mark(cells: &mut [Cell], at: usize, tasks: usize, note: &Note)
+    requires room { at + tasks ≤ length cells.old }
+    ensures { Changed cells.old cells.new at tasks (λ i c. marked (note.now ∷ []) i c) }
+{
+    match note {
+        Note::Fault { task, .. } => {
+            let i = usize::from(*task);
+            if i < tasks {
+                cells[at + i].faulted = true;
+            }
+        }
+        Note::Restart { task, .. } => {
+            let i = usize::from(*task);
+            if i < tasks {
+                cells[at + i].born = true;
+            }
+        }
+        _ => {}
+    }
+}
+
+// The notes of a turn in that column.
+fn mark_all(cells: &mut [Cell], at: usize, tasks: usize, notes: &[Note])
+    requires room { at + tasks ≤ length cells.old }
+    ensures { Changed cells.old cells.new at tasks (λ i c. marked notes.now i c) }
+{
+    for note in notes {
+        mark(cells, at, tasks, note);
+    }
+}
+
+/// A turn more in the column that begins at a cell, with what each task does in it and the notes of it.
+pub fn add_turn(cells: &mut [Cell], at: usize, tasks: usize, words: &[Word], notes: &[Note])
+    requires room { at + tasks ≤ length cells.old }
+    ensures { Changed cells.old cells.new at tasks (turned words.now notes.now) }
+{
+    count_words(cells, at, tasks, words);
+    mark_all(cells, at, tasks, notes);
+}
+
+// It comes from outside.
+fn is_outside(note: &Note) -> bool
+    ensures { result ≡ is_outside note.now }
+{
+    match note {
+        Note::Tick { .. } | Note::Irq { .. } | Note::In { .. } | Note::Out { .. } => true,
+        _ => false,
+    }
+}
+
+/// With these notes of a turn, something came from outside in it.
+pub fn comes_from_outside(notes: &[Note]) -> bool
+    ensures { result ≡ list_any is_outside notes.now }
+{
+    notes.iter().any(is_outside)
+}
+
+// The column that begins at a cell becomes the one from another cell on and the next one behind it.
+fn join_columns(cells: &mut [Cell], at: usize, from: usize, tasks: usize)
+    requires order { at ≤ from }
+    requires room { from + tasks + tasks ≤ length cells.old }
+    ensures { Changed cells.old cells.new at tasks
+        (λ i _. joined (slice_index_or cells.old (from + i) no_cell) (slice_index_or cells.old (from + tasks + i) no_cell)) }
+{
+    for i in 0..tasks {
+        cells[at + i] = joined(&cells[from + i], &cells[from + tasks + i]);
+    }
+}
+
+// No turns from a cell on.
+fn clear(cells: &mut [Cell], from: usize)
+    ensures as_many { length cells.new ≡ length cells.old }
+    ensures before { (j : ℕ) (d : ACell) → j < from → slice_index_or cells.new j d ≡ slice_index_or cells.old j d }
+    ensures rest { (j : ℕ) (d : ACell) → from ≤ j → j < length cells.old → slice_index_or cells.new j d ≡ no_cell }
+{
+    for j in from..cells.len() {
+        cells[j] = NO_CELL;
+    }
+}
+
+// Neighbouring columns become one, in the first half of the memory.
+fn join_all(cells: &mut [Cell], tasks: usize)
+    requires room { length cells.old ≡ most_columns * tasks }
+    ensures as_many { length cells.new ≡ length cells.old }
+    ensures made { (k i : ℕ) (d : ACell) → k < 600 → i < tasks → slice_index_or cells.new (k * tasks + i) d
+        ≡ joined (slice_index_or cells.old (2 * k * tasks + i) no_cell) (slice_index_or cells.old (2 * k * tasks + tasks + i) no_cell) }
+{
+    for k in 0..MOST_COLUMNS / 2 {
+        join_columns(cells, k * tasks, 2 * k * tasks, tasks);
+    }
+}
+
+/// Neighbouring columns become one, and behind them there are no turns.
+pub fn halve(cells: &mut [Cell], tasks: usize)
+    requires room { length cells.old ≡ most_columns * tasks }
+    ensures as_many { length cells.new ≡ length cells.old }
+    ensures made { (k i : ℕ) (d : ACell) → k < 600 → i < tasks → slice_index_or cells.new (k * tasks + i) d
+        ≡ joined (slice_index_or cells.old (2 * k * tasks + i) no_cell) (slice_index_or cells.old (2 * k * tasks + tasks + i) no_cell) }
+    ensures rest { (j : ℕ) (d : ACell) → 600 * tasks ≤ j → j < length cells.old → slice_index_or cells.new j d ≡ no_cell }
+{
+    join_all(cells, tasks);
+    clear(cells, MOST_COLUMNS / 2 * tasks);
+}
+
+/// The same of the numbers of turns in which something came from outside.
+pub fn halve_outside(outside: &mut [u32])
+    requires room { length outside.old ≡ most_columns }
+    ensures as_many { length outside.new ≡ length outside.old }
+    ensures made { (k d : ℕ) → k < 600 → slice_index_or outside.new k d ≡ both (slice_index_or outside.old (2 * k) 0) (slice_index_or outside.old (2 * k + 1) 0) }
+    ensures rest { (k d : ℕ) → 600 ≤ k → k < 1200 → slice_index_or outside.new k d ≡ 0 }
+{
+    for k in 0..MOST_COLUMNS / 2 {
+        outside[k] = outside[2 * k].saturating_add(outside[2 * k + 1]);
+    }
+    for k in MOST_COLUMNS / 2..MOST_COLUMNS {
+        outside[k] = 0;
+    }
+}

@@ -1,0 +1,166 @@
+//! What each task does in each column of turns (docs/FORMATS.md, Picture). Memory is taken once: where the 1,201st column would
+//! begin, neighbouring columns become one, in place.
+ghost use Rattle.std.specs.Prelude.{◌≡◌, ◌≤◌, ◌<◌, ◌*◌, vec_len};
+
+use crate::cells::{MOST_COLUMNS, NO_CELL, add_turn, comes_from_outside, halve, halve_outside};
+use crate::word::Word;
+use kernel_abi::Note;
+use lane_picture::Cell;
+use std::alloc::{AllocError, Global};
+
+/// The cells of so many tasks in each column, and in how many of its turns something came from outside.
+#[derive(Drop)]
+pub struct Columns {
+    pub tasks: usize,
+    /// How many turns a column has.
+    pub width: u32,
+    /// The column of the next turn, and how many turns are in it.
+    pub column: usize,
+    pub inside: u32,
+    pub cells: Vec<Cell>,
+    pub outside: Vec<u32>,
+    ghost cell_each: { vec_len cells ≡ 1200 * tasks },
+    ghost outside_each: { vec_len outside ≡ 1200 },
+    ghost there: { column ≤ 1200 },
+    ghost more: { inside < width },
+}
+
+impl Columns {
+    ghost use Rattle.std.specs.Prelude.{ℕ, ◌+◌, List, [], ◌∷◌, ◌++◌, IfOk, if◌then◌else◌, length, slice_index_or, slice_set};
+    ghost use Rattle.std.specs.List.{list_any};
+    ghost use Rattle.run_lanes.specs.Columned.{Columned};
+    ghost use Rattle.run_lanes.specs.Columns.{cells, columns, is_outside, outside};
+    ghost use Rattle.run_lanes.specs.Counted.{Changed, both, turned};
+    ghost use Rattle.run_lanes.specs.Words.{Sight};
+
+    /// Before the first turn, of so many tasks.
+    ///
+    /// # Errors
+    ///
+    /// Only want of memory.
+    pub fn open(alloc: Global, tasks: usize) -> Result<Columns, AllocError>
+        requires { tasks ≤ 65536 }
+        ensures tasks { IfOk result (λ c. c.tasks ≡ tasks) }
+        ensures none { IfOk result (λ c. Columned c 0 []) }
+    {
+        let cells = Vec::from_elem(alloc, NO_CELL, MOST_COLUMNS * tasks)?;
+        let outside = Vec::from_elem(alloc, 0, MOST_COLUMNS)?;
+        Ok(Columns {
+            tasks,
+            width: 1,
+            column: 0,
+            inside: 0,
+            cells,
+            outside,
+        })
+    }
+
+    // Where all columns have their turns, neighbours become one.
+    fn make_room(&mut self)
+        ensures free { self.new.column < 1200 }
+        ensures tasks { self.new.tasks ≡ self.old.tasks }
+        ensures room { (turns : List Sight) → length turns < 1000000000 → Columned self.old (length turns) turns → Columned self.new (length turns + 1) turns }
+    {
+        if self.column == MOST_COLUMNS {
+            halve(&mut self.cells, self.tasks);
+            halve_outside(&mut self.outside);
+            self.column = MOST_COLUMNS / 2;
+            self.inside = 0;
+            self.width = self.width.saturating_mul(2);
+        }
+    }
+
+    // The cells of a turn more.
+    fn add_cells(&mut self, words: &[Word], notes: &[Note])
+        requires free { self.old.column < 1200 }
+        ensures tasks { self.new.tasks ≡ self.old.tasks }
+        ensures width { self.new.width ≡ self.old.width }
+        ensures column { self.new.column ≡ self.old.column }
+        ensures inside { self.new.inside ≡ self.old.inside }
+        ensures cells { Changed self.old.cells.items self.new.cells.items (self.old.column * self.old.tasks) self.old.tasks (turned words.now notes.now) }
+        ensures outside { self.new.outside.items ≡ self.old.outside.items }
+    {
+        add_turn(
+            &mut self.cells,
+            self.column * self.tasks,
+            self.tasks,
+            words,
+            notes,
+        );
+    }
+
+    // Whether something came from outside in it.
+    fn add_outside(&mut self, notes: &[Note])
+        requires free { self.old.column < 1200 }
+        ensures tasks { self.new.tasks ≡ self.old.tasks }
+        ensures width { self.new.width ≡ self.old.width }
+        ensures column { self.new.column ≡ self.old.column }
+        ensures inside { self.new.inside ≡ self.old.inside }
+        ensures cells { self.new.cells.items ≡ self.old.cells.items }
+        ensures outside { self.new.outside.items ≡
+            (if list_any is_outside notes.now
+            then slice_set self.old.outside.items self.old.column (both (slice_index_or self.old.outside.items self.old.column 0) 1)
+            else self.old.outside.items) }
+    {
+        if comes_from_outside(notes) {
+            let k = self.column;
+            self.outside[k] = self.outside[k].saturating_add(1);
+        }
+    }
+
+    // The place of the turn behind it.
+    fn advance(&mut self)
+        requires free { self.old.column < 1200 }
+        ensures tasks { self.new.tasks ≡ self.old.tasks }
+        ensures width { self.new.width ≡ self.old.width }
+        ensures cells { self.new.cells.items ≡ self.old.cells.items }
+        ensures outside { self.new.outside.items ≡ self.old.outside.items }
+        ensures at { self.new.column * self.new.width + self.new.inside ≡ self.old.column * self.old.width + self.old.inside + 1 }
+    {
+        if self.inside + 1 == self.width {
+            self.inside = 0;
+            self.column += 1;
+        } else {
+            self.inside += 1;
+        }
+    }
+
+    /// A turn more, with what each task does in it and the notes of it.
+    pub fn add(&mut self, words: &[Word], notes: &[Note])
+        ensures tasks { self.new.tasks ≡ self.old.tasks }
+        ensures added { (turn : ℕ) (turns : List Sight) → length turns < 1000000000 → Columned self.old (length turns) turns →
+            Columned self.new (length turns + 1) (turns ++ (record { turn = turn; words = words.now; notes = notes.now } ∷ [])) }
+    {
+        self.make_room();
+        self.add_cells(words, notes);
+        self.add_outside(notes);
+        self.advance();
+    }
+
+    /// How many columns are in use.
+    pub fn in_use(&self) -> usize
+        ensures few { result ≤ 1200 }
+        ensures used { (turns : List Sight) → Columned self.now (length turns) turns → result ≡ columns (length turns) }
+    {
+        if self.inside == 0 {
+            self.column
+        } else {
+            (self.column + 1).min(MOST_COLUMNS)
+        }
+    }
+
+    /// The cells of the columns in use, one column behind the other.
+    pub fn all_cells(&self) -> &[Cell]
+        ensures { (turns : List Sight) → Columned self.now (length turns) turns → result.now ≡ cells self.now.tasks turns }
+    {
+        &self.cells[..self.in_use() * self.tasks]
+    }
+
+    /// In how many turns of each column in use something came from outside.
+    pub fn all_outside(&self) -> &[u32]
+        ensures few { length result.now ≤ 1200 }
+        ensures used { (turns : List Sight) → Columned self.now (length turns) turns → result.now ≡ outside turns }
+    {
+        &self.outside[..self.in_use()]
+    }
+}

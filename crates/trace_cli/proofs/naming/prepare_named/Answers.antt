@@ -1,0 +1,27 @@
+use Rattle.std.proofs.Common.{◌∙◌, map, string_bytes}
+use Rattle.trace_cli.proofs.Named.{as_many, named_faults, named_ready, takes_named}
+use Rattle.trace_cli.proofs.OnlyReading.{reads_more}
+use Rattle.trace_cli.proofs.naming.prepare_named.Goals as goal
+
+pub returns-in-Err-clause-named_fault : goal.returns-in-Err-clause-named_fault
+returns-in-Err-clause-named_fault g c = λ job verdict runs. c.in-Err.ensures.named_fault job (takes_named runs)
+
+pub returns-in-Ok-read_names-clause-ready : goal.returns-in-Ok-read_names-clause-ready
+returns-in-Ok-read_names-clause-ready g c = λ job verdict runs.
+    named_ready job verdict c.in-Ok.board c.task_count-tasks.result (map string_bytes c.in-Ok-read_names.names.items) runs c.in-Ok.ensures.set (as_many c.in-Ok.ensures.set c.task_count-tasks.ensures.tasks) c.in-Ok.ensures.only_reads.contents c.in-Ok-read_names.ensures.names
+
+pub returns-in-Ok-read_names-clause-count : goal.returns-in-Ok-read_names-clause-count
+returns-in-Ok-read_names-clause-count g c = c.in-Ok-read_names.ensures.count ∙ c.task_count-tasks.ensures.count
+
+pub returns-in-Err-read_names-clause-named_fault : goal.returns-in-Err-read_names-clause-named_fault
+returns-in-Err-read_names-clause-named_fault g c = λ job verdict runs.
+    let a = g.F.Files.seen c.args.files.now in
+    let b = g.F.Files.seen c.prepare_run.new.files in
+    let e = g.F.Files.seen c.read_names.new.files in
+    named_faults a b e job verdict c.in-Ok.board c.task_count-tasks.result c.in-Err-read_names.named_fault runs c.in-Ok.ensures.set (as_many c.in-Ok.ensures.set c.task_count-tasks.ensures.tasks) c.in-Ok.ensures.only_reads.contents c.in-Ok.ensures.only_reads.later c.in-Err-read_names.ensures.named_fault
+
+pub returns-in-Ok-read_names-clause-only_reads : goal.returns-in-Ok-read_names-clause-only_reads
+returns-in-Ok-read_names-clause-only_reads g c = reads_more c.in-Ok.ensures.only_reads c.in-Ok-read_names.ensures.only_reads
+
+pub returns-in-Err-read_names-clause-only_reads : goal.returns-in-Err-read_names-clause-only_reads
+returns-in-Err-read_names-clause-only_reads g c = reads_more c.in-Ok.ensures.only_reads c.in-Err-read_names.ensures.only_reads

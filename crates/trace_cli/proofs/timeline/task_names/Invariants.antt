@@ -1,8 +1,0 @@
-use Rattle.std.proofs.Common.{◌≡◌, map}
-use Rattle.std.specs.Prelude.{string_bytes}
-use Rattle.trace_cli.specs.Verdict.{task_names}
-use Rattle.trace_cli.proofs.timeline.task_names.Given as goal
-
--- the names so far
-abbrev pub invariant-loop-i : goal.invariant-loop-i
-invariant-loop-i l = map string_bytes l.names.items ≡ task_names l.i
