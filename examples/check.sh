@@ -79,7 +79,7 @@ same "$made/covered.txt" "$made/counts.txt" "restart, cover against --all"
 "$program" timeline "$made/restart.img" examples/restart/empty.txt --steps 300 > "$made/timeline.json"
 same "$made/timeline.json" examples/restart/timeline.json "restart, timeline"
 # it is JSON, and the stretches of each task are one behind the other, from turn 0 to the end, with another word each
-for example in one-task client-server blinker driver restart timers watch uart debugger lost-byte from-c; do
+for example in one-task client-server blinker driver restart timers watch uart debugger lost-byte; do
     script=$example/script.txt
     [ -e "examples/$script" ] || script=$example/empty.txt
     "$program" timeline "$made/$example.img" "examples/$script" --steps 500 > "$made/timeline.json" || [ $? = 6 ]
@@ -98,7 +98,7 @@ for stretches in lanes.values():
 assert len(ends) == 1, ends' "$made/timeline.json" || { echo "$example: its timeline has gaps"; exit 1; }
 done
 # pictures are XML, each lane's boxes fill its columns, and those of two examples stand beside them
-for example in one-task client-server blinker driver restart timers watch uart debugger lost-byte from-c; do
+for example in one-task client-server blinker driver restart timers watch uart debugger lost-byte; do
     script=$example/script.txt
     [ -e "examples/$script" ] || script=$example/empty.txt
     "$program" picture "$made/$example.img" "examples/$script" "$made/picture.svg" --steps 500 --names "examples/$example/app.toml" > "$made/drawn.txt"
@@ -118,10 +118,11 @@ at=$PWD/examples
 same "$made/picture.svg" examples/restart/picture.svg "restart, picture"
 (cd "$made" && "$program" picture uart.img "$at/uart/script.txt" picture.svg --steps 4000 --names "$at/uart/app.toml" > drawn.txt)
 same "$made/picture.svg" examples/uart/picture.svg "uart, picture"
-# how often each line was executed: all of them together as often as an instruction was
+# how often each line was executed: all of them together as often as an instruction was, where no source writes its
+# instructions as data, as those of from-c do
 "$program" lcov examples/restart/app.toml examples/restart/empty.txt "$made/lcov.info" --steps 300 > "$made/traced.txt"
 same "$made/lcov.info" examples/restart/lcov.info "restart, lcov"
-for example in one-task client-server blinker driver restart timers watch uart debugger lost-byte from-c; do
+for example in one-task client-server blinker driver restart timers watch uart debugger lost-byte; do
     script=$example/script.txt
     [ -e "examples/$script" ] || script=$example/empty.txt
     "$program" lcov "examples/$example/app.toml" "examples/$script" "$made/lcov.info" --steps 500 > "$made/traced.txt"
