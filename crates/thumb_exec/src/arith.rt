@@ -5,7 +5,7 @@ ghost use Rattle.words_core.specs.Words.{awc, complement};
 
 use crate::cpu::{Cpu, Outcome};
 use thumb_insn::{Op, Reg};
-use words_core::{Flags, PROGRAM_COUNTER, add_with_carry, asr, lsl, lsr, ror, subtract};
+use words_core::{Flags, PROGRAM_COUNTER, add, add_with_carry, asr, lsl, lsr, ror, subtract};
 
 /// A register.
 pub fn get(cpu: &Cpu, r: Reg) -> u32
@@ -138,9 +138,9 @@ pub fn data(cpu: &mut Cpu, op: Op, d: Reg, m: Reg)
         Op::Adcs => finish_sum(cpu, d, add_with_carry(x, y, cpu.flags.c)),
         Op::Sbcs => finish_sum(cpu, d, add_with_carry(x, !y, cpu.flags.c)),
         Op::Rors => finish_nzc(cpu, d, ror(x, by, cpu.flags.c)),
-        Op::Rsbs => finish_sum(cpu, d, add_with_carry(!y, 0, true)),
+        Op::Rsbs => finish_sum(cpu, d, subtract(0, y)),
         Op::Cmp => finish_test(cpu, subtract(x, y).1),
-        Op::Cmn => finish_test(cpu, add_with_carry(x, y, false).1),
+        Op::Cmn => finish_test(cpu, add(x, y).1),
         Op::Orrs => finish_nz(cpu, d, x | y),
         Op::Muls => finish_nz(cpu, d, x.wrapping_mul(y)),
         Op::Bics => finish_nz(cpu, d, x & !y),

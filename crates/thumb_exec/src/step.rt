@@ -15,7 +15,7 @@ use crate::memory::{load, store};
 use crate::several::{count_of, ldm, mask_of, pop, store_all};
 use kernel_abi::Fault;
 use thumb_insn::{Insn, Load, Reg, Shift, Size};
-use words_core::{Flags, PROGRAM_COUNTER, STACK_POINTER, add_with_carry, asr, lsl, lsr, subtract};
+use words_core::{Flags, PROGRAM_COUNTER, STACK_POINTER, add, asr, lsl, lsr, subtract};
 
 /// SP as a register that an instruction names.
 const SP: Reg = Reg {
@@ -44,11 +44,11 @@ fn adding(cpu: &Cpu, insn: Insn) -> (Reg, (u32, Flags))
     ensures register { result.0.number < 16 }
 {
     match insn {
-        Insn::AddsReg { d, n, m } => (d, add_with_carry(get(cpu, n), get(cpu, m), false)),
+        Insn::AddsReg { d, n, m } => (d, add(get(cpu, n), get(cpu, m))),
         Insn::SubsReg { d, n, m } => (d, subtract(get(cpu, n), get(cpu, m))),
-        Insn::AddsImm3 { d, n, value } => (d, add_with_carry(get(cpu, n), value, false)),
+        Insn::AddsImm3 { d, n, value } => (d, add(get(cpu, n), value)),
         Insn::SubsImm3 { d, n, value } => (d, subtract(get(cpu, n), value)),
-        Insn::AddsImm8 { d, value } => (d, add_with_carry(get(cpu, d), value, false)),
+        Insn::AddsImm8 { d, value } => (d, add(get(cpu, d), value)),
         Insn::SubsImm8 { d, value } => (d, subtract(get(cpu, d), value)),
         _ => unreachable!(),
     }
