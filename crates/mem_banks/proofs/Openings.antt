@@ -1,7 +1,7 @@
 -- What a window of three banks makes of the memory.
 use Rattle.std.proofs.Common.{ℕ, zero, suc, ◌≡◌, ◌≢◌, ◌<◌, ◌≤◌, ◌+◌, ◌⊎◌, inl, inr, Bool, true, false, ◌&&◌, eqb, rules, leb, List, [], ◌∷◌, Option, Some, None, length, take, drop, get_or, Contains, refl, ap, sym, ◌∙◌, subst, arith, length-take, length-drop}
 use Rattle.std.proofs.lemmas.Bool.{le-leb, lt-leb, cases_lt}
-use Rattle.std.proofs.lemmas.List.{get_or-set_other, length-append, length-set, same_lists, places, nil_from_length}
+use Rattle.std.proofs.lemmas.List.{length-append, same_lists, places, nil_from_length}
 use Rattle.mem_banks.specs.declared.bank.Bank.{Bank}
 use Rattle.mem_banks.specs.Banks.{flash_of, AreLaid, IsAt, IsPut}
 use Rattle.mem_banks.specs.Kept.{AreKept, IsDone, seen, spans_of}

@@ -1,9 +1,9 @@
 -- Pieces of memory read one after another.
-use Rattle.std.proofs.Common.{◌≡◌, ◌+◌, ◌≤◌, ◌<◌, ℕ, List, [], ◌++◌, inl, inr, length, take, drop, get_or, refl, ap, ◌∙◌, arith}
+use Rattle.std.proofs.Common.{◌≡◌, ◌+◌, ◌≤◌, ◌<◌, ℕ, List, [], ◌++◌, inr, length, take, drop, get_or, refl, ap, ◌∙◌, arith}
 use Rattle.std.proofs.lemmas.List.{take_all, append-nil}
 use Rattle.std.proofs.Math.Seq.{drop-length}
 use Rattle.mem_banks.specs.declared.bank.Bank.{Bank}
-use Rattle.mem_banks.specs.Memory.{Memory, bytes_at, with_bytes, pasted, IsWithin, IsWithinRam}
+use Rattle.mem_banks.specs.Memory.{Memory, bytes_at, with_bytes, pasted, IsWithinRam}
 use Rattle.mem_banks.specs.Kept.{AreKept, seen}
 use Rattle.mem_banks.proofs.Copies.{length_part, take_none, bytes_ram, with_bytes_ram}
 use Rattle.mem_banks.proofs.Pieces.{Side, side_part, bytes_joined, one_side}

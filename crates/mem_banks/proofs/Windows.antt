@@ -2,7 +2,7 @@
 use Rattle.std.proofs.Common.{◌≡◌, ◌+◌, ◌-◌, ◌≤◌, ◌<◌, inl, inr, ℕ, List, length, take, drop, refl, ap, arith, length-take, length-drop}
 use Rattle.std.proofs.lemmas.Bool.{cases_lt}
 use Rattle.std.proofs.lemmas.List.{length-append, same_lists, places}
-use Rattle.mem_banks.specs.Memory.{Memory, bytes_at, with_bytes, number_of, number_at, pasted, is_ram}
+use Rattle.mem_banks.specs.Memory.{Memory, bytes_at, with_bytes, number_of, number_at, pasted}
 use Rattle.mem_banks.specs.Windows.{IsInRam, IsInMemory, AreApart}
 use Rattle.mem_banks.proofs.Copies.{with_bytes_ram, bytes_ram, bytes_flash, bytes_none, length-pasted, length_part}
 use Rattle.mem_banks.proofs.Pieces.{Side, ram_side, flash_side, read_apart}

@@ -86,6 +86,10 @@ abbrev pub IsOne : List Bank → Option ℕ → Type 0
 IsOne banks (Some k) = k < length banks
 IsOne banks None = Unit {0}
 
+-- a bank of a region of code, and behind it one of a region of the RAM, where there is no area
+abbrev pub AreUsual : List Bank → ℕ → ℕ → ℕ × ℕ → ℕ × ℕ → ℕ × ℕ → Type 0
+AreUsual banks i j flash ram area = (i < j) × IsBankOf banks i flash × IsPlaceOf banks (Some j) ram × IsNoRegion area
+
 -- the bytes of a bank, and what writes over all of them
 abbrev pub bytes_in : List Bank → Option ℕ → Bank → List ℕ
 bytes_in banks (Some k) d = (slice_index_or banks k d).bytes.items

@@ -1,8 +1,8 @@
 //! The bytes of three banks, handed to somebody for the time of one call.
 
-ghost use Rattle.std.specs.Prelude.{◌≡◌, ◌<◌, ℕ, List, IfSome, IfNone, length, Some, None, true, false};
+ghost use Rattle.std.specs.Prelude.{◌≡◌, ◌*◌, ◌<◌, ℕ, List, IfSome, IfNone, length, Some, None, true, false};
 ghost use Rattle.mem_banks.specs.Kept.{AreKept};
-ghost use Rattle.mem_banks.specs.Windows.{AreOpened, AreAllOpened, IsBankOf, HasNoBank, IsPlaceOf, HasNoPlace, AreTwo, IsOne};
+ghost use Rattle.mem_banks.specs.Windows.{AreOpened, AreAllOpened, AreUsual, IsBankOf, HasNoBank, IsPlaceOf, HasNoPlace, AreTwo, IsOne};
 
 use crate::bank::{Bank, find, page};
 use crate::{Memory, RAM};
@@ -82,6 +82,23 @@ fn are_two(first: Option<usize>, second: Option<usize>) -> bool
     }
 }
 
+/// Opens the bytes of two banks, of which that of the code is the first, beside those of an area.
+#[inline(always)]
+fn open_in_order<B: WindowUser>(
+    banks: &mut [Bank],
+    flash: usize,
+    ram: usize,
+    area: &mut Vec<u8>,
+    user: &mut B,
+)
+    requires ram { ram < length banks.old }
+    requires order { flash < ram }
+    ensures { AreOpened B.did banks.old flash (Some ram) area.old.items user.old user.new banks.new area.new.items }
+{
+    let (front, back) = banks.split_at_mut(ram);
+    user.work(&mut front[flash].bytes, &mut back[0].bytes, area);
+}
+
 /// Opens the bytes of two banks, beside those of an area.
 fn open_two<B: WindowUser>(
     banks: &mut [Bank],
@@ -96,8 +113,7 @@ fn open_two<B: WindowUser>(
     ensures { AreOpened B.did banks.old flash (Some ram) area.old.items user.old user.new banks.new area.new.items }
 {
     if flash < ram {
-        let (front, back) = banks.split_at_mut(ram);
-        user.work(&mut front[flash].bytes, &mut back[0].bytes, area);
+        open_in_order(banks, flash, ram, area, user);
     } else {
         let (front, back) = banks.split_at_mut(flash);
         user.work(&mut back[0].bytes, &mut front[ram].bytes, area);
@@ -192,13 +208,61 @@ fn open_all<B: WindowUser>(
     }
 }
 
+/// Whether a bank has the bytes of a region and no others.
+#[inline(always)]
+fn is_bank_of(bank: &Bank, region: (u32, u32)) -> bool
+    ensures { result ≡ true → (bank.now.base ≡ region.0) × (length bank.now.bytes.items ≡ region.1) }
+{
+    bank.base == region.0 && bank.bytes.len() == region.1 as usize
+}
+
+/// The banks of a region of code and of one of the RAM as those of most tasks lie: each is the one that the table names, that of
+/// the code comes first, and there is no area.
+#[inline(always)]
+fn usual_banks(
+    banks: &[Bank],
+    table: &[u16],
+    flash: (u32, u32),
+    ram: (u32, u32),
+    area: (u32, u32),
+) -> Option<(usize, usize)>
+    requires { AreKept table.now banks.now }
+    ensures { IfSome result (λ p. AreUsual banks.now p.0 p.1 flash ram area) }
+{
+    if area != (RAM, 0) || ram.0 < RAM || ram.1 == 0 {
+        return None;
+    }
+    let code = table[page(flash.0)] as usize;
+    let data = table[page(ram.0)] as usize;
+    if code < data && is_bank_of(&banks[code], flash) && is_bank_of(&banks[data], ram) {
+        return Some((code, data));
+    }
+    None
+}
+
+/// Opens the bytes of two banks, of which that of the code is the first.
+#[inline(always)]
+fn open_usual<B: WindowUser>(
+    banks: &mut [Bank],
+    flash: usize,
+    ram: usize,
+    alloc: Global,
+    user: &mut B,
+)
+    requires ram { ram < length banks.old }
+    requires order { flash < ram }
+    ensures { AreAllOpened B.did banks.old flash (Some ram) None user.old user.new banks.new }
+{
+    let mut none = Vec::new(alloc);
+    open_in_order(banks, flash, ram, &mut none, user);
+}
+
 impl Memory {
     ghost use Rattle.mem_banks.specs.Windows.{IsOpened, AreGiven};
 
-    /// Opens the bytes of three regions, by base and size, where each has a bank of its own and the
-    /// second and the third one lie in the RAM, or have no bytes and begin where the RAM does. Else nothing
-    /// changes, and the answer is false. Regions that were given to `open` are opened.
-    pub fn open_window<B: WindowUser>(
+    /// As `open_window`, wherever the banks lie.
+    #[inline(never)]
+    fn open_any<B: WindowUser>(
         &mut self,
         flash: (u32, u32),
         ram: (u32, u32),
@@ -225,5 +289,29 @@ impl Memory {
         }
         open_all(&mut self.banks, code, data, more, self.alloc, user);
         true
+    }
+
+    /// Opens the bytes of three regions, by base and size, where each has a bank of its own and the
+    /// second and the third one lie in the RAM, or have no bytes and begin where the RAM does. Else nothing
+    /// changes, and the answer is false. Regions that were given to `open` are opened.
+    #[inline(always)]
+    pub fn open_window<B: WindowUser>(
+        &mut self,
+        flash: (u32, u32),
+        ram: (u32, u32),
+        area: (u32, u32),
+        user: &mut B,
+    ) -> bool
+        ensures opened { result ≡ true → IsOpened B.did self.old.bytes flash ram area user.old user.new self.new.bytes }
+        ensures given { AreGiven self.old.regions flash ram area → result ≡ true }
+        ensures regions { self.new.regions ≡ self.old.regions }
+        ensures kept { result ≡ false → self.new ≡ self.old }
+        ensures left { result ≡ false → user.new ≡ user.old }
+    {
+        if let Some((code, data)) = usual_banks(&self.banks, &self.table, flash, ram, area) {
+            open_usual(&mut self.banks, code, data, self.alloc, user);
+            return true;
+        }
+        self.open_any(flash, ram, area, user)
     }
 }

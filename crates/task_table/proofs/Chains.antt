@@ -1,5 +1,5 @@
 -- What holds along a chain, and how chains are made.
-use Rattle.std.proofs.Common.{◌≡◌, Bool, true, false, cond, List, [], ◌∷◌, zero, suc, refl, arith}
+use Rattle.std.proofs.Common.{List, [], ◌∷◌, zero, suc, refl, arith}
 use Rattle.std.specs.Prelude.{Contains, fold}
 use Rattle.task_table.specs.State.{Turn}
 use Rattle.task_table.specs.Chain.{Chain, Here, More}

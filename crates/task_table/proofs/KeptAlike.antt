@@ -1,14 +1,13 @@
 -- States of which a kernel keeps the same: it holds each of them.
-use Rattle.std.proofs.Common.{◌≡◌, ◌≢◌, ◌<◌, ◌⊎◌, inl, inr, ℕ, length, Option, Some, None, IfSome, refl, sym, ◌∙◌, ap, arith}
+use Rattle.std.proofs.Common.{◌≡◌, ◌≢◌, ◌<◌, inl, inr, ℕ, length, Option, Some, None, IfSome, refl, sym, ◌∙◌, ap, arith}
 use Rattle.std.proofs.lemmas.Bool.{cases_lt}
 use Rattle.task_table.specs.State.{Setup, State, Task, Call, Listen, Turn}
-use Rattle.task_table.specs.Reading.{task_at, call_of, listen_of, is_ready}
+use Rattle.task_table.specs.Reading.{call_of, listen_of, is_ready}
 use Rattle.task_table.specs.Readiness.{is_free}
 use Rattle.task_table.specs.Effects.{with_task}
 use Rattle.task_table.specs.Holds.{Shows, Kept, packed, packed_task, wait_of}
 use Rattle.task_table.specs.Sane.{Sane}
 use Rattle.task_table.specs.Setting.{AreKeptAlike}
-use Rattle.task_table.specs.declared.slot.Slot.{Slot}
 use Rattle.task_table.proofs.Changes.{task_at-with_task, task_at-with_task_other, call_of-with_task, listen_of-with_task}
 use Rattle.task_table.proofs.Clients.{found_call, client_is}
 use Rattle.task_table.proofs.Members.{unready_past}

@@ -99,10 +99,6 @@ module _ {M F T : ℕ → Type 0} {W : ℕ → ℕ → Type 0} {g : Setup} where
         unmet = λ l here m same. absurd (idle_listen t.state i l none here same);
       }
 
--- a caller goes on, with results or without
-pub keeps-goes_on : {M F T : ℕ → Type 0} {W : ℕ → ℕ → Type 0} {g : Setup} (c : ℕ) (t : Turn) → IsSaneBut M F T W g t.state → c < length t.state.tasks → IsSaneBut M F T W g (returned c (past_syscall c t)).state
-keeps-goes_on c t h inside = keeps-returned c (past_syscall c t) (keeps-past_syscall c t h inside)
-
 -- ## bits are posted
 
 but : ℕ → ℕ → Type 0

@@ -21,9 +21,6 @@ pub no_word : (words : List ℕ) (w i : ℕ) → get_or words w 0 ≡ 0 → i / 
 unfolding has
 no_word words w i none here = rw (here, none, bit_at-zero) refl
 
-pub word_bit : (n : ℕ) → 0 < n → n < 2 ^ 32 → (k : ℕ) × (k < 32) × (bit_at n k ≡ 1)
-word_bit n some small = let z = bit_at-trailing_zeros w32 n some small in (count_trailing_zeros 32 n, z.0, z.1)
-
 -- a bit of a word
 bit_some : (n k : ℕ) → bit_at n k ≡ 1 → 0 < n
 bit_some zero k e = absurd (omega (arith, e, bit_at-zero k))
@@ -239,20 +236,3 @@ used_of (suc n) lead small is =
 pub same_word : (xs ys : List ℕ) (i : ℕ) → get_or xs (i / 32) 0 ≡ get_or ys (i / 32) 0 → has xs i ≡ has ys i
 unfolding has
 same_word xs ys i same = rw same refl
-
--- ## a set becomes another one
-
-pub used_fits : (words : List ℕ) (s used : ℕ) → IsSummary words s → IsUsed s used → used ≤ length words
-used_fits words s zero h u = omega arith
-used_fits words s (suc used) h u = let last = there_of words s used h (u.last used (omega arith)) in omega (arith, last)
-
--- the words that neither summary tells of are 0 in both, and the others are copied
-pub words_copied : (old new other : List ℕ) (s t a b used : ℕ) → IsSummary old s → IsSummary other t → IsUsed s a → IsUsed t b → a ≤ used → b ≤ used → ((w : ℕ) → w < used → get_or new w 0 ≡ get_or other w 0)
-    → ((w : ℕ) → used ≤ w → get_or new w 0 ≡ get_or old w 0) → (w : ℕ) → get_or new w 0 ≡ get_or other w 0
-words_copied old new other s t a b used h k u v below under copied left w = elim (cases_lt w used) [
-  | inl lt ↦ copied w lt
-  | inr ge ↦ left w ge ∙ told_none old s w h (u.none w (omega (arith, ge, below))) ∙ sym (told_none other t w k (v.none w (omega (arith, ge, under))))
-]
-
-pub summary_copied : (new other : List ℕ) (t : ℕ) → IsSummary other t → ((w : ℕ) → get_or new w 0 ≡ get_or other w 0) → IsSummary new t
-summary_copied new other t h same w = h w ∙ ap (λ (n : ℕ). not (eqb n 0)) (sym (same w))

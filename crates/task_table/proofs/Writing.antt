@@ -1,6 +1,6 @@
 -- The writes of a turn take the old memory to the new one.
 use Rattle.std.proofs.Common.{◌≡◌, ◌+◌, ◌-◌, ◌<◌, ◌≤◌, inl, inr, ℕ, zero, suc, List, [], ◌∷◌, ◌++◌, length, take, drop, min, refl, sym, ◌∙◌, ap, arith}
-use Rattle.mem_banks.proofs.Copies.{with_bytes_ram, with_bytes_none, nothing_dropped}
+use Rattle.mem_banks.proofs.Copies.{with_bytes_ram, with_bytes_none}
 use Rattle.mem_banks.specs.Memory.{Memory, bytes_at, with_bytes, copied as copied_memory, IsWithinRam}
 use Rattle.task_table.specs.State.{Setup, State, Ground, Write as Written, Turn}
 use Rattle.task_table.specs.Effects.{with_call, with_taken, without_call, noted, stored, copied, looked, writes_on, closed, offered, with_devices}

@@ -46,7 +46,7 @@ impl Watch {
     }
 
     /// Whether a write of so many bytes from an address on may meet an entry. Of a few bytes one
-    /// comparison tells.
+    /// comparison tells, of more one where no entry is kept.
     #[inline(always)]
     pub fn catches(&self, addr: u32, count: usize) -> bool
         ensures { result ≡ false → (base : ℕ) → IsWatched self.now.low self.now.span base → (base + 12 ≤ addr) ⊎ (addr + count ≤ base) }
@@ -54,7 +54,8 @@ impl Watch {
         if count <= 4 {
             u64::from(addr.wrapping_sub(self.low)) < self.span
         } else {
-            u64::from(addr) < u64::from(self.low) + self.span
+            self.span > 0
+                && u64::from(addr) < u64::from(self.low) + self.span
                 && u64::from(self.low) < u64::from(addr).saturating_add(count as u64)
         }
     }

@@ -62,9 +62,10 @@ impl Kernel {
         ensures holds { (g : Setup) (t : Turn) (k : Call) → Holds g self.old t → IsIdle t.state client → kept_call k ≡ call.now → k.client.index ≡ client → k.server.index ≡ server → Holds g self.new (offered k t) }
         ensures frame { AddsNotes self.old 1 self.new }
     {
+        // Nothing is written between the slot's read and its write.
+        self.use_number();
         let mut slot = self.slot(client);
         slot.wait = Wait::Call(*call);
-        self.use_number();
         self.set_slot(client, slot);
         self.note(Note::Offer {
             call: call.number,

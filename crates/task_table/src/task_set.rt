@@ -129,34 +129,10 @@ impl TaskSet {
         }
         true
     }
-
-    /// The tasks of another set are in this one from now on, and no others. Only the words that either uses are
-    /// copied.
-    #[inline(always)]
-    pub fn become_as(&mut self, other: &TaskSet)
-        ensures { (i : ℕ) → has self.new.words i ≡ has other.now.words i }
-    {
-        let used = used_words(self.summary).max(used_words(other.summary));
-        copy_words(&mut self.words, &other.words, used);
-        self.summary = other.summary;
-    }
 }
 
 ghost use Rattle.std.specs.Prelude.{◌∷◌, [], ◌≢◌, ◌<◌, ◌≤◌, ℕ, Some, IfSome, slice_index_or};
 ghost use Rattle.task_table.specs.TaskSets.{IsFirstFrom, IsUsed};
-
-/// The first so many words become those of another list.
-#[inline(always)]
-fn copy_words(to: &mut [u32], from: &[u32], count: usize)
-    requires to { count ≤ length to.old }
-    requires from { count ≤ length from.now }
-    ensures copied { (w : ℕ) → w < count → slice_index_or to.new w 0 ≡ slice_index_or from.now w 0 }
-    ensures left { (w : ℕ) → count ≤ w → slice_index_or to.new w 0 ≡ slice_index_or to.old w 0 }
-{
-    for word in 0..count {
-        to[word] = from[word];
-    }
-}
 
 /// The least bit of a word at or above one, where there is one.
 #[inline(always)]

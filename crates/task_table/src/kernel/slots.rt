@@ -17,7 +17,7 @@ impl Kernel {
 
     /// Keeps this of a task but for its timer, which stays as it is; the sets of the tasks that are ready
     /// and that offer a call follow, and no entry is kept for it any more. Only here does its health or its
-    /// wait change.
+    /// wait change. The slot is written first: what stays of it as it was just read costs nothing then.
     #[inline(always)]
     pub(crate) fn set_slot(&mut self, task: usize, slot: Slot)
         requires { task < task_count self.old }
@@ -26,14 +26,10 @@ impl Kernel {
     {
         let before = &self.slots[task];
         let place = self.order.place(task);
-        follow_readiness(&mut self.ready, place, before.is_ready(), slot.is_ready());
-        move_member(
-            &mut self.offers,
-            place,
-            before.wait.server(),
-            slot.wait.server(),
-        );
-        self.entries[task] = None;
+        let ready_before = before.is_ready();
+        let ready_after = slot.is_ready();
+        let server_before = before.wait.server();
+        let server_after = slot.wait.server();
         let kept = &mut self.slots[task];
         kept.health = slot.health;
         kept.wait = slot.wait;
@@ -41,6 +37,9 @@ impl Kernel {
         kept.registers = slot.registers;
         kept.flags = slot.flags;
         kept.posted = slot.posted;
+        follow_readiness(&mut self.ready, place, ready_before, ready_after);
+        move_member(&mut self.offers, place, server_before, server_after);
+        self.entries[task] = None;
     }
 
     /// Keeps this of a task but for its health, its wait and its timer, which stay as they are.

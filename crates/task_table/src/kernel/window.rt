@@ -35,6 +35,7 @@ impl Kernel {
     /// those may be empty, and begin where the RAM does. Else the answer is false. Those of a task that lie
     /// so are opened. An entry of a lease table that has one of the bytes in the RAM is kept no more, since
     /// the user may write over it.
+    #[inline(always)]
     pub fn open_window<B: WindowUser>(
         &mut self,
         flash: &Region,

@@ -24,7 +24,7 @@ pub follow_readiness-requires-clause-before : goal.follow_readiness-requires-cla
 follow_readiness-requires-clause-before c =
     let k = c.args.self.now in
     let slot = c.index-before.result.now in
-    ap (has k.ready.words) c.place-place.ensures ∙ k.ready_now.each c.args.task c.requires slot ∙ sym (ap is_free c.index-before.ensures) ∙ sym c.is_ready.ensures
+    ap (has k.ready.words) c.place-place.ensures ∙ k.ready_now.each c.args.task c.requires slot ∙ sym (ap is_free c.index-before.ensures) ∙ sym c.is_ready-ready_before.ensures
 
 pub move_member-requires-clause-small : goal.move_member-requires-clause-small
 move_member-requires-clause-small c =
@@ -39,7 +39,7 @@ move_member-requires-clause-before c = λ server d under.
     ap (has (get_or c.deref_mut.result.now server d).words) c.place-place.ensures
     ∙ (was.each server under d).each c.args.task c.requires slot
     ∙ sym (ap (is_client_of server) c.index-before.ensures)
-    ∙ ap (is_at server) (sym c.server.ensures)
+    ∙ ap (is_at server) (sym c.server-server_before.ensures)
 
 pub returns-clause-holds : goal.returns-clause-holds
 returns-clause-holds c = λ g t u h kept same timers.
@@ -68,7 +68,7 @@ invariant_of-self-clause-ready_now c =
     let a = c.args in
     let old = c.index_mut-kept.result.now in
     those_set is_free a.self.now.slots.items a.self.now.order.places.items a.task record a.slot { timer = old.timer } a.self.now.ready.words _ a.self.now.ready_now (kernel_places a.self.now) c.requires
-    (λ p. rw (c.is_ready-2.ensures, c.place-place.ensures) at (c.follow_readiness.ensures p))
+    (λ p. rw (c.is_ready-ready_after.ensures, c.place-place.ensures) at (c.follow_readiness.ensures p))
 
 pub invariant_of-self-clause-offered_now : goal.invariant_of-self-clause-offered_now
 invariant_of-self-clause-offered_now c =
@@ -80,7 +80,7 @@ invariant_of-self-clause-offered_now c =
     let sets = c.move_member.new.sets in
     let next : AreOffers (set a.self.now.slots.items a.task slot) places sets =
     offers_set a.self.now.slots.items places a.task slot c.deref_mut.result.now sets was (kernel_places a.self.now) c.requires c.move_member.ensures.count
-    (λ k p d under. rw (c.server-2.ensures, c.place-place.ensures) at (c.move_member.ensures.each k p d under)) in
+    (λ k p d under. rw (c.server-server_after.ensures, c.place-place.ensures) at (c.move_member.ensures.each k p d under)) in
     let count : length sets ≡ a.self.now.offers.len = omega (arith, c.move_member.ensures.count, c.deref_mut.ensures.len) in
     subst (λ xs. AreOffers (set a.self.now.slots.items a.task slot) places xs) (sym (front a.self.now.offers.len sets _ count)) next
 
