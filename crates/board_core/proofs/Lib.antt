@@ -6,7 +6,6 @@ pub mod WindowTurns
 pub mod Ports
 pub mod SightTurns
 pub mod Polled
-pub mod Calling
 pub mod Running
 pub mod Reaching
 pub mod Opens
@@ -19,6 +18,7 @@ pub mod Noting
 pub mod SyscallRows
 pub mod Fetching
 pub mod Windowing
+pub mod LaidOut
 pub mod ListedLoners
 pub mod Told
 pub mod KeptAlike

@@ -31,7 +31,7 @@ device_whole ds k d inside is few =
     ap Some (is ∙ ap (λ (q : List ℕ). record (device_at ds k) { queue = q }) (take_all 64 (device_at ds k).queue few)) ∙ sym (slice_get-get_or ds k _ inside)
 
 -- few bytes wait in a sane device
-few_wait : (k : Kind) (count : ℕ) (queue : List ℕ) → IsSettable k count queue → length queue ≤ 64
+pub few_wait : (k : Kind) (count : ℕ) (queue : List ℕ) → IsSettable k count queue → length queue ≤ 64
 few_wait kind.Console count queue h = rw h (omega arith)
 few_wait kind.Port count queue h = h.1
 

@@ -1,5 +1,5 @@
 -- The row of a system call, by the number in r11.
-use Rattle.std.proofs.Common.{◌≡◌, ◌≢◌, ◌<◌, ◌≤◌, ℕ, false, refl, sym, ◌∙◌, ap, subst, arith, ◌==◌, lit≤}
+use Rattle.std.proofs.Common.{◌≡◌, ◌<◌, ◌≤◌, ℕ, false, refl, sym, ◌∙◌, ap, subst, arith, ◌==◌, lit≤}
 use Rattle.kernel_abi.specs.Syscalls.{syscall_number}
 use Rattle.kernel_abi.specs.declared.syscalls.Syscall.{Syscall}
 use Rattle.task_table.specs.State.{Setup, Turn}

@@ -29,7 +29,7 @@ use Rattle.task_table.specs.Start.{begun}
 use Rattle.board_model.specs.declared.outcomes.Level.TheVariants.{Calls}
 use Rattle.board_model.specs.declared.outcomes.Turned.{Turned}
 use Rattle.board_model.specs.Script.{Scenario}
-use Rattle.board_model.specs.Turn.{refusals, is_device, held, cpu_of, put, took, moved, acted, stepped_by, stepped, after_events, with_registers_noted, turn_of, ended, turn, turned_of, turned}
+use Rattle.board_model.specs.Turn.{refusals, is_device, held, cpu_of, put, moved, acted, stepped_by, stepped, after_events, with_registers_noted, turn_of, ended, turn, turned_of, turned}
 use Rattle.board_model.proofs.Stepping.{moves_state}
 use Rattle.board_model.proofs.Outside.{no_event}
 use Rattle.board_core.specs.Windowed.{IsWindow, IsBeside, later, with_window, IsFetchedIn}

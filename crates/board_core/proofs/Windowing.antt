@@ -17,6 +17,7 @@ use Rattle.kernel_abi.specs.Devices.{DeviceData}
 use Rattle.thumb_exec.specs.Effect.{Effect, Next, Syscall, Trap, Halts}
 use Rattle.thumb_exec.specs.Fetch.{WidensFetch, fetched, step_effect}
 use Rattle.thumb_insn.specs.declared.Insn.TheVariants.{Svc}
+use Rattle.thumb_step.specs.declared.window.Window.{Window}
 use Rattle.thumb_step.specs.Windows.{View, given, Keeps, IsApart, is_at_syscall, refused_by, held_by}
 use Rattle.thumb_step.proofs.Widening.{fetched_wider, step_wider}
 use Rattle.thumb_step.proofs.Gliding.{fetched_from, in_stretch}
@@ -410,27 +411,27 @@ module _ (v : View) (ds : List DeviceData) where
       by (Trap f) is = tt
 
 -- what the glider did
-pub glider_work : (g : Setup) (c : ℕ) (a b : Glider) (flash ram area after area_after : List ℕ) (devices : List DeviceData) (from : Cpu) (most : ℕ) → ports_of g c ≡ [] → a.runner.processor ≡ from → a.most ≡ most → IsApart (lent_view a flash ram area) → HasWorked a flash ram area b after area_after →
-    IsWork g c (lent_view a flash ram area) (lent_view a flash after area_after) devices devices from b.runner.processor most b.made b.at_syscall
-glider_work g c a b flash ram area after area_after devices from most none own limit apart work = subst (λ (k : ℕ). IsWork g c (lent_view a flash ram area) (lent_view a flash after area_after) devices devices from b.runner.processor k b.made b.at_syscall) limit record {
-  polls = subst (λ (x : Cpu). Polls (sight_by g c (lent_view a flash ram area) devices) x b.made (sight_by g c (lent_view a flash after area_after) devices) b.runner.processor) own (glides_polls b.made _ _ _ _ devices (ports_of g c) work.glides);
-  far = λ lt even. subst (λ (ports : List Region). Halts (step_effect (refused_at record { view = lent_view a flash after area_after; devices = devices; ports = ports }) (held_at record { view = lent_view a flash after area_after; devices = devices; ports = ports }) b.runner.processor)) (sym none) (limit_alone (lent_view a flash after area_after) devices b.runner.processor (work.far apart lt));
+pub glider_work : (g : Setup) (c : ℕ) (a b : Glider) (flash ram area after area_after : List ℕ) (devices : List DeviceData) (from : Cpu) (most : ℕ) → ports_of g c ≡ [] → a.runner.processor ≡ from → a.most ≡ most → IsApart (lent_view a.runner.window flash ram area) → HasWorked a flash ram area b after area_after →
+    IsWork g c (lent_view a.runner.window flash ram area) (lent_view a.runner.window flash after area_after) devices devices from b.runner.processor most b.made b.at_syscall
+glider_work g c a b flash ram area after area_after devices from most none own limit apart work = subst (λ (k : ℕ). IsWork g c (lent_view a.runner.window flash ram area) (lent_view a.runner.window flash after area_after) devices devices from b.runner.processor k b.made b.at_syscall) limit record {
+  polls = subst (λ (x : Cpu). Polls (sight_by g c (lent_view a.runner.window flash ram area) devices) x b.made (sight_by g c (lent_view a.runner.window flash after area_after) devices) b.runner.processor) own (glides_polls b.made _ _ _ _ devices (ports_of g c) work.glides);
+  far = λ lt even. subst (λ (ports : List Region). Halts (step_effect (refused_at record { view = lent_view a.runner.window flash after area_after; devices = devices; ports = ports }) (held_at record { view = lent_view a.runner.window flash after area_after; devices = devices; ports = ports }) b.runner.processor)) (sym none) (limit_alone (lent_view a.runner.window flash after area_after) devices b.runner.processor (work.far apart lt));
   tells = work.tells;
 }
 
 -- what the poller did
-pub poller_work : {X : Type 0} {H : X → Type 0} (shown : Shows X H) (g : Setup) (c : ℕ) (a b : Poller X H) (flash ram area after area_after : List ℕ) (devices : List DeviceData) (from : Cpu) (most : ℕ) → a.ports.items ≡ ports_of g c → a.glider.runner.processor ≡ from → a.glider.most ≡ most → data_of shown a.devices ≡ devices → IsApart (lent_view a.glider flash ram area) → HasPolled shown a flash ram area b after area_after →
-    IsWork g c (lent_view a.glider flash ram area) (lent_view a.glider flash after area_after) devices (data_of shown b.devices) from b.glider.runner.processor most b.made b.glider.at_syscall
+pub poller_work : {X : Type 0} {H : X → Type 0} (shown : Shows X H) (g : Setup) (c : ℕ) (a b : Poller X H) (flash ram area after area_after : List ℕ) (devices : List DeviceData) (from : Cpu) (most : ℕ) → a.seen.ports.items ≡ ports_of g c → a.processor ≡ from → a.most ≡ most → data_of shown a.seen.devices ≡ devices → IsApart (lent_view a.seen.window flash ram area) → HasPolled shown a flash ram area b after area_after →
+    IsWork g c (lent_view a.seen.window flash ram area) (lent_view a.seen.window flash after area_after) devices (data_of shown b.seen.devices) from b.processor most b.made b.at_syscall
 poller_work shown g c a b flash ram area after area_after devices from most ports own limit same apart work =
-    let v : View = lent_view a.glider flash ram area in
-    let w : View = lent_view a.glider flash after area_after in
-    let e : List DeviceData = data_of shown b.devices in
-    subst (λ (k : ℕ). IsWork g c v w devices e from b.glider.runner.processor k b.made b.glider.at_syscall) limit record {
+    let v : View = lent_view a.seen.window flash ram area in
+    let w : View = lent_view a.seen.window flash after area_after in
+    let e : List DeviceData = data_of shown b.seen.devices in
+    subst (λ (k : ℕ). IsWork g c v w devices e from b.processor k b.made b.at_syscall) limit record {
       polls =
-          subst (λ (x : Cpu). Polls (sight_by g c v devices) x b.made (sight_by g c w e) b.glider.runner.processor) own
-          (subst (λ (ds : List DeviceData). Polls (sight_by g c v ds) a.glider.runner.processor b.made (sight_by g c w e) b.glider.runner.processor) same
-          (subst (λ (rs : List Region). Polls record { view = v; devices = data_of shown a.devices; ports = rs } a.glider.runner.processor b.made record { view = w; devices = e; ports = rs } b.glider.runner.processor) ports work.polls));
-      far = λ lt. subst (λ (rs : List Region). IsAtLimit record { view = w; devices = e; ports = rs } b.glider.runner.processor) ports (work.far apart lt);
+          subst (λ (x : Cpu). Polls (sight_by g c v devices) x b.made (sight_by g c w e) b.processor) own
+          (subst (λ (ds : List DeviceData). Polls (sight_by g c v ds) a.processor b.made (sight_by g c w e) b.processor) same
+          (subst (λ (rs : List Region). Polls record { view = v; devices = data_of shown a.seen.devices; ports = rs } a.processor b.made record { view = w; devices = e; ports = rs } b.processor) ports work.polls));
+      far = λ lt. subst (λ (rs : List Region). IsAtLimit record { view = w; devices = e; ports = rs } b.processor) ports (work.far apart lt);
       tells = work.tells;
     }
 
@@ -440,10 +441,10 @@ same_shown shown true g r r' cpu t same f h = record { saved = h.saved; holds = 
 same_shown shown false g r r' cpu t same f h = record { kernel = f t h.kernel; devices = same ∙ h.devices }
 
 -- a window of a task was opened for somebody who has the task's processor, and did such work in it
-module _ {X : Type 0} {H : X → Type 0} (shown : Shows X H) (stops : Stops) (g : Setup) (m : Machine X H) (task most : ℕ) (t : Turn) (flash ram area : Region) (pc sp : ℕ) {B : Type 0} (did : Doing B) (user user' : B) (a : Glider) (k' : Kernel)
+module _ {X : Type 0} {H : X → Type 0} (shown : Shows X H) (stops : Stops) (g : Setup) (m : Machine X H) (task most : ℕ) (t : Turn) (flash ram area : Region) (pc sp : ℕ) {B : Type 0} (did : Doing B) (user user' : B) (a : Window) (k' : Kernel)
     (h : HasContext shown g m task t) (inside : task < length t.state.tasks) (reached : AreLent stops.watched (setup_at (setup_of m.reach.kernel) task).regions pc sp flash ram area)
     (pc_is : pc ≡ register t.state task program_counter) (sp_is : sp ≡ register t.state task stack_pointer)
-    (flash_is : a.runner.window.flash_base ≡ flash.base) (stretch_is : IsStretch stops.breakpoints flash.base flash.size pc a.runner.window.code_base a.runner.window.code_size) (readable_is : a.runner.window.readable ≡ flash.rights.read) (ram_is : a.runner.window.ram_base ≡ ram.base) (area_is : a.runner.window.area_base ≡ area.base) (writable_is : a.runner.window.area_writable ≡ area.rights.write)
+    (flash_is : a.flash_base ≡ flash.base) (stretch_is : IsStretch stops.breakpoints flash.base flash.size pc a.code_base a.code_size) (readable_is : a.readable ≡ flash.rights.read) (ram_is : a.ram_base ≡ ram.base) (area_is : a.area_base ≡ area.base) (writable_is : a.area_writable ≡ area.rights.write)
     (opened : IsWindowOpened did m.reach.kernel flash ram area user user' k') where
   abbrev pub before : View
   before = lent_view a (bytes_at (memory_of m.reach.kernel) flash.base flash.size) (bytes_at (memory_of m.reach.kernel) ram.base ram.size) (bytes_at (memory_of m.reach.kernel) area.base area.size)

@@ -1,6 +1,6 @@
 -- Several turns on end, of which only the last may note anything.
 use Rattle.words_core.specs.Regs.{stack_pointer, program_counter}
-use Rattle.std.specs.Prelude.{ℕ, Bool, List, ◌≡◌, ◌≢◌, ◌⊎◌, ◌<◌, ◌-◌, [], None, Some, true, false}
+use Rattle.std.specs.Prelude.{ℕ, Bool, ◌≡◌, ◌≢◌, ◌⊎◌, ◌<◌, ◌-◌, [], None, Some, true, false}
 use Rattle.mem_banks.specs.Memory.{byte_at}
 use Rattle.task_table.specs.State.{State}
 use Rattle.task_table.specs.Reading.{register, chosen}

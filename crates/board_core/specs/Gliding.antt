@@ -7,6 +7,7 @@ use Rattle.region_check.specs.declared.Region.{Region}
 use Rattle.thumb_exec.specs.declared.cpu.Cpu.{Cpu}
 use Rattle.thumb_exec.specs.Effect.{Halts}
 use Rattle.thumb_exec.specs.Fetch.{step_effect}
+use Rattle.thumb_step.specs.declared.window.Window.{Window}
 use Rattle.thumb_step.specs.Windows.{View, Glides, IsApart, IsAtSyscall, is_at_syscall, refused_by, held_by}
 use Rattle.task_table.specs.State.{Setup, Turn}
 use Rattle.task_table.specs.Reading.{task_at, setup_at, register, is_ready}
@@ -20,20 +21,20 @@ use Rattle.board_core.specs.declared.machine.Machine.{Machine}
 use Rattle.board_core.specs.Machine.{MachineHolds, MachineStands}
 use Rattle.board_core.specs.Data.{Shows}
 
--- what the processor reaches while it has these bytes
-abbrev pub lent_view : Glider → List ℕ → List ℕ → List ℕ → View
-lent_view a flash ram area =
+-- what a window is while it has these bytes
+abbrev pub lent_view : Window → List ℕ → List ℕ → List ℕ → View
+lent_view w flash ram area =
     record {
-      flash_base = a.runner.window.flash_base;
+      flash_base = w.flash_base;
       flash = flash;
-      readable = a.runner.window.readable;
-      code_base = a.runner.window.code_base;
-      code_size = a.runner.window.code_size;
-      ram_base = a.runner.window.ram_base;
+      readable = w.readable;
+      code_base = w.code_base;
+      code_size = w.code_size;
+      ram_base = w.ram_base;
       ram = ram;
-      area_base = a.runner.window.area_base;
+      area_base = w.area_base;
       area = area;
-      area_writable = a.runner.window.area_writable;
+      area_writable = w.area_writable;
     }
 
 -- the next instruction is a system call, faults or reaches beyond the window
@@ -49,11 +50,11 @@ pub record TellsCall (most n : ℕ) (before after : View) (c : Cpu) (calls : Boo
 
 -- it made instructions on end within its window
 pub record HasWorked (a : Glider) (flash ram area : List ℕ) (b : Glider) (after area_after : List ℕ) : Type 0 where
-  pub glides : Glides (lent_view a flash ram area) a.runner.processor b.made (lent_view a flash after area_after) b.runner.processor
+  pub glides : Glides (lent_view a.runner.window flash ram area) a.runner.processor b.made (lent_view a.runner.window flash after area_after) b.runner.processor
   pub within : b.made ≤ a.most
   -- it stopped before that many only where it had to
-  pub far : IsApart (lent_view a flash ram area) → b.made < a.most → IsLast (lent_view a flash after area_after) b.runner.processor
-  pub tells : TellsCall a.most b.made (lent_view a flash ram area) (lent_view a flash after area_after) b.runner.processor b.at_syscall
+  pub far : IsApart (lent_view a.runner.window flash ram area) → b.made < a.most → IsLast (lent_view a.runner.window flash after area_after) b.runner.processor
+  pub tells : TellsCall a.most b.made (lent_view a.runner.window flash ram area) (lent_view a.runner.window flash after area_after) b.runner.processor b.at_syscall
 
 -- n instructions on end of a task within a window that fetches from no breakpoint and lacks the byte that is watched, and over it and the devices that it may read, of
 -- which as many go on as there may be, and whether the next one is known to be a system call. Where there were some, the task is the

@@ -55,6 +55,11 @@ held_at o a n = if is_device a then or_zero (device_number o.devices a n) else h
 abbrev pub IsRead : Sight → ℕ → ℕ → Result ℕ ℕ → Type 0
 IsRead o a n answer = MatchResult answer (λ value. (refused_at o a n Read ≡ None) × (value ≡ held_at o a n)) (λ at. refused_at o a n Read ≡ Some at)
 
+-- a halfword that is fetched
+pub record IsFetchedAt (o : Sight) (a half : ℕ) : Type 0 where
+  pub may : refused_at o a 2 Execute ≡ None
+  pub is : half ≡ held_at o a 2
+
 -- a store is one in the window; what was loaded from a device is taken
 abbrev pub moved_at : Sight → Move → Sight
 moved_at o (Puts x) = record o { view = write o.view x }

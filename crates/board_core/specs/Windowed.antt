@@ -1,6 +1,6 @@
 -- Turns of a task whose instructions stay within a window of its flash and its data.
 use Rattle.words_core.specs.Regs.{program_counter}
-use Rattle.std.specs.Prelude.{ℕ, zero, suc, ◌≡◌, ◌⊎◌, Bool, false, ◌+◌, ◌<◌, ◌≤◌, true, List, length, [], Some, Ok, Contains}
+use Rattle.std.specs.Prelude.{ℕ, zero, suc, ◌≡◌, ◌⊎◌, Bool, false, ◌+◌, ◌<◌, ◌≤◌, true, length, [], Some, Ok, Contains}
 use Rattle.region_check.specs.declared.Region.{Region}
 use Rattle.region_check.specs.declared.Right.TheVariants.{Read, Write, Execute}
 use Rattle.mem_banks.specs.Memory.{Memory, byte_at, bytes_at, with_bytes}

@@ -51,7 +51,8 @@ fn stays(last: &Choice, ready: &TaskSet, current: usize) -> bool
 }
 
 /// The choice for a kernel as it is, in the place of that for an earlier state of it: a task that was chosen and
-/// runs is chosen again as long as the same tasks are ready. A set of tasks is copied only where it has changed.
+/// runs is chosen again as long as the same tasks are ready. The set of them is copied only where it has changed, and whole, since
+/// the copy of a part takes longer.
 #[inline(always)]
 pub fn renew_choice(kernel: &Kernel, choice: &mut Choice)
     ensures { (g : Setup) (t : Turn) → Holds g kernel.now t → WasChoice g choice.old → IsChoice g t.state choice.new }
@@ -61,5 +62,5 @@ pub fn renew_choice(kernel: &Kernel, choice: &mut Choice)
         return;
     }
     choice.next = choose(kernel);
-    choice.ready.become_as(kernel.ready());
+    choice.ready = *kernel.ready();
 }

@@ -8,6 +8,7 @@ ghost use Rattle.board_core.specs.Gliding.{GlidesFrom};
 ghost use Rattle.board_core.specs.Stops.{stops_at};
 
 use crate::breakpoints::stretch_of;
+use crate::glider::aim_window;
 use crate::machine::{Machine, load};
 use region_check::Region;
 use std::mem::swap;
@@ -117,23 +118,24 @@ impl Machine {
             return none_made();
         };
         let code = stretch_of(breakpoints, &flash, pc);
-        self.poller.glider.aim(&flash, code, &ram, &area, most);
-        self.poller.glider.runner.processor = self.glider.runner.processor;
-        swap(&mut self.poller.devices, &mut self.reach.devices);
-        swap(&mut self.poller.ports, ports);
+        aim_window(&mut self.poller.seen.window, &flash, code, &ram, &area);
+        self.poller.most = most;
+        self.poller.processor = self.glider.runner.processor;
+        swap(&mut self.poller.seen.devices, &mut self.reach.devices);
+        swap(&mut self.poller.seen.ports, ports);
         let opened = self
             .reach
             .kernel
             .open_window(&flash, &ram, &area, &mut self.poller);
-        swap(&mut self.poller.ports, ports);
-        swap(&mut self.poller.devices, &mut self.reach.devices);
+        swap(&mut self.poller.seen.ports, ports);
+        swap(&mut self.poller.seen.devices, &mut self.reach.devices);
         if !opened {
             return none_made();
         }
-        self.glider.runner.processor = self.poller.glider.runner.processor;
+        self.glider.runner.processor = self.poller.processor;
         let glided = Glided {
             made: self.poller.made,
-            at_syscall: self.poller.glider.at_syscall,
+            at_syscall: self.poller.at_syscall,
         };
         if glided.made == 0 {
             return glided;

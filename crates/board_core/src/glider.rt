@@ -1,5 +1,5 @@
 //! The processor of the current task, which can have a window, the bytes of three of the task's regions.
-ghost use Rattle.std.specs.Prelude.{◌≡◌, ◌≤◌, ◌<◌, true, false, length, []};
+ghost use Rattle.std.specs.Prelude.{◌≡◌, ◌≤◌, ◌<◌, true, false, length, replicate, []};
 ghost use Rattle.thumb_step.specs.Windows.{Glides, IsApart, Keeps, IsAtSyscall, is_at_syscall, view_of};
 ghost use Rattle.board_core.specs.Gliding.{HasWorked, IsLast, TellsCall};
 
@@ -38,6 +38,63 @@ pub fn is_apart(window: &Window) -> bool
         && end <= window.ram_base as usize
 }
 
+/// A processor that has no task's context as yet.
+pub fn no_context() -> Cpu
+    ensures registers { result.regs.words ≡ replicate 16 0 }
+    ensures flags { result.flags ≡ record { n = false; z = false; c = false; v = false } }
+{
+    let flags = Flags {
+        n: false,
+        z: false,
+        c: false,
+        v: false,
+    };
+    Cpu {
+        regs: Regs::of([0; 16]),
+        flags,
+    }
+}
+
+/// A window that has no bytes.
+pub fn no_window(alloc: Global) -> Window
+    ensures flash { result.flash.items ≡ [] }
+    ensures ram { result.ram.items ≡ [] }
+    ensures area { result.area.items ≡ [] }
+{
+    Window {
+        flash: Vec::new(alloc),
+        flash_base: 0,
+        readable: false,
+        code_base: 0,
+        code_size: 0,
+        ram: Vec::new(alloc),
+        ram_base: 0,
+        area: Vec::new(alloc),
+        area_base: 0,
+        area_writable: false,
+    }
+}
+
+/// A window is to have the bytes of these three regions, and instructions are fetched from a stretch of the first.
+#[inline(always)]
+pub fn aim_window(window: &mut Window, flash: &Region, code: Stretch, ram: &Region, area: &Region)
+    ensures flash { window.new.flash_base ≡ flash.now.base }
+    ensures readable { window.new.readable ≡ flash.now.rights.read }
+    ensures code { window.new.code_base ≡ code.base }
+    ensures size { window.new.code_size ≡ code.size }
+    ensures ram { window.new.ram_base ≡ ram.now.base }
+    ensures area { window.new.area_base ≡ area.now.base }
+    ensures writable { window.new.area_writable ≡ area.now.rights.write }
+{
+    window.flash_base = flash.base;
+    window.readable = flash.rights.read;
+    window.code_base = code.base;
+    window.code_size = code.size;
+    window.ram_base = ram.base;
+    window.area_base = area.base;
+    window.area_writable = area.rights.write;
+}
+
 impl Glider {
     /// One that never had a window.
     pub fn new(alloc: Global) -> Glider
@@ -46,30 +103,10 @@ impl Glider {
         ensures area { result.runner.window.area.items ≡ [] }
         ensures none { result.made ≡ 0 }
     {
-        let flags = Flags {
-            n: false,
-            z: false,
-            c: false,
-            v: false,
-        };
         Glider {
             runner: Runner {
-                processor: Cpu {
-                    regs: Regs::of([0; 16]),
-                    flags,
-                },
-                window: Window {
-                    flash: Vec::new(alloc),
-                    flash_base: 0,
-                    readable: false,
-                    code_base: 0,
-                    code_size: 0,
-                    ram: Vec::new(alloc),
-                    ram_base: 0,
-                    area: Vec::new(alloc),
-                    area_base: 0,
-                    area_writable: false,
-                },
+                processor: no_context(),
+                window: no_window(alloc),
             },
             most: 0,
             made: 0,
@@ -89,13 +126,7 @@ impl Glider {
         ensures writable { self.new.runner.window.area_writable ≡ area.now.rights.write }
         ensures most { self.new.most ≡ most }
     {
-        self.runner.window.flash_base = flash.base;
-        self.runner.window.readable = flash.rights.read;
-        self.runner.window.code_base = code.base;
-        self.runner.window.code_size = code.size;
-        self.runner.window.ram_base = ram.base;
-        self.runner.window.area_base = area.base;
-        self.runner.window.area_writable = area.rights.write;
+        aim_window(&mut self.runner.window, flash, code, ram, area);
         self.most = most;
     }
 
@@ -115,9 +146,9 @@ impl Glider {
         self.run()
     }
 
-    /// The same, where it is known that they do. There is one copy for both who call it, so that LLVM has the runner's loop in it.
+    /// The same, where it is known that they do. It is a function of its own, so that LLVM has the runner's loop in it.
     #[inline(never)]
-    pub fn run(&mut self) -> u32
+    fn run(&mut self) -> u32
         requires apart { IsApart (view_of self.old.runner.window) }
         ensures glides { Glides (view_of self.old.runner.window) self.old.runner.processor result (view_of self.new.runner.window) self.new.runner.processor }
         ensures within { result ≤ self.old.most }
@@ -131,12 +162,14 @@ impl Glider {
         ensures told { result < self.old.most → self.new.at_syscall ≡ is_at_syscall (view_of self.new.runner.window) self.new.runner.processor }
     {
         let made = self.runner.glide(self.most);
-        self.at_syscall = made < self.most && self.runner.is_at_syscall();
+        self.at_syscall = made < self.most
+            && self.runner.window.is_at_syscall(&self.runner.processor);
         made
     }
 
     /// The instructions, where the window has flash and RAM, and this is its area. Most tasks have none: then the window's own is
     /// emptied, which is one store, where two swaps are twelve.
+    #[inline(always)]
     fn work_beside(&mut self, area: &mut Vec<u8>)
         ensures did { HasWorked self.old self.old.runner.window.flash.items self.old.runner.window.ram.items area.old.items self.new self.new.runner.window.ram.items area.new.items }
         ensures flash { self.new.runner.window.flash.items ≡ self.old.runner.window.flash.items }
@@ -157,6 +190,7 @@ impl Glider {
 impl WindowUser for Glider {
     ghost did = { λ a flash ram area b after area_after. HasWorked a flash ram area b after area_after };
 
+    #[inline(always)]
     fn work(&mut self, flash: &mut Vec<u8>, ram: &mut Vec<u8>, area: &mut Vec<u8>) {
         swap(&mut self.runner.window.flash, flash);
         swap(&mut self.runner.window.ram, ram);

@@ -1,56 +1,57 @@
 //! The processor of the current task while it has a window and, beside it, the devices of which the task may read some.
-ghost use Rattle.std.specs.Prelude.{◌≡◌, ◌+◌, ◌%◌, ◌≤◌, ◌<◌, length, true, false, []};
+ghost use Rattle.std.specs.Prelude.{◌≡◌, ◌+◌, ◌/◌, ◌≤◌, ◌<◌, Some, MatchOption, length, true, false, []};
 ghost use Rattle.kernel_abi.specs.Devices.{device_number};
 ghost use Rattle.words_core.specs.Regs.{reg_at, program_counter};
+ghost use Rattle.region_check.specs.declared.Right.TheVariants.{Execute};
 ghost use Rattle.thumb_exec.specs.Sizes.{IsSize};
-ghost use Rattle.thumb_step.specs.Windows.{given, IsApart, Keeps, IsAtSyscall, view_of};
+ghost use Rattle.thumb_step.specs.Windows.{given, code_places, IsApart, Keeps, view_of};
 ghost use Rattle.board_model.specs.Turn.{is_device, or_zero};
 ghost use Rattle.board_core.specs.Data.{data_of};
-ghost use Rattle.board_core.specs.Sights.{GoesOnBeside, Polls, IsAtLimit, IsRead, in_port, refused_at, held_at};
+ghost use Rattle.board_core.specs.Sights.{GoesOnBeside, Polls, IsAtLimit, IsRead, IsFetchedAt, in_port, refused_at, held_at};
 ghost use Rattle.board_core.specs.Gliding.{TellsCall};
-ghost use Rattle.board_core.specs.Polling.{sight_of, cpu_in, IsPut, IsTaken, HasPolled};
+ghost use Rattle.board_core.specs.Polling.{sight_of, Did, IsPut, IsTaken, HasPolled};
 
-use crate::glider::{Glider, is_apart};
+use crate::glider::{is_apart, no_context, no_window};
 use crate::list::Devices;
 use crate::reach::is_device;
 use mem_banks::WindowUser;
 use region_check::{Region, Right};
 use std::alloc::Global;
 use std::mem::swap;
+use thumb_decode::{Taker, decode, narrow_to};
 use thumb_exec::bus::Bus;
+use thumb_exec::cpu::Cpu;
 use thumb_exec::step::proceed;
-use thumb_step::fetch;
+use thumb_insn::{Decoded, Insn};
+use thumb_step::Window;
 use words_core::PROGRAM_COUNTER;
 
-/// A processor that makes instructions on end while it has a window, and loads from devices between them. Between two uses
-/// it has no device and no port, and its window has no bytes.
+/// What a task sees that may read devices: a window and, beside it, the devices.
 #[derive(Drop)]
-pub struct Poller {
-    pub glider: Glider,
+pub struct Seen {
+    pub window: Window,
     pub devices: Devices,
 
     /// The regions of devices that the task may read.
     pub ports: Vec<Region>,
-
-    /// How many instructions there were.
-    pub made: u32,
 }
 
-impl Poller {
-    /// One that never had a window.
-    pub fn new(alloc: Global) -> Poller
-        ensures devices { data_of shown result.devices ≡ [] }
-        ensures ports { result.ports.items ≡ [] }
-        ensures none { result.made ≡ 0 }
-    {
-        Poller {
-            glider: Glider::new(alloc),
-            devices: Devices::of(Vec::new(alloc)),
-            ports: Vec::new(alloc),
-            made: 0,
-        }
-    }
+/// A processor that makes instructions on end over a window and the devices. Between two uses it sees no device and no
+/// port, and its window has no bytes.
+#[derive(Drop)]
+pub struct Poller {
+    pub processor: Cpu,
+    pub seen: Seen,
 
+    /// How many instructions there may be at most, and how many there were.
+    pub most: u32,
+    pub made: u32,
+
+    /// Whether the next one, where there were fewer, is a system call.
+    pub at_syscall: bool,
+}
+
+impl Seen {
     /// Whether a port has all of n bytes.
     #[inline(always)]
     fn in_port(&self, addr: u32, n: u32) -> bool
@@ -75,83 +76,21 @@ impl Poller {
         }
     }
 
-    /// One instruction over the window and the devices, where it goes on; else nothing changes, and the answer is false.
+    /// The halfword at an address, where it may be executed, by how many places the stretch of the window has for one.
     #[inline(always)]
-    fn step(&mut self) -> bool
-        ensures goes { result ≡ true → GoesOnBeside (sight_of shown self.old) (cpu_in self.old) (sight_of shown self.new) (cpu_in self.new) }
-        ensures halts { result ≡ false → IsAtLimit (sight_of shown self.old) (cpu_in self.old) }
-        ensures kept { result ≡ false → self.new ≡ self.old }
-        ensures fixed { Keeps (view_of self.old.glider.runner.window) (view_of self.new.glider.runner.window) }
-        ensures ports { self.new.ports ≡ self.old.ports }
+    fn code_half(&self, addr: u32, places: u32) -> Option<u16>
+        requires apart { IsApart (view_of self.now.window) }
+        requires places { places ≡ code_places (view_of self.now.window) }
+        ensures { MatchOption result (refused_at (sight_of shown self.now) addr 2 Execute ≡ Some addr) (λ half. IsFetchedAt (sight_of shown self.now) addr half) }
     {
-        let mut processor = self.glider.runner.processor;
-        let at = processor.regs.get(PROGRAM_COUNTER);
-        if at % 2 != 0 {
-            return false;
+        if is_device(addr) {
+            return None;
         }
-        match fetch(&*self, at) {
-            Ok(fetched) => {
-                if !proceed(&mut processor, &fetched.insn, self) {
-                    return false;
-                }
-                self.glider.runner.processor = processor;
-                true
-            }
-            Err(_) => false,
-        }
-    }
-
-    /// One instruction over the window and the devices, and as many within the window after it as go on, in all at most so
-    /// many; none where the first one does not go on, as one that is known to be a system call. How many there were.
-    fn round(&mut self, most: u32) -> u32
-        requires some { 0 < most }
-        requires apart { IsApart (view_of self.old.glider.runner.window) }
-        requires calls { self.old.glider.at_syscall ≡ true → IsAtSyscall (view_of self.old.glider.runner.window) (cpu_in self.old) }
-        ensures polls { Polls (sight_of shown self.old) (cpu_in self.old) result (sight_of shown self.new) (cpu_in self.new) }
-        ensures within { result ≤ most }
-        ensures halts { result ≡ 0 → IsAtLimit (sight_of shown self.old) (cpu_in self.old) }
-        ensures kept { result ≡ 0 → self.new ≡ self.old }
-        ensures fixed { Keeps (view_of self.old.glider.runner.window) (view_of self.new.glider.runner.window) }
-        ensures ports { self.new.ports ≡ self.old.ports }
-        ensures tells { 0 < result → TellsCall most result (view_of self.old.glider.runner.window) (view_of self.new.glider.runner.window) (cpu_in self.new) self.new.glider.at_syscall }
-    {
-        if self.glider.at_syscall {
-            return 0;
-        }
-        if !self.step() {
-            return 0;
-        }
-        self.glider.most = most - 1;
-        self.glider.run() + 1
-    }
-
-    /// Instructions on end, at most as many as the glider is to make, where the stretch lies within the flash, and the flash below the RAM.
-    fn glide(&mut self) -> u32
-        ensures polls { Polls (sight_of shown self.old) (cpu_in self.old) result (sight_of shown self.new) (cpu_in self.new) }
-        ensures within { result ≤ self.old.glider.most }
-        ensures far { IsApart (view_of self.old.glider.runner.window) → result < self.old.glider.most → IsAtLimit (sight_of shown self.new) (cpu_in self.new) }
-        ensures fixed { Keeps (view_of self.old.glider.runner.window) (view_of self.new.glider.runner.window) }
-        ensures ports { self.new.ports ≡ self.old.ports }
-        ensures tells { TellsCall self.old.glider.most result (view_of self.old.glider.runner.window) (view_of self.new.glider.runner.window) (cpu_in self.new) self.new.glider.at_syscall }
-    {
-        if !is_apart(&self.glider.runner.window) {
-            self.glider.at_syscall = false;
-            return 0;
-        }
-        let most = self.glider.most;
-        let mut made = self.glider.run();
-        'rounds: while made < most {
-            let more = self.round(most - made);
-            if more == 0 {
-                return made;
-            }
-            made += more;
-        }
-        made
+        self.window.code_half(addr, places)
     }
 }
 
-impl Bus for Poller {
+impl Bus for Seen {
     ghost refuses = { λ p a n r. refused_at (sight_of (λ b. (Device-box b).shown b.value) p) a n r };
 
     ghost holds = { λ p a n. held_at (sight_of (λ b. (Device-box b).shown b.value) p) a n };
@@ -162,7 +101,7 @@ impl Bus for Poller {
 
     fn allows(&self, addr: u32, n: u32, right: Right) -> Option<u32> {
         if !is_device(addr) {
-            return self.glider.runner.window.allows(addr, n, right);
+            return self.window.allows(addr, n, right);
         }
         match right {
             Right::Read if self.in_port(addr, n) => None,
@@ -175,7 +114,7 @@ impl Bus for Poller {
         if is_device(addr) {
             return Err(addr);
         }
-        self.glider.runner.window.fetch(addr)
+        self.window.fetch(addr)
     }
 
     #[inline(always)]
@@ -183,7 +122,7 @@ impl Bus for Poller {
         if is_device(addr) {
             return self.load_device(addr, n);
         }
-        self.glider.runner.window.load(addr, n)
+        self.window.load(addr, n)
     }
 
     #[inline(always)]
@@ -191,7 +130,7 @@ impl Bus for Poller {
         if is_device(addr) {
             return Err(addr);
         }
-        self.glider.runner.window.store(addr, n, value)
+        self.window.store(addr, n, value)
     }
 
     #[inline(always)]
@@ -214,16 +153,141 @@ impl Bus for Poller {
     }
 }
 
+impl Taker for Poller {
+    ghost did = { λ a d r b. Did (λ x. (Device-box x).shown x.value) a d r b };
+
+    #[inline(always)]
+    fn take(&mut self, h: u16, insn: Insn) -> bool {
+        proceed(&mut self.processor, &insn, &mut self.seen)
+    }
+
+    #[inline(always)]
+    fn illegal(&mut self) -> bool {
+        false
+    }
+
+    #[inline(always)]
+    fn needs_second(&mut self) -> bool {
+        false
+    }
+}
+
+impl Poller {
+    /// One that never had a window.
+    pub fn new(alloc: Global) -> Poller
+        ensures devices { data_of shown result.seen.devices ≡ [] }
+        ensures ports { result.seen.ports.items ≡ [] }
+        ensures none { result.made ≡ 0 }
+    {
+        Poller {
+            processor: no_context(),
+            seen: Seen {
+                window: no_window(alloc),
+                devices: Devices::of(Vec::new(alloc)),
+                ports: Vec::new(alloc),
+            },
+            most: 0,
+            made: 0,
+            at_syscall: false,
+        }
+    }
+
+    /// One instruction over the window and the devices, where it goes on; else nothing changes, and the answer is false.
+    #[inline(always)]
+    fn step(&mut self, places: u32) -> bool
+        requires apart { IsApart (view_of self.old.seen.window) }
+        requires places { places ≡ code_places (view_of self.old.seen.window) }
+        ensures goes { result ≡ true → GoesOnBeside (sight_of shown self.old.seen) self.old.processor (sight_of shown self.new.seen) self.new.processor }
+        ensures halts { result ≡ false → IsAtLimit (sight_of shown self.old.seen) self.old.processor }
+        ensures kept { result ≡ false → self.new ≡ self.old }
+        ensures fixed { Keeps (view_of self.old.seen.window) (view_of self.new.seen.window) }
+        ensures ports { self.new.seen.ports ≡ self.old.seen.ports }
+    {
+        let at = self.processor.regs.get(PROGRAM_COUNTER);
+        let Some(first) = self.seen.code_half(at, places) else {
+            return false;
+        };
+        if narrow_to(first, self) {
+            return true;
+        }
+        // Wide ones are rare, and are looked for here for speed, as a runner does.
+        if first / 2048 >= 29 {
+            return self.step_wide(at, first, places);
+        }
+        false
+    }
+
+    /// The same where this first halfword begins a wide instruction.
+    #[inline(never)]
+    fn step_wide(&mut self, at: u32, first: u16, places: u32) -> bool
+        requires apart { IsApart (view_of self.old.seen.window) }
+        requires places { places ≡ code_places (view_of self.old.seen.window) }
+        requires here { at ≡ reg_at self.old.processor.regs program_counter }
+        requires first { IsFetchedAt (sight_of shown self.old.seen) at first }
+        requires wide { 29 ≤ first / 2048 }
+        ensures goes { result ≡ true → GoesOnBeside (sight_of shown self.old.seen) self.old.processor (sight_of shown self.new.seen) self.new.processor }
+        ensures halts { result ≡ false → IsAtLimit (sight_of shown self.old.seen) self.old.processor }
+        ensures kept { result ≡ false → self.new ≡ self.old }
+        ensures fixed { Keeps (view_of self.old.seen.window) (view_of self.new.seen.window) }
+        ensures ports { self.new.seen.ports ≡ self.old.seen.ports }
+    {
+        let Some(second) = self.seen.code_half(at.wrapping_add(2), places) else {
+            return false;
+        };
+        match decode(first, Some(second)) {
+            Decoded::Wide(insn) => proceed(&mut self.processor, &insn, &mut self.seen),
+            _ => false,
+        }
+    }
+
+    /// Instructions on end, at most so many, as long as each goes on. How many there were.
+    #[inline(never)]
+    fn run(&mut self, most: u32) -> u32
+        requires apart { IsApart (view_of self.old.seen.window) }
+        ensures polls { Polls (sight_of shown self.old.seen) self.old.processor result (sight_of shown self.new.seen) self.new.processor }
+        ensures within { result ≤ most }
+        ensures far { result < most → IsAtLimit (sight_of shown self.new.seen) self.new.processor }
+        ensures fixed { Keeps (view_of self.old.seen.window) (view_of self.new.seen.window) }
+        ensures ports { self.new.seen.ports ≡ self.old.seen.ports }
+    {
+        let places = self.seen.window.code_places();
+        let mut left = most;
+        'on: while left > 0 && self.step(places) {
+            left -= 1;
+        }
+        most - left
+    }
+
+    /// Instructions on end, where the stretch lies within the flash, and the flash below the RAM.
+    fn glide(&mut self) -> u32
+        ensures polls { Polls (sight_of shown self.old.seen) self.old.processor result (sight_of shown self.new.seen) self.new.processor }
+        ensures within { result ≤ self.old.most }
+        ensures far { IsApart (view_of self.old.seen.window) → result < self.old.most → IsAtLimit (sight_of shown self.new.seen) self.new.processor }
+        ensures fixed { Keeps (view_of self.old.seen.window) (view_of self.new.seen.window) }
+        ensures ports { self.new.seen.ports ≡ self.old.seen.ports }
+        ensures tells { TellsCall self.old.most result (view_of self.old.seen.window) (view_of self.new.seen.window) self.new.processor self.new.at_syscall }
+    {
+        if !is_apart(&self.seen.window) {
+            self.at_syscall = false;
+            return 0;
+        }
+        let most = self.most;
+        let made = self.run(most);
+        self.at_syscall = made < most && self.seen.window.is_at_syscall(&self.processor);
+        made
+    }
+}
+
 impl WindowUser for Poller {
     ghost did = { λ a flash ram area b after area_after. HasPolled (λ b. (Device-box b).shown b.value) a flash ram area b after area_after };
 
     fn work(&mut self, flash: &mut Vec<u8>, ram: &mut Vec<u8>, area: &mut Vec<u8>) {
-        swap(&mut self.glider.runner.window.flash, flash);
-        swap(&mut self.glider.runner.window.ram, ram);
-        swap(&mut self.glider.runner.window.area, area);
+        swap(&mut self.seen.window.flash, flash);
+        swap(&mut self.seen.window.ram, ram);
+        swap(&mut self.seen.window.area, area);
         self.made = self.glide();
-        swap(&mut self.glider.runner.window.area, area);
-        swap(&mut self.glider.runner.window.ram, ram);
-        swap(&mut self.glider.runner.window.flash, flash);
+        swap(&mut self.seen.window.area, area);
+        swap(&mut self.seen.window.ram, ram);
+        swap(&mut self.seen.window.flash, flash);
     }
 }

@@ -1,8 +1,8 @@
 //! What the current task reaches of the kernel's memory: the bus of its processor.
-ghost use Rattle.std.specs.Prelude.{◌≡◌, ◌&&◌, ◌+◌, ◌*◌, ◌≤◌, ◌<◌, ◌%◌, ◌^◌, Option, Some, true, false, None, MatchOption, MatchResult, Contains};
+ghost use Rattle.std.specs.Prelude.{◌≡◌, ◌&&◌, ◌+◌, ◌*◌, ◌≤◌, ◌<◌, ◌%◌, ◌^◌, Option, Some, true, false, None, IfSome, MatchOption, MatchResult, Contains};
 ghost use Rattle.std.specs.List.{list_any};
 ghost use Rattle.region_check.specs.declared.Right.TheVariants.{Execute, Read};
-ghost use Rattle.board_core.specs.Reached.{is_flash_at, is_ram_at, is_area, IsStackRegion, IsAreaRegion, AreLent, no_region, unwatched};
+ghost use Rattle.board_core.specs.Reached.{is_flash_at, is_ram_at, is_area, IsStackRegion, IsAreaRegion, AreReached, AreLent, no_region, unwatched};
 ghost use Rattle.task_table.specs.Reading.{setup_at};
 ghost use Rattle.mem_banks.specs.Windows.{IsNoRegion};
 ghost use Rattle.task_table.specs.Openable.{span_of};
@@ -188,6 +188,17 @@ fn unwatched(watched: Option<u32>, region: Region) -> Region
     }
 }
 
+/// The region of the stack and a further one, each an empty one where it has the byte that is watched.
+#[inline(always)]
+fn lent(watched: Option<u32>, stack: Region, further: Region) -> (Region, Region)
+    ensures ram { result.0 ≡ unwatched watched stack }
+    ensures area { result.1 ≡ unwatched watched further }
+{
+    let ram = unwatched(watched, stack);
+    let area = unwatched(watched, further);
+    (ram, area)
+}
+
 /// One of some regions that is of the flash and has the instruction at an address.
 fn flash_at(regions: &[Region], at: u32) -> Option<Region>
     ensures { MatchOption result (list_any (is_flash_at at) regions.now ≡ false) (λ r. Contains regions.now r × (is_flash_at at r ≡ true)) }
@@ -224,6 +235,35 @@ fn area_of(regions: &[Region], stack: &Region) -> Region
     no_region()
 }
 
+/// The region that has the instruction at PC, that of the stack and a further one, where the first of some has that instruction and
+/// the second one the stack, as those of a task are laid out: then neither is looked for.
+#[inline(always)]
+fn laid_out(regions: &[Region], pc: u32, sp: u32) -> Option<(Region, Region, Region)>
+    ensures { IfSome result (λ w. AreReached regions.now pc sp w.0 w.1 w.2) }
+{
+    if regions.len() < 2 {
+        return None;
+    }
+    let flash = &regions[0];
+    let stack = &regions[1];
+    if !is_flash_at(flash, pc) || !is_ram_at(stack, sp) {
+        return None;
+    }
+    let further = area_of(&regions[2..], stack);
+    Some((*flash, *stack, further))
+}
+
+/// The same, wherever among them they are.
+#[inline(never)]
+fn looked_up(regions: &[Region], pc: u32, sp: u32) -> Option<(Region, Region, Region)>
+    ensures { MatchOption result (list_any (is_flash_at pc) regions.now ≡ false) (λ w. AreReached regions.now pc sp w.0 w.1 w.2) }
+{
+    let flash = flash_at(regions, pc)?;
+    let stack = ram_at(regions, sp);
+    let further = area_of(regions, &stack);
+    Some((flash, stack, further))
+}
+
 impl Reach {
     /// The three regions in which a task may make many instructions on end: that of the flash that has its PC, that of the RAM
     /// that has its stack, and the first further one of the RAM that it may read. Each of these two may be an empty one, and is
@@ -239,11 +279,12 @@ impl Reach {
         ensures { let regions = (setup_at (setup_of self.now.kernel) task).regions in MatchOption result (list_any (is_flash_at pc) regions ≡ false) (λ w. AreLent watched regions pc sp w.0 w.1 w.2) }
     {
         let regions = self.kernel.regions(task);
-        let flash = flash_at(regions, pc)?;
-        let stack = ram_at(regions, sp);
-        let further = area_of(regions, &stack);
-        let ram = unwatched(watched, stack);
-        let area = unwatched(watched, further);
+        if let Some((flash, stack, further)) = laid_out(regions, pc, sp) {
+            let (ram, area) = lent(watched, stack, further);
+            return Some((flash, ram, area));
+        }
+        let (flash, stack, further) = looked_up(regions, pc, sp)?;
+        let (ram, area) = lent(watched, stack, further);
         Some((flash, ram, area))
     }
 }

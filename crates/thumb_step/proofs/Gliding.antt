@@ -109,17 +109,17 @@ held_flash v a apart h =
 -- ## The instruction at PC
 
 module _ (refuses : Refusals) (holds : Contents) (c : Cpu) (at first : ℕ) (here : at ≡ reg_at c.regs 15) (may : refuses at 2 Execute ≡ None) (is : first ≡ holds at 2) where
-  narrow_effect : is_wide first ≡ false → step_effect refuses holds c ≡ executed refuses holds c (instruction at first (narrow_result (narrow_of first)))
+  pub narrow_effect : is_wide first ≡ false → step_effect refuses holds c ≡ executed refuses holds c (instruction at first (narrow_result (narrow_of first)))
   narrow_effect narrow = rw (← here, may, ← is, narrow) refl
 
-  wide_effect : (second : ℕ) → is_wide first ≡ true → refuses (after at) 2 Execute ≡ None → second ≡ holds (after at) 2 →
+  pub wide_effect : (second : ℕ) → is_wide first ≡ true → refuses (after at) 2 Execute ≡ None → second ≡ holds (after at) 2 →
       step_effect refuses holds c ≡ executed refuses holds c (instruction at (first * 2 ^ 16 + second) (decoded_of first (Some second)))
   wide_effect second wide may_too is_too = rw (← here, may, ← is, wide, may_too, ← is_too) refl
 
-fetched_may : (v : View) (at half : ℕ) → IsFetched v at half → refused_by v at 2 Execute ≡ None
+pub fetched_may : (v : View) (at half : ℕ) → IsFetched v at half → refused_by v at 2 Execute ≡ None
 fetched_may v at half f = ap (λ (b : Bool). given b at) f.there
 
-fetched_is : (v : View) (at half : ℕ) → IsApart v → IsFetched v at half → half ≡ held_by v at 2
+pub fetched_is : (v : View) (at half : ℕ) → IsApart v → IsFetched v at half → half ≡ held_by v at 2
 fetched_is v at half apart f = f.is ∙ sym (held_flash v at apart.below (in_flash v at 2 f.there))
 
 module _ (v : View) (c : Cpu) (at first : ℕ) (apart : IsApart v) (here : at ≡ reg_at c.regs 15) (f : IsFetched v at first) where
@@ -162,8 +162,8 @@ module _ (a b : Runner) (at code : ℕ) where
   did_goes NeedsSecond e h = absurd h
 
 -- only a narrow instruction went on
-pub went_narrow : (a b : Runner) (first : ℕ) → (29 ≤ first / 2048 → Did a NeedsSecond true b) → first / 2048 < 29
-went_narrow a b first second = by (cases_lt (first / 2048) 29)
+pub went_narrow : (first : ℕ) → (29 ≤ first / 2048 → ⊥) → first / 2048 < 29
+went_narrow first second = by (cases_lt (first / 2048) 29)
   where
     by : (first / 2048 < 29) ⊎ (29 ≤ first / 2048) → first / 2048 < 29
     by (inl narrow) = narrow

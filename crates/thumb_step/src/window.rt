@@ -138,7 +138,7 @@ impl Window {
 
     /// At how many places of the stretch a halfword can begin.
     #[inline(always)]
-    fn code_places(&self) -> u32
+    pub fn code_places(&self) -> u32
         ensures { result ≡ code_places (view_of self.now) }
     {
         if self.code_size > 0 {
@@ -151,7 +151,7 @@ impl Window {
     /// The halfword at an address, where the stretch has it, by how many places it has for one. It ends within the address space,
     /// since the flash ends below the RAM: so one comparison tells.
     #[inline(always)]
-    fn code_half(&self, addr: u32, places: u32) -> Option<u16>
+    pub fn code_half(&self, addr: u32, places: u32) -> Option<u16>
         requires apart { IsApart (view_of self.now) }
         requires places { places ≡ code_places (view_of self.now) }
         ensures { MatchOption result (has_code (view_of self.now) addr 2 ≡ false) (λ half. IsFetched (view_of self.now) addr half) }
@@ -162,6 +162,20 @@ impl Window {
             Some(half(&self.flash, (addr - self.flash_base) as usize))
         } else {
             None
+        }
+    }
+
+    /// Whether the instruction at a processor's PC is a system call in the stretch, by one look at its halfword.
+    #[inline(always)]
+    pub fn is_at_syscall(&self, processor: &Cpu) -> bool
+        requires apart { IsApart (view_of self.now) }
+        ensures is { result ≡ is_at_syscall (view_of self.now) processor.now }
+        ensures fetched { result ≡ true → IsAtSyscall (view_of self.now) processor.now }
+    {
+        let at = processor.regs.get(PROGRAM_COUNTER);
+        match self.code_half(at, self.code_places()) {
+            None => false,
+            Some(half) => half / 256 == 0xDF,
         }
     }
 
@@ -370,19 +384,5 @@ impl Runner {
             left -= 1;
         }
         most - left
-    }
-
-    /// Whether the instruction at PC is a system call in the stretch, by one look at its halfword.
-    #[inline(always)]
-    pub fn is_at_syscall(&self) -> bool
-        requires apart { IsApart (view_of self.now.window) }
-        ensures is { result ≡ is_at_syscall (view_of self.now.window) self.now.processor }
-        ensures fetched { result ≡ true → IsAtSyscall (view_of self.now.window) self.now.processor }
-    {
-        let at = self.processor.regs.get(PROGRAM_COUNTER);
-        match self.window.code_half(at, self.window.code_places()) {
-            None => false,
-            Some(half) => half / 256 == 0xDF,
-        }
     }
 }

@@ -1,7 +1,6 @@
 use Rattle.std.proofs.Common.{◌∙◌, sym}
 use Rattle.task_table.specs.Reading.{is_ready}
 use Rattle.task_table.specs.Holds.{order_of}
-use Rattle.task_table.specs.Order.{place_in}
 use Rattle.board_model.proofs.Quiet.{chosen_again}
 use Rattle.board_core.proofs.Choosing.{same_ready, same_tests}
 use Rattle.board_core.proofs.choice.renew_choice.Goals as goal
@@ -24,6 +23,6 @@ returns c = λ g t h was.
     record {
       next = c.choose-choice.ensures g t h;
       order = order;
-      ready = record { ordered = now.ordered; each = λ i there. c.become_as.ensures (place_in order.places.items i) ∙ now.each i there };
+      ready = now;
       down = c.is_down-choice.ensures g t h;
     }

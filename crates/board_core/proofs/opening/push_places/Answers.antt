@@ -1,5 +1,5 @@
-use Rattle.std.proofs.Common.{◌≡◌, ℕ, List, length, subst, Bool, true, false, not, arith, ap, refl, sym, ◌∙◌}
-use Rattle.std.proofs.lemmas.Bool.{false≢true, not-true, not-false}
+use Rattle.std.proofs.Common.{◌≡◌, ℕ, List, length, subst, arith, ap, ◌∙◌}
+use Rattle.std.proofs.lemmas.Bool.{not-true, not-false}
 use Rattle.region_check.specs.declared.Region.{Region}
 use Rattle.image_format.specs.Images.{picture}
 use Rattle.board_core.proofs.Opens.{HaveFirst, none_first, places_step, pushed_more, device_more, places_kept, places_further}

@@ -1,6 +1,5 @@
 use Rattle.std.specs.Prelude.{is_some}
-use Rattle.std.proofs.Common.{Some, ◌≡◌, ◌≢◌, ◌⊎◌, inl, inr, ◌-◌, ◌≤◌, ◌<◌, ℕ, Bool, true, false, refl, leb, ltb, [], suc, None, ◌∙◌, arith, ap, subst}
-use Rattle.std.proofs.lemmas.Bool.{leb-true, leb-false, ltb-true, ltb-false}
+use Rattle.std.proofs.Common.{Some, ◌≡◌, ◌≢◌, ◌-◌, ℕ, Bool, refl, [], suc, arith, ap, subst}
 use Rattle.run_script.specs.Scripts.{events_of}
 use Rattle.task_table.specs.State.{State}
 use Rattle.board_model.specs.declared.outcomes.Level.TheVariants.{Calls}

@@ -42,9 +42,9 @@ returns-clause-glided boxes c = λ g t r inside ready alone.
     let stretch = stretch_as c.args.breakpoints.now _ _ _ _ _ _ _ aim.code aim.size c.stretch_of-code.ensures in
     let opened = c.open_window.ensures.opened c.if-not-open_window.false in
     let a = c.aim.new.self in
-    let apart = apart_here _ (stops_at c.args.breakpoints.now c.args.watched) g m task c.args.most t _ _ _ _ _ _ a _ a c.open_window.new.self h inside c.in-Some.ensures pc sp aim.flash stretch aim.readable aim.ram aim.area aim.writable opened in
+    let apart = apart_here _ (stops_at c.args.breakpoints.now c.args.watched) g m task c.args.most t _ _ _ _ _ _ a _ a.runner.window c.open_window.new.self h inside c.in-Some.ensures pc sp aim.flash stretch aim.readable aim.ram aim.area aim.writable opened in
     let work = glider_work g task a c.open_window.new.user _ _ _ _ _ t.state.devices _ c.args.most alone (aim.processor ∙ context_cpu _ g m task t h inside) aim.most apart opened.window.work in
-    inl (has_run _ (stops_at c.args.breakpoints.now c.args.watched) g m task c.args.most t _ _ _ _ _ _ a _ a c.open_window.new.self h inside c.in-Some.ensures pc sp aim.flash stretch aim.readable aim.ram aim.area aim.writable opened
+    inl (has_run _ (stops_at c.args.breakpoints.now c.args.watched) g m task c.args.most t _ _ _ _ _ _ a _ a.runner.window c.open_window.new.self h inside c.in-Some.ensures pc sp aim.flash stretch aim.readable aim.ram aim.area aim.writable opened
     _ _ _ _ work _ (omega (arith, c.if-made-eq0.false)) refl refl (context_devices _ g m task t h) (λ u held. c.set_current.ensures.holds g u held))
 
 pub returns-then-made-eq0-clause-glided : goal.returns-then-made-eq0-clause-glided
@@ -58,7 +58,7 @@ returns-then-made-eq0-clause-glided boxes c = λ g t r inside ready alone.
     let stretch = stretch_as c.args.breakpoints.now _ _ _ _ _ _ _ aim.code aim.size c.stretch_of-code.ensures in
     let opened = c.open_window.ensures.opened c.if-not-open_window.false in
     let a = c.aim.new.self in
-    let apart = apart_here _ (stops_at c.args.breakpoints.now c.args.watched) g m task c.args.most t _ _ _ _ _ _ a _ a c.open_window.new.self h inside c.in-Some.ensures pc sp aim.flash stretch aim.readable aim.ram aim.area aim.writable opened in
+    let apart = apart_here _ (stops_at c.args.breakpoints.now c.args.watched) g m task c.args.most t _ _ _ _ _ _ a _ a.runner.window c.open_window.new.self h inside c.in-Some.ensures pc sp aim.flash stretch aim.readable aim.ram aim.area aim.writable opened in
     let work = glider_work g task a c.open_window.new.user _ _ _ _ _ t.state.devices _ c.args.most alone (aim.processor ∙ context_cpu _ g m task t h inside) aim.most apart opened.window.work in
-    inl (has_stayed _ (stops_at c.args.breakpoints.now c.args.watched) g m task c.args.most t _ _ _ _ _ _ a _ a c.open_window.new.self h inside c.in-Some.ensures pc sp aim.flash stretch aim.readable aim.ram aim.area aim.writable opened
+    inl (has_stayed _ (stops_at c.args.breakpoints.now c.args.watched) g m task c.args.most t _ _ _ _ _ _ a _ a.runner.window c.open_window.new.self h inside c.in-Some.ensures pc sp aim.flash stretch aim.readable aim.ram aim.area aim.writable opened
     _ _ _ _ work _ (omega (arith, c.if-made-eq0.true)) refl refl refl (context_devices _ g m task t h) (c.take_context.ensures.holds g t r.holds))

@@ -40,13 +40,13 @@ returns-then-glided-eq0-clause-glided boxes c = λ g t r inside ready ports.
     let h = c.take_context.ensures.taken g t r.holds inside ready in
     let pc = c.get-pc.ensures ∙ context_register _ program_counter g m task t h inside in
     let sp = c.get-sp.ensures ∙ context_register _ stack_pointer g m task t h inside in
-    let aim = c.aim.ensures in
+    let aim = c.aim_window.ensures in
     let stretch = stretch_as c.args.breakpoints.now _ _ _ _ _ _ _ aim.code aim.size c.stretch_of-code.ensures in
     let opened = c.open_window-opened.ensures.opened c.if-not-opened.false in
-    let a = record c.aim.new.self { runner = record c.aim.new.self.runner { processor = m.glider.runner.processor } } in
+    let a = c.aim_window.new.window in
     let b = c.open_window-opened.new.user in
     let apart = apart_here _ (stops_at c.args.breakpoints.now c.args.watched) g m task c.args.most t _ _ _ _ _ _ _ _ a c.open_window-opened.new.self h inside c.in-Some.ensures pc sp aim.flash stretch aim.readable aim.ram aim.area aim.writable opened in
-    let work = poller_work shown g task _ b _ _ _ _ _ t.state.devices _ c.args.most (ap (λ v. v.items) c.swap-2.ensures.x_after ∙ sym ports) (context_cpu _ g m task t h inside) aim.most (ap (data_of shown) c.swap.ensures.x_after ∙ context_devices _ g m task t h) apart opened.window.work in
+    let work = poller_work shown g task _ b _ _ _ _ _ t.state.devices _ c.args.most (ap (λ v. v.items) c.swap-2.ensures.x_after ∙ sym ports) (context_cpu _ g m task t h inside) refl (ap (data_of shown) c.swap.ensures.x_after ∙ context_devices _ g m task t h) apart opened.window.work in
     inl (has_stayed _ (stops_at c.args.breakpoints.now c.args.watched) g m task c.args.most t _ _ _ _ _ _ _ _ a c.open_window-opened.new.self h inside c.in-Some.ensures pc sp aim.flash stretch aim.readable aim.ram aim.area aim.writable opened
     _ _ _ _ work _ (omega (arith, c.if-glided-eq0.true)) refl refl refl (ap (data_of shown) c.swap-4.ensures.y_after) (c.take_context.ensures.holds g t r.holds))
 
@@ -58,12 +58,12 @@ returns-clause-glided boxes c = λ g t r inside ready ports.
     let h = c.take_context.ensures.taken g t r.holds inside ready in
     let pc = c.get-pc.ensures ∙ context_register _ program_counter g m task t h inside in
     let sp = c.get-sp.ensures ∙ context_register _ stack_pointer g m task t h inside in
-    let aim = c.aim.ensures in
+    let aim = c.aim_window.ensures in
     let stretch = stretch_as c.args.breakpoints.now _ _ _ _ _ _ _ aim.code aim.size c.stretch_of-code.ensures in
     let opened = c.open_window-opened.ensures.opened c.if-not-opened.false in
-    let a = record c.aim.new.self { runner = record c.aim.new.self.runner { processor = m.glider.runner.processor } } in
+    let a = c.aim_window.new.window in
     let b = c.open_window-opened.new.user in
     let apart = apart_here _ (stops_at c.args.breakpoints.now c.args.watched) g m task c.args.most t _ _ _ _ _ _ _ _ a c.open_window-opened.new.self h inside c.in-Some.ensures pc sp aim.flash stretch aim.readable aim.ram aim.area aim.writable opened in
-    let work = poller_work shown g task _ b _ _ _ _ _ t.state.devices _ c.args.most (ap (λ v. v.items) c.swap-2.ensures.x_after ∙ sym ports) (context_cpu _ g m task t h inside) aim.most (ap (data_of shown) c.swap.ensures.x_after ∙ context_devices _ g m task t h) apart opened.window.work in
+    let work = poller_work shown g task _ b _ _ _ _ _ t.state.devices _ c.args.most (ap (λ v. v.items) c.swap-2.ensures.x_after ∙ sym ports) (context_cpu _ g m task t h inside) refl (ap (data_of shown) c.swap.ensures.x_after ∙ context_devices _ g m task t h) apart opened.window.work in
     inl (has_run _ (stops_at c.args.breakpoints.now c.args.watched) g m task c.args.most t _ _ _ _ _ _ _ _ a c.open_window-opened.new.self h inside c.in-Some.ensures pc sp aim.flash stretch aim.readable aim.ram aim.area aim.writable opened
     _ _ _ _ work _ (omega (arith, c.if-glided-eq0.false)) refl refl (ap (data_of shown) c.swap-4.ensures.y_after) (λ u held. c.set_current.ensures.holds g u held))

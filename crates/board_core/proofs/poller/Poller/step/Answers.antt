@@ -1,17 +1,27 @@
+use Rattle.std.proofs.Common.{subst, arith}
 use Rattle.board_core.specs.Data.{boxed}
-use Rattle.board_core.proofs.Polled.{fetched_on}
+use Rattle.board_core.specs.Sights.{GoesOnBeside}
+use Rattle.board_core.specs.Polling.{sight_of}
+use Rattle.board_core.proofs.Polled.{narrow_goes}
 use Rattle.board_core.proofs.poller.Poller.step.Goals as goal
 
-pub returns-else-not-proceed-clause-goes : goal.returns-else-not-proceed-clause-goes
-returns-else-not-proceed-clause-goes boxes c =
-    λ yes. (fetched_on _ c.args.self.now.glider.runner.processor c.args.self.now c.get-at.result c.fetch.result c.get-at.ensures c.fetch.ensures.is c.proceed.new.cpu c.proceed.new.bus c.in-Ok.fetched c.in-Ok.is (c.proceed.ensures.done c.if-not-proceed.false)).beside
-
-pub returns-else-not-proceed-clause-fixed : goal.returns-else-not-proceed-clause-fixed
-returns-else-not-proceed-clause-fixed boxes c =
+pub returns-then-narrow_to-clause-goes : goal.returns-then-narrow_to-clause-goes
+returns-then-narrow_to-clause-goes boxes c = λ done.
     let shown = boxed (λ p. (goal.Device-dyn boxes p).shown p.1) in
-    (fetched_on shown c.args.self.now.glider.runner.processor c.args.self.now c.get-at.result c.fetch.result c.get-at.ensures c.fetch.ensures.is c.proceed.new.cpu c.proceed.new.bus c.in-Ok.fetched c.in-Ok.is (c.proceed.ensures.done c.if-not-proceed.false)).keeps
+    (narrow_goes shown c.args.self.now c.narrow_to.new.to c.get-at.result c.in-Some.first c.get-at.ensures c.in-Some.ensures c.if-narrow_to.ensures.wide c.if-narrow_to.ensures.narrow).beside
 
-pub returns-else-not-proceed-clause-ports : goal.returns-else-not-proceed-clause-ports
-returns-else-not-proceed-clause-ports boxes c =
+pub returns-then-narrow_to-clause-fixed : goal.returns-then-narrow_to-clause-fixed
+returns-then-narrow_to-clause-fixed boxes c =
     let shown = boxed (λ p. (goal.Device-dyn boxes p).shown p.1) in
-    (fetched_on shown c.args.self.now.glider.runner.processor c.args.self.now c.get-at.result c.fetch.result c.get-at.ensures c.fetch.ensures.is c.proceed.new.cpu c.proceed.new.bus c.in-Ok.fetched c.in-Ok.is (c.proceed.ensures.done c.if-not-proceed.false)).ports
+    (narrow_goes shown c.args.self.now c.narrow_to.new.to c.get-at.result c.in-Some.first c.get-at.ensures c.in-Some.ensures c.if-narrow_to.ensures.wide c.if-narrow_to.ensures.narrow).keeps
+
+pub returns-then-narrow_to-clause-ports : goal.returns-then-narrow_to-clause-ports
+returns-then-narrow_to-clause-ports boxes c =
+    let shown = boxed (λ p. (goal.Device-dyn boxes p).shown p.1) in
+    (narrow_goes shown c.args.self.now c.narrow_to.new.to c.get-at.result c.in-Some.first c.get-at.ensures c.in-Some.ensures c.if-narrow_to.ensures.wide c.if-narrow_to.ensures.narrow).ports
+
+pub returns-then-first-ge29-clause-goes : goal.returns-then-first-ge29-clause-goes
+returns-then-first-ge29-clause-goes boxes c = λ done.
+    let shown = boxed (λ p. (goal.Device-dyn boxes p).shown p.1) in
+    let same = c.if-narrow_to.ensures.wide (omega (arith, c.if-first-ge29.true)) in
+    subst (λ p. GoesOnBeside (sight_of shown p.seen) p.processor (sight_of shown c.step_wide.new.self.seen) c.step_wide.new.self.processor) same (c.step_wide.ensures.goes done)

@@ -1,5 +1,4 @@
-use Rattle.std.proofs.Common.{◌≡◌, Bool, true, false, not, refl, sym}
-use Rattle.std.proofs.lemmas.Bool.{false≢true, not-false}
+use Rattle.std.proofs.lemmas.Bool.{not-false}
 use Rattle.board_core.proofs.Reaching.{nothing_taken}
 use Rattle.board_core.proofs.reach.ReachBus.takes.Goals as goal
 
