@@ -258,7 +258,7 @@ debug_whole words e =
     ))))))))))
 
 cover_sure : Each (Sure (shape_at 10).rules) (shape_at 10).rules
-cover_sure = (record { known = refl; sure = refl }, (record { known = refl; sure = refl }, (record { known = refl; sure = refl }, (record { known = refl; sure = refl }, tt))))
+cover_sure = (record { known = refl; sure = refl }, (record { known = refl; sure = refl }, (record { known = refl; sure = refl }, (record { known = refl; sure = refl }, (record { known = refl; sure = refl }, tt)))))
 
 cover_whole : (words : List Text) → entered_fault app (Some (codes "cover", words)) ≡ [] → IsWhole (entered app (Some (codes "cover", words)))
 cover_whole words e =
@@ -271,6 +271,7 @@ cover_whole words e =
         image = text (rule_at s 0) rows (has_given s.rules (rule_at s 0) rows d.good refl (d.given.0 refl));
         script = text (rule_at s 1) rows (has_given s.rules (rule_at s 1) rows d.good refl (d.given.1.0 refl));
         steps = number most_steps (rule_at s 2) rows (omega arith) refl (has_given s.rules (rule_at s 2) rows d.good refl (d.given.1.1.0 refl));
+        labels = switch (rule_at s 3) rows refl (has_default s.rules (rule_at s 3) rows d.good refl (d.filled.1.1.1.0 (omega arith)));
       },
     )))))))))))
 

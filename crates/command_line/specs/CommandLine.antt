@@ -82,10 +82,11 @@ number_in id rows = number_of (unwrap_or (one_of id rows) [])
 -- holds together; the state of a run of an image with a script after so many turns at most, and the name of that
 -- file; the run of an image with a script from the state in a file, up to so many turns, and in which detail it is
 -- told; the commands in a file, carried out over the run of an image with a script; how often such a run executes each
--- instruction; how such runs end into which the events of a further script come, from each turn of a range on, and whether with the
--- memory; such a run as events for a viewer, with the names of an application or without; the lines of a file, carried out over such a
--- run as they come; such a run as a picture, and the name of that file; how often the run of an application with a script executes
--- each line of its sources, and the name of that file; what the commands are, or what one of them takes and answers.
+-- instruction, or one of an application, with the labels of its sources; how such runs end into which the events of a further script
+-- come, from each turn of a range on, and whether with the memory; such a run as events for a viewer, with the names of an application
+-- or without; the lines of a file, carried out over such a run as they come; such a run as a picture, and the name of that file;
+-- how often the run of an application with a script executes each line of its sources, and the name of that file; what the commands
+-- are, or what one of them takes and answers.
 pub data Asked : Type 0 where
   build : Text → Text → Asked
   run : Text → Text → ℕ → Detail → Asked
@@ -97,7 +98,7 @@ pub data Asked : Type 0 where
   save : Text → Text → Text → ℕ → Asked
   resume : Text → Text → Text → ℕ → Detail → Asked
   debug : Text → Text → Text → Asked
-  cover : Text → Text → ℕ → Asked
+  cover : Text → Text → ℕ → Bool → Asked
   sweep : Text → Text → Text → ℕ → ℕ → ℕ → Bool → Asked
   timeline : Text → Text → ℕ → Option Text → Asked
   live : Text → Text → Text → Asked
@@ -200,12 +201,12 @@ debug_form = record {
   asks = λ rows. Some (debug (text_in (codes "image") rows) (text_in (codes "script") rows) (text_in (codes "commands") rows));
 }
 
--- `cover IMAGE SCRIPT --steps N`
+-- `cover IMAGE SCRIPT --steps N [--labels]`
 abbrev pub cover_form : Form
 cover_form = record {
   name = codes "cover";
-  rules = positional_rule (codes "image") ∷ positional_rule (codes "script") ∷ steps_rule ∷ [];
-  asks = λ rows. Some (cover (text_in (codes "image") rows) (text_in (codes "script") rows) (number_in (codes "steps") rows));
+  rules = positional_rule (codes "image") ∷ positional_rule (codes "script") ∷ steps_rule ∷ flag_rule (codes "labels") ∷ [];
+  asks = λ rows. Some (cover (text_in (codes "image") rows) (text_in (codes "script") rows) (number_in (codes "steps") rows) (is_set (codes "labels") rows));
 }
 
 -- `sweep IMAGE SCRIPT ARRIVAL FROM TO --steps N [--mem]`

@@ -93,6 +93,13 @@ pub record IsWholeSession (rows : List Row) : Type 0 where
   pub script : HasText (codes "script") rows
   pub commands : HasText (codes "commands") rows
 
+-- of a run whose instructions are counted
+pub record IsWholeCover (rows : List Row) : Type 0 where
+  pub image : HasText (codes "image") rows
+  pub script : HasText (codes "script") rows
+  pub steps : HasSteps rows
+  pub labels : IsSwitch (first_of (codes "labels") rows)
+
 -- of a command that plays a script on an image, and wants no more words
 pub record IsWholePlay (rows : List Row) : Type 0 where
   pub image : HasText (codes "image") rows
@@ -125,7 +132,7 @@ IsWhole (Some p) = ((p.0 ≡ codes "build") × IsWholeBuild p.1)
     ⊎ (((p.0 ≡ codes "save") × IsWholePut p.1)
     ⊎ (((p.0 ≡ codes "resume") × IsWholeResume p.1)
     ⊎ (((p.0 ≡ codes "debug") × IsWholeSession p.1)
-    ⊎ (((p.0 ≡ codes "cover") × IsWholePlay p.1)
+    ⊎ (((p.0 ≡ codes "cover") × IsWholeCover p.1)
     ⊎ (((p.0 ≡ codes "sweep") × IsWholeSweep p.1)
     ⊎ (((p.0 ≡ codes "timeline") × IsWholePlay p.1)
     ⊎ (((p.0 ≡ codes "live") × IsWholeSession p.1)

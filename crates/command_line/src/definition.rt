@@ -181,7 +181,8 @@ fn cover_command<'a>(alloc: Global) -> Result<Command<'a>, AllocError>
     Command::new(alloc, "cover")
         .arg(positional(alloc, "image"))?
         .arg(positional(alloc, "script"))?
-        .arg(steps(alloc))
+        .arg(steps(alloc))?
+        .arg(flag(alloc, "labels"))
 }
 
 fn sweep_command<'a>(alloc: Global) -> Result<Command<'a>, AllocError>

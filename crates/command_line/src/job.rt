@@ -99,11 +99,13 @@ pub enum Job<'a> {
         script: &'a str,
         commands: &'a str,
     },
-    /// How often the run of IMAGE with SCRIPT executes each instruction, in at most `steps` turns.
+    /// How often the run of IMAGE with SCRIPT executes each instruction, in at most `steps` turns; with labels IMAGE is the name
+    /// of an application, which is built as by `Go`, and the labels of its sources are shown.
     Cover {
         image: &'a str,
         script: &'a str,
         steps: u32,
+        labels: bool,
     },
     /// How the run of IMAGE with SCRIPT ends in at most `steps` turns where the events of ARRIVAL come besides, from each turn on
     /// that is not below `from` and below `to`; and whether with its memory.
@@ -331,6 +333,7 @@ fn cover_by<'a>(matches: &ArgMatches<'a>) -> Job<'a>
         image: text_of(matches, "image"),
         script: text_of(matches, "script"),
         steps: steps_in(matches),
+        labels: flag_of(matches, "labels"),
     }
 }
 

@@ -48,7 +48,15 @@ fn parts_on(command: CommandName) -> &'static [&'static [&'static str]]
             SCRIPT_CAUSES,
             COMMANDS_CAUSES,
         ],
-        CommandName::Cover => &[COVER, LIMITS, STATUSES, IMAGE_CAUSES, SCRIPT_CAUSES],
+        CommandName::Cover => &[
+            COVER,
+            LIMITS,
+            STATUSES,
+            IMAGE_CAUSES,
+            SCRIPT_CAUSES,
+            APPLICATION_CAUSES,
+            SOURCE_CAUSES,
+        ],
         CommandName::Sweep => &[
             SWEEP,
             LIMITS,

@@ -12,7 +12,7 @@ pub(crate) const COMMANDS: &[&str] = &[
     "save IMAGE SCRIPT OUT --steps N                       puts the state that a run comes to into a file\n",
     "resume IMAGE SCRIPT STATE --steps N [--all] [--mem]   goes on from such a state\n",
     "debug IMAGE SCRIPT COMMANDS                           goes over a run forwards and back, by commands\n",
-    "cover IMAGE SCRIPT --steps N                          counts how often a run executed each instruction\n",
+    "cover IMAGE SCRIPT --steps N [--labels]               counts how often a run executed each instruction\n",
     "sweep IMAGE SCRIPT ARRIVAL FROM TO --steps N [--mem]  tries every arrival time of some events\n",
     "timeline IMAGE SCRIPT --steps N [--names APP]         writes a run for a viewer of timelines, as JSON\n",
     "live IMAGE SCRIPT COMMANDS                            the same as `debug`, line by line as they come\n",
@@ -111,10 +111,13 @@ pub(crate) const DEBUG: &[&str] = &[
 
 /// The command `cover`.
 pub(crate) const COVER: &[&str] = &[
-    "hubris cover IMAGE SCRIPT --steps N\n",
+    "hubris cover IMAGE SCRIPT --steps N [--labels]\n",
     "    plays SCRIPT on IMAGE for at most N turns, of which nothing is told, and lists the code with how often\n",
-    "    each instruction was executed, which ways branches took and what was never reached (Cover)\n",
-    "takes   IMAGE, then SCRIPT\n",
+    "    each instruction was executed, which ways branches took and what was never reached (Cover); with\n",
+    "    `--labels` the first word is APP, which is built as by `go`, and the labels of its sources stand in the\n",
+    "    listing\n",
+    "takes   IMAGE, then SCRIPT; with `--labels` APP, whose plan is judged with it, then the source of each task\n",
+    "        in their order, then SCRIPT\n",
     "writes  the listing of the code (Cover)\n",
 ];
 

@@ -4,6 +4,7 @@ use Rattle.std.specs.Prelude.{is_some}
 use Rattle.std.proofs.lemmas.Bool.{ltb-true, leb-true, eqb-true, lt-ltb, le-ltb, le-leb, eq-eqb, ne_eqb, and_parts, and_from, cond-true, cond-false, cases_lt, false_from_ne_true}
 use Rattle.std.proofs.lemmas.Bool.Decides.{nat_tests}
 use Rattle.run_cover.specs.Places.{is_in_flash, is_in_ram, number_of, place_of, is_place, address_of}
+use Rattle.thumb_asm.proofs.Labels.{some_of}
 
 pub low_address : (k : ℕ) → k < 524288 → address_of k ≡ 0x08000000 + 2 * k
 unfolding address_of
@@ -96,13 +97,8 @@ placed k lt = elim (cases_lt k 524288) [ inl low ↦ by_low low | inr high ↦ b
         let is : 524288 + (a - 0x20000000) / 2 ≡ k = omega arith in
         ap place_of (high_address k high) ∙ at_even a even ∙ high_number a (omega arith) (omega arith) ∙ ap (λ (n : ℕ). Some n) is
 
--- what is a place has a number
-pub number_there : (o : Option ℕ) → is_some o ≡ true → (k : ℕ) × (o ≡ Some k)
-number_there None e = cc
-number_there (Some k) e = (k, refl)
-
 pub is_numbered : (a : ℕ) → is_place a ≡ true → (k : ℕ) × (place_of a ≡ Some k)
-is_numbered a e = number_there (place_of a) e
+is_numbered a e = some_of (place_of a) e
 
 pub place_is : (a k : ℕ) → place_of a ≡ Some k → is_place a ≡ true
 place_is a k e = ap (λ (o : Option ℕ). is_some o) e

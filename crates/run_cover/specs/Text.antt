@@ -1,17 +1,17 @@
 -- The text of a cover: each different region of code, by ascending base, with how often each known instruction was executed
 -- (docs/FORMATS.md, Cover).
-use Rattle.std.specs.Prelude.{ℕ, ◌+◌, ◌-◌, ◌*◌, ◌/◌, ◌==◌, ◌&&◌, ◌||◌, not, Bool, nat_lt, if◌then◌else◌, List, [], ◌++◌, codes, decimal, string_bytes, min, Option, find, fold}
+use Rattle.std.specs.Prelude.{ℕ, ◌+◌, ◌-◌, ◌*◌, ◌/◌, ◌==◌, ◌&&◌, ◌||◌, not, Bool, nat_lt, if◌then◌else◌, List, [], ◌++◌, codes, decimal, min, Option, find, fold}
 use Rattle.std.specs.List.{flat_map, position_or_len, range_with_len}
 use Rattle.std.specs.Option.{option_map_or}
 use Rattle.region_check.specs.declared.Region.{Region}
 use Rattle.mem_banks.specs.Memory.{Memory}
 use Rattle.thumb_insn.specs.Table.{is_wide}
+use Rattle.thumb_asm.specs.Meaning.{Names}
 use Rattle.trace_text.specs.Text.{hex, code_decoded, decoded_text}
 use Rattle.task_table.specs.State.{Setup}
 use Rattle.board_model.specs.Run.{Run}
 use Rattle.board_run.specs.MemoryText.{regions_of}
 use Rattle.run_cover.specs.declared.counts.Count.{Count}
-use Rattle.thumb_asm.specs.declared.listing.Label.{Label}
 use Rattle.run_cover.specs.declared.totals.Totals.{Totals}
 use Rattle.run_cover.specs.Counted.{counts}
 use Rattle.run_cover.specs.Covered.{Covered}
@@ -39,14 +39,14 @@ insn_line m c a = count_text c.executed ++ codes " " ++ hex a ++ codes " " ++ de
 -- ## the labels before it
 
 -- `label <address h> <name>`
-unfoldable pub label_line : Label → List ℕ
-label_line l = codes "label " ++ hex l.at ++ codes " " ++ string_bytes l.name ++ codes "\n"
+unfoldable pub label_line : List ℕ × ℕ → List ℕ
+label_line l = codes "label " ++ hex l.1 ++ codes " " ++ l.0 ++ codes "\n"
 
-abbrev pub label_at : ℕ → Label → List ℕ
-label_at a l = if l.at == a then label_line l else []
+abbrev pub label_at : ℕ → List ℕ × ℕ → List ℕ
+label_at a l = if l.1 == a then label_line l else []
 
 -- the lines of the labels at an address
-unfoldable pub labels_text : List Label → ℕ → List ℕ
+unfoldable pub labels_text : Names → ℕ → List ℕ
 labels_text ls a = flat_map (label_at a) ls
 
 -- ## what belongs to none
@@ -70,17 +70,17 @@ begins_rest v a j = not (is_taken_up v a) && (j == 0 || is_taken_up v (a - 2))
 -- ## a region
 
 -- a known instruction, behind the labels at its address
-abbrev pub known_text : Covered → List Label → ℕ → List ℕ
+abbrev pub known_text : Covered → Names → ℕ → List ℕ
 known_text v ls a = labels_text ls a ++ insn_line v.memory (v.counts a) a
 
 -- the lines of the j-th of n places from a base on
-abbrev pub place_text : Covered → List Label → ℕ → ℕ → ℕ → List ℕ
+abbrev pub place_text : Covered → Names → ℕ → ℕ → ℕ → List ℕ
 place_text v ls n j a = if v.known a then known_text v ls a else (if begins_rest v a j then rest_line a (2 * rest_len v a (n - j)) else [])
 
-abbrev pub row_at : Covered → List Label → ℕ → ℕ → ℕ → List ℕ
+abbrev pub row_at : Covered → Names → ℕ → ℕ → ℕ → List ℕ
 row_at v ls base n j = place_text v ls n j (base + 2 * j)
 
-unfoldable pub rows_text : Covered → List Label → ℕ → ℕ → List ℕ
+unfoldable pub rows_text : Covered → Names → ℕ → ℕ → List ℕ
 rows_text v ls base n = flat_map (row_at v ls base n) (range_with_len 0 n)
 
 -- `code <base h> <size>`
@@ -98,7 +98,7 @@ place_count r = min r.size 1048576 / 2
 abbrev pub region_totals : Covered → Region → Totals
 region_totals v r = totals_in v r.base (place_count r)
 
-unfoldable pub region_text : Covered → List Label → Region → List ℕ
+unfoldable pub region_text : Covered → Names → Region → List ℕ
 region_text v ls r = code_line r ++ (rows_text v ls r.base (place_count r) ++ (codes "covered " ++ totals_text (region_totals v r)))
 
 -- ## which regions
@@ -114,10 +114,10 @@ code_at g base = find (is_code_at base) (regions_of g)
 unfoldable pub base_of : ℕ → ℕ
 base_of i = if nat_lt i 4096 then 0x08000000 + 256 * i else 0x20000000 + 256 * (i - 4096)
 
-abbrev pub base_text : Setup → Covered → List Label → ℕ → List ℕ
+abbrev pub base_text : Setup → Covered → Names → ℕ → List ℕ
 base_text g v ls i = option_map_or (region_text v ls) (code_at g (base_of i)) []
 
-unfoldable pub bases_text : Setup → Covered → List Label → ℕ → List ℕ
+unfoldable pub bases_text : Setup → Covered → Names → ℕ → List ℕ
 bases_text g v ls n = flat_map (base_text g v ls) (range_with_len 0 n)
 
 -- of all regions; what lies in two counts twice
@@ -127,12 +127,12 @@ base_totals g v i = option_map_or (region_totals v) (code_at g (base_of i)) no_t
 unfoldable pub all_totals : Setup → Covered → ℕ → Totals
 all_totals g v n = fold (λ t i. added t (base_totals g v i)) no_totals (range_with_len 0 n)
 
-unfoldable pub listing_text : Setup → Covered → List Label → List ℕ
+unfoldable pub listing_text : Setup → Covered → Names → List ℕ
 listing_text g v ls = bases_text g v ls 5120 ++ (codes "in all " ++ totals_text (all_totals g v 5120))
 
 -- what a run executed, where a test tells what is known of it
 abbrev pub covered_by : Run → (ℕ → Bool) → Covered
 covered_by r k = record { memory = r.last.memory; counts = counts r.notes; known = k }
 
-abbrev pub cover_text : Setup → Run → (ℕ → Bool) → List Label → List ℕ
+abbrev pub cover_text : Setup → Run → (ℕ → Bool) → Names → List ℕ
 cover_text g r k ls = listing_text g (covered_by r k) ls

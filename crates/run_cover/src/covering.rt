@@ -1,6 +1,7 @@
 //! A run, and how often each instruction was executed in it.
 ghost use Rattle.std.specs.Prelude.{◌≡◌, ◌≤◌, ◌-◌, ℕ, Bool, IfOk};
 ghost use Rattle.outside_io.specs.Outside.{Pushes, HasCause};
+ghost use Rattle.thumb_asm.specs.Listed.{labels_in};
 ghost use Rattle.task_table.specs.State.{State};
 ghost use Rattle.board_model.specs.declared.outcomes.Level.TheVariants.{All};
 ghost use Rattle.board_model.specs.Script.{Scenario};
@@ -83,7 +84,7 @@ pub fn write_cover<S: Sink>(
     requires new { IsNew cover.old }
 
     ensures text { (x : Scenario) (s : State) → Stands (boxed shown) x board.old s →
-        (k : ℕ → Bool) × IsKnownOf x.setup (run All x (limit - s.turn) s) k × Pushes (S.seen out.old).written (S.seen out.new).written (cover_text x.setup (run All x (limit - s.turn) s) k labels.now) result }
+        (k : ℕ → Bool) × IsKnownOf x.setup (run All x (limit - s.turn) s) k × Pushes (S.seen out.old).written (S.seen out.new).written (cover_text x.setup (run All x (limit - s.turn) s) k (labels_in labels.now)) result }
     ensures end { (x : Scenario) (s : State) → Stands (boxed shown) x board.old s →
         IfOk result (λ e. e ≡ (run All x (limit - s.turn) s).end) }
 

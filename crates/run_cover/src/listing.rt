@@ -1,6 +1,7 @@
 //! The regions of code, line by line.
 ghost use Rattle.std.specs.Prelude.{◌≡◌, ◌≤◌, ◌<◌, ◌+◌, ◌*◌, ◌-◌, ◌^◌, ◌++◌, codes, IfSome};
 ghost use Rattle.outside_io.specs.Outside.{Pushes, HasCause};
+ghost use Rattle.thumb_asm.specs.Listed.{label_of, labels_in};
 ghost use Rattle.task_table.specs.State.{State};
 ghost use Rattle.board_model.specs.Script.{Scenario};
 ghost use Rattle.board_core.specs.Stands.{Stands};
@@ -97,7 +98,7 @@ fn push_rest<S: Sink>(addr: u32, bytes: u32, out: &mut S) -> Result<(), Failed>
 }
 
 fn push_label_line<S: Sink>(label: &Label, out: &mut S) -> Result<(), Failed>
-    ensures bytes { Pushes (S.seen out.old).written (S.seen out.new).written (label_line label.now) result }
+    ensures bytes { Pushes (S.seen out.old).written (S.seen out.new).written (label_line (label_of label.now)) result }
     ensures cause { HasCause (S.seen out.old).faults (S.seen out.new).faults result }
 {
     let mut front = Line::new();
@@ -109,7 +110,7 @@ fn push_label_line<S: Sink>(label: &Label, out: &mut S) -> Result<(), Failed>
 
 // The line of a label, where it stands at an address.
 fn push_label<S: Sink>(label: &Label, addr: u32, out: &mut S) -> Result<(), Failed>
-    ensures bytes { Pushes (S.seen out.old).written (S.seen out.new).written (label_at addr label.now) result }
+    ensures bytes { Pushes (S.seen out.old).written (S.seen out.new).written (label_at addr (label_of label.now)) result }
     ensures cause { HasCause (S.seen out.old).faults (S.seen out.new).faults result }
 {
     if label.at == addr {
@@ -120,7 +121,7 @@ fn push_label<S: Sink>(label: &Label, addr: u32, out: &mut S) -> Result<(), Fail
 
 // The lines of the labels at an address.
 fn push_labels<S: Sink>(labels: &[Label], addr: u32, out: &mut S) -> Result<(), Failed>
-    ensures bytes { Pushes (S.seen out.old).written (S.seen out.new).written (labels_text labels.now addr) result }
+    ensures bytes { Pushes (S.seen out.old).written (S.seen out.new).written (labels_text (labels_in labels.now) addr) result }
     ensures cause { HasCause (S.seen out.old).faults (S.seen out.new).faults result }
 {
     for label in labels {
@@ -138,7 +139,7 @@ fn push_known<S: Sink>(
     out: &mut S,
 ) -> Result<(), Failed>
     requires inside { addr + 3 < 2 ^ 32 }
-    ensures bytes { (x : Scenario) (s : State) → Stands (boxed shown) x board.now s → Pushes (S.seen out.old).written (S.seen out.new).written (known_text (covered s.memory cover.now) labels.now addr) result }
+    ensures bytes { (x : Scenario) (s : State) → Stands (boxed shown) x board.now s → Pushes (S.seen out.old).written (S.seen out.new).written (known_text (covered s.memory cover.now) (labels_in labels.now) addr) result }
     ensures cause { HasCause (S.seen out.old).faults (S.seen out.new).faults result }
 {
     push_labels(labels, addr, out)?;
@@ -158,7 +159,7 @@ fn push_place<S: Sink>(
     requires one { j < count }
     requires above { 4 ≤ addr }
     requires inside { addr + 2 * (count - j) + 3 < 2 ^ 32 }
-    ensures bytes { (x : Scenario) (s : State) → Stands (boxed shown) x board.now s → Pushes (S.seen out.old).written (S.seen out.new).written (place_text (covered s.memory cover.now) labels.now count j addr) result }
+    ensures bytes { (x : Scenario) (s : State) → Stands (boxed shown) x board.now s → Pushes (S.seen out.old).written (S.seen out.new).written (place_text (covered s.memory cover.now) (labels_in labels.now) count j addr) result }
     ensures cause { HasCause (S.seen out.old).faults (S.seen out.new).faults result }
 {
     if cover.marks.has(addr) {
@@ -181,7 +182,7 @@ fn push_rows<S: Sink>(
 ) -> Result<(), Failed>
     requires above { 4 ≤ base }
     requires inside { base + 2 * count + 3 < 2 ^ 32 }
-    ensures bytes { (x : Scenario) (s : State) → Stands (boxed shown) x board.now s → Pushes (S.seen out.old).written (S.seen out.new).written (rows_text (covered s.memory cover.now) labels.now base count) result }
+    ensures bytes { (x : Scenario) (s : State) → Stands (boxed shown) x board.now s → Pushes (S.seen out.old).written (S.seen out.new).written (rows_text (covered s.memory cover.now) (labels_in labels.now) base count) result }
     ensures cause { HasCause (S.seen out.old).faults (S.seen out.new).faults result }
 {
     for j in 0..count {
@@ -245,7 +246,7 @@ fn push_region<S: Sink>(
 ) -> Result<(), Failed>
     requires above { 4 ≤ region.now.base }
     requires below { region.now.base < 2 ^ 31 }
-    ensures bytes { (x : Scenario) (s : State) → Stands (boxed shown) x board.now s → Pushes (S.seen out.old).written (S.seen out.new).written (region_text (covered s.memory cover.now) labels.now region.now) result }
+    ensures bytes { (x : Scenario) (s : State) → Stands (boxed shown) x board.now s → Pushes (S.seen out.old).written (S.seen out.new).written (region_text (covered s.memory cover.now) (labels_in labels.now) region.now) result }
     ensures cause { HasCause (S.seen out.old).faults (S.seen out.new).faults result }
 {
     push_code_line(region, out)?;
@@ -283,7 +284,7 @@ fn push_base<S: Sink>(
     out: &mut S,
 ) -> Result<(), Failed>
     requires inside { i < 5120 }
-    ensures bytes { (x : Scenario) (s : State) → Stands (boxed shown) x board.now s → Pushes (S.seen out.old).written (S.seen out.new).written (base_text x.setup (covered s.memory cover.now) labels.now i) result }
+    ensures bytes { (x : Scenario) (s : State) → Stands (boxed shown) x board.now s → Pushes (S.seen out.old).written (S.seen out.new).written (base_text x.setup (covered s.memory cover.now) (labels_in labels.now) i) result }
     ensures cause { HasCause (S.seen out.old).faults (S.seen out.new).faults result }
 {
     match code_at(board, base_of(i)) {
@@ -310,7 +311,7 @@ fn push_bases<S: Sink>(
     labels: &[Label],
     out: &mut S,
 ) -> Result<(), Failed>
-    ensures bytes { (x : Scenario) (s : State) → Stands (boxed shown) x board.now s → Pushes (S.seen out.old).written (S.seen out.new).written (bases_text x.setup (covered s.memory cover.now) labels.now 5120) result }
+    ensures bytes { (x : Scenario) (s : State) → Stands (boxed shown) x board.now s → Pushes (S.seen out.old).written (S.seen out.new).written (bases_text x.setup (covered s.memory cover.now) (labels_in labels.now) 5120) result }
     ensures cause { HasCause (S.seen out.old).faults (S.seen out.new).faults result }
 {
     for i in 0..BASES {
@@ -344,7 +345,7 @@ pub fn push_listing<S: Sink>(
     labels: &[Label],
     out: &mut S,
 ) -> Result<(), Failed>
-    ensures bytes { (x : Scenario) (s : State) → Stands (boxed shown) x board.now s → Pushes (S.seen out.old).written (S.seen out.new).written (listing_text x.setup (covered s.memory cover.now) labels.now) result }
+    ensures bytes { (x : Scenario) (s : State) → Stands (boxed shown) x board.now s → Pushes (S.seen out.old).written (S.seen out.new).written (listing_text x.setup (covered s.memory cover.now) (labels_in labels.now)) result }
     ensures cause { HasCause (S.seen out.old).faults (S.seen out.new).faults result }
 {
     push_bases(board, cover, labels, out)?;

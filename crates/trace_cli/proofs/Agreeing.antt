@@ -1,5 +1,5 @@
 -- Contents that are seen, and contents that may be: how far files are accepted with both.
-use Rattle.std.proofs.Common.{◌≡◌, ℕ, ◌<◌, ◌≤◌, List, [], ◌∷◌, length, Option, Some, None, refl, sym, ap, subst, ◌∙◌, arith}
+use Rattle.std.proofs.Common.{◌≡◌, ℕ, ◌<◌, ◌≤◌, false, true, List, [], ◌∷◌, length, Option, Some, None, refl, sym, ap, subst, ◌∙◌, arith}
 use Rattle.std.specs.Prelude.{slice_get}
 use Rattle.std.proofs.lemmas.Option.{same_Some, slice_get_within}
 use Rattle.kernel_abi.specs.Devices.{DeviceData}
@@ -19,7 +19,8 @@ first_file devices (audit trace) a b = refl
 first_file devices (save image script out steps) a b = refl
 first_file devices (resume image script state steps detail) a b = refl
 first_file devices (debug image script commands) a b = refl
-first_file devices (cover image script steps) a b = refl
+first_file devices (cover image script steps false) a b = refl
+first_file devices (cover app script steps true) a b = refl
 first_file devices (sweep image script arrival from to steps memory) a b = refl
 first_file devices (timeline image script steps names) a b = refl
 first_file devices (live image script commands) a b = refl

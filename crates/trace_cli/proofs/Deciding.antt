@@ -1,5 +1,5 @@
 -- Where the contents are seen: a reason gives the one verdict, but that a file cannot be read.
-use Rattle.std.proofs.Common.{◌≡◌, ℕ, zero, suc, ◌<◌, ◌⊎◌, Bool, false, List, length, Option, Some, None, [], refl, sym, ap, subst, ◌∙◌, inl, inr, arith, cond}
+use Rattle.std.proofs.Common.{◌≡◌, ℕ, zero, suc, ◌<◌, ◌⊎◌, Bool, false, true, List, length, Option, Some, None, [], refl, sym, ap, subst, ◌∙◌, inl, inr, arith, cond}
 use Rattle.std.specs.Prelude.{slice_get, slice_index_or, Result, Ok}
 use Rattle.std.proofs.lemmas.Option.{same_Some, slice_get_within}
 use Rattle.kernel_abi.specs.Devices.{DeviceData}
@@ -16,10 +16,13 @@ use Rattle.outside_io.specs.Seen.{FilesSeen}
 use Rattle.trace_cli.specs.Words.{job_in}
 use Rattle.trace_cli.specs.Sources.{File, files_by, MayBe, Are, Reaches, TakesAll, IsBuilt, first_of, described, sources_in, script_in, scenario_in}
 use Rattle.trace_cli.specs.Verdict as verdict
-use Rattle.trace_cli.specs.Verdict.{Verdict, IsVerdict, Does, usage, refused, unread, ran, built, sampled, debugged, audited, covered, traced, run_of}
+use Rattle.trace_cli.specs.Verdict.{Verdict, IsVerdict, IsCovered, Does, usage, refused, unread, ran, built, sampled, debugged, audited, covered, traced, run_of}
+use Rattle.trace_cli.specs.Building.{labels_from}
 use Rattle.trace_cli.specs.Tracing.{sections}
 use Rattle.trace_cli.specs.Answer.{JobReason, cannot_read, refuses, does, IsUnread, IsRefused, Reason, no_job, of_job}
 use Rattle.board_model.specs.declared.outcomes.Level.TheVariants.{All}
+use Rattle.board_model.specs.Script.{Scenario}
+use Rattle.thumb_asm.specs.Meaning.{Names}
 use Rattle.run_cover.specs.Counted.{counts}
 use Rattle.run_cover.proofs.Knowing.{one_known}
 use Rattle.trace_cli.proofs.Faulting.{where_seen}
@@ -32,6 +35,11 @@ same_image cs a b p q = one_picture (described cs) (sources_in cs) a b p.built q
 
 same_commands : (r : Result (List Command) (ℕ × ℕ)) (a b : List Command) → r ≡ Ok a → r ≡ Ok b → a ≡ b
 same_commands r a b p q = cc
+
+same_covered : (n : ℕ) (x : Scenario) (labels : Names) (u v : Verdict) → IsCovered n x labels u → IsCovered n x labels v → u ≡ v
+same_covered n x labels u v p q =
+    let r = run_of All n x in
+    p.2 ∙ ap (covered n x labels) (one_known x.setup r.last.memory (counts r.notes) p.0 q.0 p.1 q.1) ∙ sym q.2
 
 same_done : (devices : List DeviceData) (job : Asked) (cs : List (List ℕ)) (u v : Verdict) → Does devices job cs u → Does devices job cs v → u ≡ v
 same_done devices (build app out) cs u v p q = p.2 ∙ ap (built out) (same_image cs p.0 q.0 p.1 q.1) ∙ sym q.2
@@ -47,10 +55,11 @@ same_done devices (save image script out steps) cs u v p q = p ∙ sym q
 same_done devices (resume image script state steps detail) cs u v p q = p ∙ sym q
 same_done devices (debug image script name) cs u v p q =
     p.2 ∙ ap (debugged (scenario_in devices cs)) (same_commands (commands_or_fault (slice_index_or cs 2 [])) p.0 q.0 p.1 q.1) ∙ sym q.2
-same_done devices (cover image script steps) cs u v p q =
-    let x = scenario_in devices cs in
-    let r = run_of All steps x in
-    p.2 ∙ ap (covered steps x) (one_known x.setup r.last.memory (counts r.notes) p.0 q.0 p.1 q.1) ∙ sym q.2
+same_done devices (cover image script steps false) cs u v p q = same_covered steps (scenario_in devices cs) [] u v p q
+same_done devices (cover app script steps true) cs u v p q =
+    let labels = labels_from (described cs) 0 (sources_in cs) in
+    let same : p.0 ≡ q.0 = same_image cs p.0 q.0 p.1 q.1 in
+    same_covered steps (scenario_of q.0 (script_in cs) devices) labels u v (subst (λ (i : Picture). IsCovered steps (scenario_of i (script_in cs) devices) labels u) same p.2) q.2
 same_done devices (sweep image script arrival from to steps memory) cs u v p q = p ∙ sym q
 same_done devices (timeline image script steps names) cs u v p q = p ∙ sym q
 same_done devices (live image script commands) cs u v p q = p ∙ sym q

@@ -24,7 +24,7 @@ use Rattle.trace_cli.specs.declared.file_faults.NamedFault.{NamedFault}
 use Rattle.trace_cli.specs.declared.file_faults.NamedFault.TheVariants as named_faults
 use Rattle.trace_cli.specs.Contents.{Why, picture_of, scenario_of, script_of, state_refusal, application_of}
 use Rattle.outside_io.specs.Seen.{FilesSeen, SinkSeen}
-use Rattle.trace_cli.specs.Sources.{File, image_file, script_file, state_file, trace_file, commands_file, arrival_file, files_of, files_by, files_to_build, first_of, MayBe, Takes, IsBuilt, sources_in, script_in, scenario_in, state_by}
+use Rattle.trace_cli.specs.Sources.{File, image_file, script_file, state_file, trace_file, commands_file, arrival_file, files_of, files_by, files_to_build, first_of, MayBe, Takes, TakesAll, IsBuilt, sources_in, script_in, scenario_in, state_by}
 use Rattle.trace_cli.specs.FileFaults.{IsNamedFaultOf}
 use Rattle.app_toml.specs.Apps.{AppData}
 use Rattle.run_cover.specs.Tracefile.{Section}
@@ -32,7 +32,7 @@ use Rattle.trace_cli.specs.declared.source_lines.SourceLines.{SourceLines}
 use Rattle.trace_cli.specs.Building.{IsBuiltApp, IsImage, IsNamedFaultInApp, kept_lines}
 use Rattle.trace_cli.specs.Tracing.{sections, sections_by}
 use Rattle.thumb_asm.specs.declared.listing.InsnLine.{InsnLine}
-use Rattle.trace_cli.specs.Ready.{StartsWell, StartsSeen, IsImageFile, IsScriptFile, IsSet, TakesImage, RunsImage, RunsApp, IsReady, IsAppReady, IsLoaded, IsStateSet, IsResumable, IsCommandsFile, IsDebugReady, IsArrivalFile, IsSweepReady, IsAuditOf, IsNamedFaultIn}
+use Rattle.trace_cli.specs.Ready.{StartsWell, StartsSeen, IsImageFile, IsScriptFile, IsSet, TakesImage, RunsImage, TakesApp, RunsApp, IsReady, IsAppReady, IsLoaded, IsStateSet, IsResumable, IsCommandsFile, IsDebugReady, IsArrivalFile, IsSweepReady, IsAuditOf, IsNamedFaultIn}
 use Rattle.trace_cli.specs.Pushed.{Pushed, whole, cut, Says, pushed, silent, IsSilent, SaysNamedFault}
 use Rattle.trace_cli.specs.Verdict.{Verdict, Does, refused, unread, ran, listed, built, saved, resumed, debugged, swept, timed, drawn, traced, audited}
 use Rattle.trace_cli.specs.Answer as answer
@@ -322,9 +322,20 @@ app_sources bytes sources script count =
     let n = length (application_of bytes).tasks in
     ap (λ k. take k (sources ++ script ∷ [])) count ∙ take_front sources (script ∷ []) ∙ take_all (length sources) sources (omega arith)
 
-pub app_ready : {X : Type 0} {H : X → Type 0} {shown : Shows X H} {devices : List DeviceData} {seen : List ℕ → Option (List ℕ)} {app script : List ℕ} {wanted : Bool} {described : AppData} {l : SourceLines} (job : Asked) (verdict : AppData → List (List ℕ) → Scenario → Verdict) (picture : Picture) (b : Board X H)
-    → RunsApp devices job app script verdict → IsBuiltApp seen app wanted described picture l → IsSet shown devices seen picture script b → IsAppReady shown devices job seen verdict wanted b described l
-app_ready {X} {H} {shown} {devices} {seen} {app} {script} {wanted} {described} {l} job verdict picture b runs i s =
+-- a job that runs an application takes it and a script, and no more
+pub takes_app_of : {devices : List DeviceData} {job : Asked} {app script : List ℕ} {verdict : AppData → List (List ℕ) → Scenario → Verdict} → RunsApp devices job app script verdict → TakesApp devices job app script
+takes_app_of runs = record { files = runs.files }
+
+-- the contents of its files, of which each is accepted, and what they say
+pub record AreTaken (devices : List DeviceData) (job : Asked) (seen : List ℕ → Option (List ℕ)) (sources : List (List ℕ)) (script : List ℕ) (picture : Picture) (contents : List (List ℕ)) : Type 0 where
+  pub accepted : TakesAll (MayBe seen) devices job contents
+  pub built : IsBuilt contents picture
+  pub sources_are : sources_in contents ≡ sources
+  pub script_is : script_in contents ≡ script
+
+pub app_taken : {X : Type 0} {H : X → Type 0} {shown : Shows X H} {devices : List DeviceData} {seen : List ℕ → Option (List ℕ)} {app script : List ℕ} {wanted : Bool} {described : AppData} {l : SourceLines} (job : Asked) (picture : Picture) (b : Board X H)
+    → TakesApp devices job app script → (i : IsBuiltApp seen app wanted described picture l) → (s : IsSet shown devices seen picture script b) → AreTaken devices job seen i.sources s.script picture (i.bytes ∷ (i.sources ++ s.script ∷ []))
+app_taken {devices = devices} {seen = seen} {app = app} {script = script} job picture b takes_app i s =
     let files = files_to_build app i.bytes in
     let contents = i.bytes ∷ (i.sources ++ s.script ∷ []) in
     let count : length (application_of i.bytes).tasks ≡ length i.sources = (let all = i.each.all in let many = as_many_sources (application_of i.bytes) in omega arith) in
@@ -332,17 +343,29 @@ app_ready {X} {H} {shown} {devices} {seen} {app} {script} {wanted} {described} {
     takes_last (MayBe seen) (files ++ script_file script ∷ []) (i.bytes ∷ i.sources) (script_file script) s.script
     (takes_wider (MayBe seen) files (script_file script ∷ []) (i.bytes ∷ i.sources) i.each.takes)
     (files_then files (script_file script) (length (i.bytes ∷ i.sources)) i.each.all) s.held s.accepted in
-    let does = runs.does contents picture (go_image i.bytes i.sources s.script picture count i.is) in
-    let by_sources = subst (λ (ss : List (List ℕ)). Does devices job contents (verdict (application_of i.bytes) ss (scenario_of picture (script_in contents) devices))) (app_sources i.bytes i.sources s.script count) does in
-    let by_script = subst (λ (t : List ℕ). Does devices job contents (verdict (application_of i.bytes) i.sources (scenario_of picture t devices))) (go_script i.bytes i.sources s.script count) by_sources in
+    record {
+      accepted = record {
+        takes = subst (λ (fs : List File). Takes (MayBe seen) fs contents) (sym (takes_app.files i.bytes)) takes;
+        all = ap length (takes_app.files i.bytes) ∙ longer files (script_file script) ∙ ap suc i.each.all ∙ sym (longer (i.bytes ∷ i.sources) s.script);
+      };
+      built = go_image i.bytes i.sources s.script picture count i.is;
+      sources_are = app_sources i.bytes i.sources s.script count;
+      script_is = go_script i.bytes i.sources s.script count;
+    }
+
+pub app_ready : {X : Type 0} {H : X → Type 0} {shown : Shows X H} {devices : List DeviceData} {seen : List ℕ → Option (List ℕ)} {app script : List ℕ} {wanted : Bool} {described : AppData} {l : SourceLines} (job : Asked) (verdict : AppData → List (List ℕ) → Scenario → Verdict) (picture : Picture) (b : Board X H)
+    → RunsApp devices job app script verdict → IsBuiltApp seen app wanted described picture l → IsSet shown devices seen picture script b → IsAppReady shown devices job seen verdict wanted b described l
+app_ready {X} {H} {shown} {devices} {seen} {app} {script} {wanted} {described} {l} job verdict picture b runs i s =
+    let contents = i.bytes ∷ (i.sources ++ s.script ∷ []) in
+    let taken = app_taken job picture b (takes_app_of runs) i s in
+    let does = runs.does contents picture taken.built in
+    let by_sources = subst (λ (ss : List (List ℕ)). Does devices job contents (verdict (application_of i.bytes) ss (scenario_of picture (script_in contents) devices))) taken.sources_are does in
+    let by_script = subst (λ (t : List ℕ). Does devices job contents (verdict (application_of i.bytes) i.sources (scenario_of picture t devices))) taken.script_is by_sources in
     record {
       sources = i.sources;
       ready = record {
         contents = contents;
-        accepted = record {
-          takes = subst (λ (fs : List File). Takes (MayBe seen) fs contents) (sym (runs.files i.bytes)) takes;
-          all = ap length (runs.files i.bytes) ∙ longer files (script_file script) ∙ ap suc i.each.all ∙ sym (longer (i.bytes ∷ i.sources) s.script);
-        };
+        accepted = taken.accepted;
         scenario = scenario_of picture s.script devices;
         done = subst (λ (a : AppData). Does devices job contents (verdict a i.sources (scenario_of picture s.script devices))) i.described by_script;
         stands = s.stands;
@@ -352,8 +375,8 @@ app_ready {X} {H} {shown} {devices} {seen} {app} {script} {wanted} {described} {
       lines = i.lines;
     }
 
-pub app_faults : {devices : List DeviceData} {app script : List ℕ} (a c : FilesSeen) (job : Asked) (verdict : AppData → List (List ℕ) → Scenario → Verdict) (h : NamedFault) → RunsApp devices job app script verdict → IsNamedFaultInApp a c app h → IsNamedFaultIn devices job a c h
-app_faults {app = app} {script = script} a c job verdict h runs i =
+pub app_faults : {devices : List DeviceData} {app script : List ℕ} (a c : FilesSeen) (job : Asked) (h : NamedFault) → TakesApp devices job app script → IsNamedFaultInApp a c app h → IsNamedFaultIn devices job a c h
+app_faults {app = app} {script = script} a c job h runs i =
     let files = files_to_build app (first_of i.contents) in
     let same = runs.files (first_of i.contents) in
     record {
@@ -366,9 +389,9 @@ app_faults {app = app} {script = script} a c job verdict h runs i =
       };
     }
 
-pub app_script_faults : {devices : List DeviceData} {app script : List ℕ} {wanted : Bool} {described : AppData} {l : SourceLines} (a b c : FilesSeen) (job : Asked) (verdict : AppData → List (List ℕ) → Scenario → Verdict) (picture : Picture) (h : NamedFault) → RunsApp devices job app script verdict
+pub app_script_faults : {devices : List DeviceData} {app script : List ℕ} {wanted : Bool} {described : AppData} {l : SourceLines} (a b c : FilesSeen) (job : Asked) (picture : Picture) (h : NamedFault) → TakesApp devices job app script
     → IsBuiltApp a.contents app wanted described picture l → b.contents ≡ a.contents → a.read_faults ≤ b.read_faults → IsNamedFaultOf b c (script_file script) h → IsNamedFaultIn devices job a c h
-app_script_faults {app = app} {script = script} a b c job verdict picture h runs i seen later fault =
+app_script_faults {app = app} {script = script} a b c job picture h runs i seen later fault =
     let files = files_to_build app i.bytes in
     let same = runs.files i.bytes in
     record {
@@ -398,7 +421,7 @@ tells_good (audit trace) v r h = tt
 tells_good (save image script out steps) v r h = tt
 tells_good (resume image script state steps detail) v r h = tt
 tells_good (debug image script commands) v r h = tt
-tells_good (cover image script steps) v r h = tt
+tells_good (cover image script steps labels) v r h = tt
 tells_good (sweep image script arrival from to steps memory) v r h = tt
 tells_good (timeline image script steps names) v r h = tt
 tells_good (live image script commands) v r h = tt
@@ -447,7 +470,7 @@ nothing_told devices (audit trace) seen contents = refl
 nothing_told devices (save image script out steps) seen contents = refl
 nothing_told devices (resume image script state steps detail) seen contents = refl
 nothing_told devices (debug image script commands) seen contents = refl
-nothing_told devices (cover image script steps) seen contents = refl
+nothing_told devices (cover image script steps labels) seen contents = refl
 nothing_told devices (sweep image script arrival from to steps memory) seen contents = refl
 nothing_told devices (timeline image script steps names) seen contents = refl
 nothing_told devices (live image script commands) seen contents = inl refl
@@ -552,7 +575,7 @@ answers_drawn image script out named a b c w w' n names bd r same puts h tells =
 pub lines_ready : {X : Type 0} {H : X → Type 0} {shown : Shows X H} {devices : List DeviceData} (job : Asked) (out : List ℕ) (n : ℕ) (seen : List ℕ → Option (List ℕ)) (bd : Board X H) (app : AppData) (l : SourceLines)
     → IsAppReady shown devices job seen (λ described sources. traced out n (sections described sources)) true bd app l → IsReady shown devices job seen (traced out n (sections_by app (kept_lines l))) bd
 lines_ready {shown = shown} {devices = devices} job out n seen bd app l h =
-    subst (λ (lists : List (List InsnLine)). IsReady shown devices job seen (traced out n (sections_by app lists)) bd) (sym (h.lines h.wants)) h.ready
+    subst (λ (lists : List (List InsnLine)). IsReady shown devices job seen (traced out n (sections_by app lists)) bd) (sym (h.lines.lines h.wants)) h.ready
 
 pub answers_traced : {X : Type 0} {H : X → Type 0} {shown : Shows X H} {devices : List DeviceData} (app script out : List ℕ) (a b c : FilesSeen) (w w' : SinkSeen) (n : ℕ) (secs : List Section) (bd : Board X H) (r : ℕ) → b.contents ≡ a.contents → b.put_faults ≡ a.put_faults
     → IsReady shown devices (lcov app script out n) a.contents (traced out n secs) bd → ((x : Scenario) → Stands shown x bd (start_of x) → Tells b c w w' (traced out n secs x) r) → AnswersJob devices (lcov app script out n) a c w w' r

@@ -127,10 +127,6 @@ verdict_found text (No n) good bad = (bad n).0 refl
 
 -- ## an application
 
-pub app_refused : (bytes : List ℕ) (why : Why) → length bytes ≤ file_limit → read_app bytes ≡ Err why → app_refusal bytes ≡ Some why
-unfolding app_refusal
-app_refused bytes why le is = short file_limit bytes _ le ∙ ap (λ r. or_later (fault_in r) (room_refusal (application_of bytes))) is
-
 pub is_application : (bytes : List ℕ) (app : AppData) → read_app bytes ≡ Ok app → application_of bytes ≡ app
 unfolding application_of
 is_application bytes app is = ap app_in is

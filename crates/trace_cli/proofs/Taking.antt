@@ -14,14 +14,15 @@ use Rattle.outside_io.specs.Seen.{FilesSeen}
 use Rattle.trace_cli.specs.Sources.{File, source_file, sources_from, source_files, files_to_build, app_file, first_of, MayBe, Takes}
 use Rattle.trace_cli.specs.FileFaults.{IsNamedFaultOf}
 use Rattle.thumb_asm.specs.declared.listing.InsnLine.{InsnLine}
+use Rattle.thumb_asm.specs.Meaning.{Names}
 use Rattle.trace_cli.specs.declared.source_lines.SourceLines.{SourceLines}
-use Rattle.trace_cli.specs.Building.{AreLines, HasListed, HasNext, HasAll, IsBuiltApp, IsImageOf, IsImage, lines_at, lines_from, IsNamedFaultInSources, IsNamedFaultInApp}
+use Rattle.trace_cli.specs.Building.{AreLines, HasListed, HasNext, HasAll, IsBuiltApp, IsImageOf, IsImage, lines_at, lines_from, labels_at, labels_from, IsNamedFaultInSources, IsNamedFaultInApp}
 use Rattle.trace_cli.specs.declared.file_faults.NamedFault.{NamedFault}
 use Rattle.trace_cli.specs.declared.file_faults.NamedFault.TheVariants as named_faults
 use Rattle.trace_cli.proofs.Lists.{at_end, longer, takes_none, takes_last, takes_first}
 use Rattle.trace_cli.proofs.Refusals.{is_application, app_by_room}
 use Rattle.trace_cli.proofs.Faulting.{faults_earlier}
-use Rattle.std.proofs.lemmas.List.{take_all}
+use Rattle.std.proofs.lemmas.List.{append-nil, append_assoc, take_all}
 
 -- the source that was accepted last is accepted
 pub taken_last : (old new : Builder) (sources : List (List ℕ)) (bytes : List ℕ) → described new ≡ described old → HasAccepted sources old → HasAccepted (sources ++ bytes ∷ []) new
@@ -76,11 +77,23 @@ lines_more app i (s ∷ sources) bytes =
     let same : i + 1 + length sources ≡ i + suc (length sources) = omega arith in
     ap (λ (ls : List (List InsnLine)). lines_at app i s ∷ ls) (lines_more app (i + 1) sources bytes ∙ ap (λ (n : ℕ). lines_from app (i + 1) sources ++ lines_at app n bytes ∷ []) same)
 
-still_lines : (app : AppData) (i : ℕ) (sources : List (List ℕ)) (bytes : List ℕ) (l l' : SourceLines) → i ≡ length sources → AreLines app sources l → HasListed (lines_at app i bytes) l l' → AreLines app (sources ++ bytes ∷ []) l'
-still_lines app i sources bytes l l' count are more wanted =
-    let was : l.wanted ≡ true = sym more.wanted ∙ wanted in
+-- so do its labels
+labels_more : (app : AppData) (i : ℕ) (sources : List (List ℕ)) (bytes : List ℕ) → labels_from app i (sources ++ bytes ∷ []) ≡ labels_from app i sources ++ labels_at app (i + length sources) bytes
+labels_more app i [] bytes = let same : i ≡ i + 0 = omega arith in append-nil (labels_at app i bytes) ∙ ap (λ (n : ℕ). labels_at app n bytes) same
+labels_more app i (s ∷ sources) bytes =
+    let same : i + 1 + length sources ≡ i + suc (length sources) = omega arith in
+    ap (λ (ls : Names). labels_at app i s ++ ls) (labels_more app (i + 1) sources bytes ∙ ap (λ (n : ℕ). labels_from app (i + 1) sources ++ labels_at app n bytes) same)
+    ∙ sym (append_assoc (labels_at app i s) (labels_from app (i + 1) sources) (labels_at app (i + suc (length sources)) bytes))
+
+still_lines : (app : AppData) (i : ℕ) (sources : List (List ℕ)) (bytes : List ℕ) (l l' : SourceLines) → i ≡ length sources → AreLines app sources l → HasListed (lines_at app i bytes) (labels_at app i bytes) l l' → AreLines app (sources ++ bytes ∷ []) l'
+still_lines app i sources bytes l l' count are more =
     let from : i ≡ 0 + length sources = omega (arith, count) in
-    more.listed was ∙ ap (λ (ls : List (List InsnLine)). ls ++ lines_at app i bytes ∷ []) (are was) ∙ ap (λ (n : ℕ). lines_from app 0 sources ++ lines_at app n bytes ∷ []) from ∙ sym (lines_more app 0 sources bytes)
+    record {
+      lines = λ wanted. let was : l.wanted ≡ true = sym more.wanted ∙ wanted in
+          more.listed was ∙ ap (λ (ls : List (List InsnLine)). ls ++ lines_at app i bytes ∷ []) (are.lines was) ∙ ap (λ (n : ℕ). lines_from app 0 sources ++ lines_at app n bytes ∷ []) from ∙ sym (lines_more app 0 sources bytes);
+      labels = λ wanted. let was : l.wanted ≡ true = sym more.wanted ∙ wanted in
+          more.labelled was ∙ ap (λ (ls : Names). ls ++ labels_at app i bytes) (are.labels was) ∙ ap (λ (n : ℕ). labels_from app 0 sources ++ labels_at app n bytes) from ∙ sym (labels_more app 0 sources bytes);
+    }
 
 pub one_more : (seen : List ℕ → Option (List ℕ)) (app : AppData) (old new : Builder) (l l' : SourceLines) (k : ℕ) (t : TaskData) (h : HasFirst seen app old l k) → described old ≡ app
     → slice_get app.tasks k ≡ Some t → HasNext seen t.source h.sources old new l l' → HasFirst seen app new l' (k + 1)
@@ -94,7 +107,7 @@ one_more seen app old new l l' k t h same at next =
       count = (let more = longer h.sources next.bytes in let count = h.count in omega arith);
       takes = takes_last (MayBe seen) (source_files app) h.sources (source_file app k t) next.bytes h.takes file next.held accepted;
       accepted_sources = next.accepted_sources;
-      lines = still_lines app (next_task old) h.sources next.bytes l l' h.accepted_sources.next h.lines (subst (λ (a : AppData). HasListed (lines_at a (next_task old) next.bytes) l l') same next.listed);
+      lines = still_lines app (next_task old) h.sources next.bytes l l' h.accepted_sources.next h.lines (subst (λ (a : AppData). HasListed (lines_at a (next_task old) next.bytes) (labels_at a (next_task old) next.bytes) l l') same next.listed);
     }
 
 pub each_accepted : (seen : List ℕ → Option (List ℕ)) (app : AppData) (builder : Builder) (l : SourceLines) (k : ℕ) → k ≡ length app.tasks → HasFirst seen app builder l k → HasAll seen app builder l

@@ -1,7 +1,8 @@
 -- The image that is built of files.
 use Rattle.std.specs.Prelude.{◌≡◌, ℕ, ◌+◌, Bool, true, List, [], ◌∷◌, ◌++◌, length, map, slice_get, Option, Some, None}
 use Rattle.text_lines.specs.Text.{lines_of}
-use Rattle.thumb_asm.specs.Listed.{insn_lines, placed}
+use Rattle.thumb_asm.specs.Listed.{insn_lines, labels_in, labels_of, placed}
+use Rattle.thumb_asm.specs.Meaning.{Names}
 use Rattle.thumb_asm.specs.declared.listing.InsnLine.{InsnLine}
 use Rattle.app_toml.specs.Apps.{AppData}
 use Rattle.image_format.specs.Picture.{Picture, Sound}
@@ -16,7 +17,7 @@ use Rattle.outside_io.specs.Seen.{FilesSeen}
 use Rattle.trace_cli.specs.Sources.{File, files_to_build, first_of, source_files, MayBe, Takes, IsBuilt}
 use Rattle.trace_cli.specs.FileFaults.{IsNamedFaultOf}
 
--- ## where the instructions of sources lie
+-- ## where the instructions and the labels of sources lie
 
 -- those of the i-th task's source
 abbrev pub lines_at : AppData → ℕ → List ℕ → List InsnLine
@@ -27,18 +28,35 @@ abbrev pub lines_from : AppData → ℕ → List (List ℕ) → List (List InsnL
 lines_from app i [] = []
 lines_from app i (source ∷ sources) = lines_at app i source ∷ lines_from app (i + 1) sources
 
--- the lists that are kept
+-- the labels of the i-th task's source, and those of sources in their order, of which the first is the i-th
+abbrev pub labels_at : AppData → ℕ → List ℕ → Names
+labels_at app i source = labels_of (placed (flash_base app i) (lines_of source))
+
+abbrev pub labels_from : AppData → ℕ → List (List ℕ) → Names
+labels_from app i [] = []
+labels_from app i (source ∷ sources) = labels_at app i source ++ labels_from app (i + 1) sources
+
+-- what is kept
 abbrev pub kept_lines : SourceLines → List (List InsnLine)
 kept_lines l = map (λ v. v.items) l.lists.items
 
--- where they are wanted, they are those of these sources
-abbrev pub AreLines : AppData → List (List ℕ) → SourceLines → Type 0
-AreLines app sources l = l.wanted ≡ true → kept_lines l ≡ lines_from app 0 sources
+abbrev pub kept_labels : SourceLines → Names
+kept_labels l = labels_in l.labels.items
 
--- a list more is kept, where it is wanted
-pub record HasListed (more : List InsnLine) (l l' : SourceLines) : Type 0 where
+pub record KeepsNone (l : SourceLines) : Type 0 where
+  pub lines : kept_lines l ≡ []
+  pub labels : kept_labels l ≡ []
+
+-- where it is wanted, it is that of these sources
+pub record AreLines (app : AppData) (sources : List (List ℕ)) (l : SourceLines) : Type 0 where
+  pub lines : l.wanted ≡ true → kept_lines l ≡ lines_from app 0 sources
+  pub labels : l.wanted ≡ true → kept_labels l ≡ labels_from app 0 sources
+
+-- the lines and the labels of a source more are kept, where they are wanted
+pub record HasListed (lines : List InsnLine) (labels : Names) (l l' : SourceLines) : Type 0 where
   pub wanted : l'.wanted ≡ l.wanted
-  pub listed : l.wanted ≡ true → kept_lines l' ≡ kept_lines l ++ more ∷ []
+  pub listed : l.wanted ≡ true → kept_lines l' ≡ kept_lines l ++ lines ∷ []
+  pub labelled : l.wanted ≡ true → kept_labels l' ≡ kept_labels l ++ labels
 
 -- ## files that are accepted
 
@@ -60,7 +78,7 @@ pub record HasNext (seen : List ℕ → Option (List ℕ)) (name : List ℕ) (so
   pub held : MayBe seen name bytes
   pub accepted : source_refusal (described before) (next_task before) bytes ≡ None
   pub accepted_sources : HasAccepted (sources ++ bytes ∷ []) after
-  pub listed : HasListed (lines_at (described before) (next_task before) bytes) l l'
+  pub listed : HasListed (lines_at (described before) (next_task before) bytes) (labels_at (described before) (next_task before) bytes) l l'
 
 -- it has accepted those of all tasks
 pub record HasAll (seen : List ℕ → Option (List ℕ)) (app : AppData) (builder : Builder) (l : SourceLines) : Type 0 where
@@ -84,7 +102,7 @@ pub record IsImage (seen : List ℕ → Option (List ℕ)) (app : List ℕ) (ima
   pub each : TakesEach seen (files_to_build app bytes) (bytes ∷ sources)
   pub is : IsBuilt (bytes ∷ sources) image
 
--- so it was, with where the instructions of its sources lie
+-- so it was, with where the instructions and the labels of its sources lie
 pub record IsBuiltApp (seen : List ℕ → Option (List ℕ)) (name : List ℕ) (wanted : Bool) (app : AppData) (image : Picture) (l : SourceLines) : Type 0 where
   pub bytes : List ℕ
   pub sources : List (List ℕ)

@@ -4,6 +4,7 @@ use Rattle.std.specs.Io.KnownBytes.{Appends}
 use Rattle.outside_io.specs.Outside.{WhereSeen, Rose, AppendsFront, IsFront}
 use Rattle.board_model.specs.Script.{Scenario}
 use Rattle.debug_core.specs.Live.{begun_text}
+use Rattle.thumb_asm.specs.Meaning.{Names}
 use Rattle.debug_core.specs.Session.{opened}
 use Rattle.trace_cli.specs.declared.file_faults.NamedFault.{NamedFault}
 use Rattle.trace_cli.specs.declared.file_faults.NamedFault.TheVariants as named_faults
@@ -41,7 +42,7 @@ pub data SaysLive (x : Scenario) (name : List ℕ) (before after : FilesSeen) (w
       → Pushed w w' (unread (begun_text x opened front) name) r → SaysLive x name before after w w' r
   unsaid : IsSilent w w' r → SaysLive x name before after w w' r
 
--- what is told of how often a run executed each instruction; or memory is short
-pub data SaysCovered (n : ℕ) (x : Scenario) (w w' : SinkSeen) (r : ℕ) : Type 0 where
-  told : (known : ℕ → Bool) → IsKnownIn n x known → Pushed w w' (covered n x known) r → SaysCovered n x w w' r
-  nothing : IsSilent w w' r → SaysCovered n x w w' r
+-- what is told of how often a run executed each instruction, with these labels; or memory is short
+pub data SaysCovered (n : ℕ) (x : Scenario) (labels : Names) (w w' : SinkSeen) (r : ℕ) : Type 0 where
+  told : (known : ℕ → Bool) → IsKnownIn n x known → Pushed w w' (covered n x labels known) r → SaysCovered n x labels w w' r
+  nothing : IsSilent w w' r → SaysCovered n x labels w w' r

@@ -32,7 +32,7 @@ use Rattle.trace_cli.specs.Sources.{File, MayBe, TakesAll, files_of, files_by, i
 use Rattle.trace_cli.specs.Verdict.{Verdict, Does, names_by, task_names, resumed, debugged, swept}
 use Rattle.trace_cli.specs.FileFaults.{IsNamedFaultOf}
 use Rattle.trace_cli.specs.declared.source_lines.SourceLines.{SourceLines}
-use Rattle.trace_cli.specs.Building.{AreLines, IsNamedFaultAfter}
+use Rattle.trace_cli.specs.Building.{AreLines, IsBuiltApp, IsNamedFaultAfter}
 
 -- an image is that which the file of this name spells
 pub record IsImageFile (seen : List ℕ → Option (List ℕ)) (name : List ℕ) (image : Picture) : Type 0 where
@@ -76,6 +76,10 @@ pub record RunsImage (devices : List DeviceData) (job : Asked) (image script : L
 pub record RunsNamed (devices : List DeviceData) (job : Asked) (image script : List ℕ) (names : Option (List ℕ)) (verdict : List (List ℕ) → Scenario → Verdict) : Type 0 where
   pub files : (first : List ℕ) → files_of devices job first ≡ image_file image ∷ script_file script ∷ names_files (image_tasks first) names
   pub does : (contents : List (List ℕ)) → Does devices job contents (verdict (names_by names contents) (scenario_in devices contents))
+
+-- the job takes the files of this application and then this script
+pub record TakesApp (devices : List DeviceData) (job : Asked) (app script : List ℕ) : Type 0 where
+  pub files : (first : List ℕ) → files_of devices job first ≡ files_to_build app first ++ script_file script ∷ []
 
 -- the job takes the files of this application and then this script, and answers their run by this verdict on the application, its sources
 -- and it
@@ -208,6 +212,13 @@ pub record IsAuditOf (seen : List ℕ → Option (List ℕ)) (name : List ℕ) (
 pub record IsNamedFaultIn (devices : List DeviceData) (job : Asked) (before after : FilesSeen) (named_fault : NamedFault) : Type 0 where
   pub contents : List (List ℕ)
   pub at : IsNamedFaultAfter before after (files_by devices job contents) contents named_fault
+
+-- An application and a script of these names are accepted, and the board stands for the start of their run with these devices; where the
+-- instructions and the labels of the sources lie is known, if that is wanted.
+pub record IsAppSet {X : Type 0} {H : X → Type 0} (shown : Shows X H) (devices : List DeviceData) (app script : List ℕ) (seen : List ℕ → Option (List ℕ)) (wanted : Bool) (b : Board X H) (described : AppData) (l : SourceLines) : Type 0 where
+  pub image : Picture
+  pub built : IsBuiltApp seen app wanted described image l
+  pub set : IsSet shown devices seen image script b
 
 -- Each file of the job is accepted, among them the sources of this application, and the board stands for the start of the run that it
 -- answers by this verdict; where the instructions of the sources lie is known, if that is wanted.

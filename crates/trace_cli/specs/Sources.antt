@@ -1,5 +1,5 @@
 -- The files of a job, in the order in which they are accepted.
-use Rattle.std.specs.Prelude.{◌≡◌, ◌≤◌, ℕ, ◌+◌, List, [], ◌∷◌, ◌++◌, length, drop, take, slice_get, slice_index_or, Option, Some, None}
+use Rattle.std.specs.Prelude.{◌≡◌, ◌≤◌, ℕ, ◌+◌, false, true, List, [], ◌∷◌, ◌++◌, length, drop, take, slice_get, slice_index_or, Option, Some, None}
 use Rattle.kernel_abi.specs.Devices.{DeviceData}
 use Rattle.outside_io.specs.Outside.{WhereSeen}
 use Rattle.outside_io.specs.Seen.{FilesSeen}
@@ -74,9 +74,9 @@ files_to_build app first = app_file app ∷ source_files (application_of first)
 abbrev pub image_tasks : List ℕ → ℕ
 image_tasks bytes = length (picture_of bytes).tasks
 
--- The files of a job of which the first file holds these bytes: `build` takes those of its application, `go` and `lcov` too and then
--- their script; `run`, `save`, `cover`, `timeline` and `picture` take their image and then their script, the last two then the application
--- that names the tasks, where one is named; `resume` its image, its script and its state, `debug` and `live` their image, their script and their
+-- The files of a job of which the first file holds these bytes: `build` takes those of its application, `go`, `lcov` and `cover` with
+-- labels too and then their script; `run`, `save`, `cover` without labels, `timeline` and `picture` take their image and then their script, the
+-- last two then the application that names the tasks, where one is named; `resume` its image, its script and its state, `debug` and `live` their image, their script and their
 -- commands, `sweep` its image, its script and its arrival; `list` and `migrate` take their image, `audit` its trace, `sample` and `help` none. The
 -- devices are those of a run.
 abbrev pub files_of : List DeviceData → Asked → List ℕ → List File
@@ -90,7 +90,8 @@ files_of devices (audit trace) first = trace_file trace ∷ []
 files_of devices (save image script out steps) first = image_file image ∷ script_file script ∷ []
 files_of devices (resume image script state steps detail) first = image_file image ∷ script_file script ∷ state_file devices (picture_of first) steps state ∷ []
 files_of devices (debug image script commands) first = image_file image ∷ script_file script ∷ commands_file commands ∷ []
-files_of devices (cover image script steps) first = image_file image ∷ script_file script ∷ []
+files_of devices (cover image script steps false) first = image_file image ∷ script_file script ∷ []
+files_of devices (cover app script steps true) first = files_to_build app first ++ script_file script ∷ []
 files_of devices (sweep image script arrival from to steps memory) first = image_file image ∷ script_file script ∷ arrival_file arrival ∷ []
 files_of devices (timeline image script steps names) first = image_file image ∷ script_file script ∷ names_files (image_tasks first) names
 files_of devices (live image script commands) first = image_file image ∷ script_file script ∷ lines_file commands ∷ []

@@ -1,5 +1,5 @@
 -- What the program answers: a status, its text, and the file that it puts.
-use Rattle.std.specs.Prelude.{◌≡◌, ℕ, ◌-◌, Bool, false, if◌then◌else◌, List, [], ◌++◌, length, map, take, slice_index_or, codes, decimal, Option, Some, None, Ok}
+use Rattle.std.specs.Prelude.{◌≡◌, ℕ, ◌-◌, Bool, false, true, if◌then◌else◌, List, [], ◌++◌, length, map, take, slice_index_or, codes, decimal, Option, Some, None, Ok}
 use Rattle.std.specs.List.{range_with_len}
 use Rattle.kernel_abi.specs.Devices.{DeviceData}
 use Rattle.serde_json.specs.Written.{compact_text}
@@ -39,7 +39,9 @@ use Rattle.command_line.specs.CommandLine.{Asked, build, run, go, list, sample, 
 use Rattle.command_line.specs.declared.job.CommandName.{CommandName}
 use Rattle.command_line.specs.declared.job.Detail.{Detail}
 use Rattle.help_text.specs.Help.{help_text}
+use Rattle.thumb_asm.specs.Meaning.{Names}
 use Rattle.trace_cli.specs.Contents.{Why, names_in, picture_of, script_of, scenario_of, sample_scenario}
+use Rattle.trace_cli.specs.Building.{labels_from}
 use Rattle.trace_cli.specs.Tracing.{sections}
 use Rattle.trace_cli.specs.Words.{job_in}
 use Rattle.trace_cli.specs.Sources.{File, Are, Reaches, TakesAll, IsBuilt, described, first_of, image_tasks, sources_in, script_in, scenario_in, state_by}
@@ -181,15 +183,18 @@ debugged x commands = line_alone 0 (answers_text x commands)
 abbrev pub lived : Scenario → List ℕ → Verdict
 lived x bytes = line_alone 0 (live_text x opened (take live_limit bytes))
 
--- how often a run executed each instruction, where a test tells what of it is known to be code
-abbrev pub covered : ℕ → Scenario → (ℕ → Bool) → Verdict
-covered n x known =
+-- how often a run executed each instruction, with these labels, where a test tells what of it is known to be code
+abbrev pub covered : ℕ → Scenario → Names → (ℕ → Bool) → Verdict
+covered n x labels known =
     let r = run_of All n x in
-    line_alone (status_of r.end) (cover_text x.setup r known [])
+    line_alone (status_of r.end) (cover_text x.setup r known labels)
 
 -- the test is true just of what is known of that run
 abbrev pub IsKnownIn : ℕ → Scenario → (ℕ → Bool) → Type 0
 IsKnownIn n x known = IsKnownOf x.setup (run_of All n x) known
+
+abbrev pub IsCovered : ℕ → Scenario → Names → Verdict → Type 0
+IsCovered n x labels v = (known : ℕ → Bool) × IsKnownIn n x known × (v ≡ covered n x labels known)
 
 -- what is asked of a sweep by the events of an arrival with these bytes
 abbrev pub asking : List ℕ → ℕ → ℕ → ℕ → Bool → Asking
@@ -245,9 +250,9 @@ Does devices (save image script out steps) contents v = v ≡ saved out steps (s
 Does devices (resume image script state steps detail) contents v = v ≡ resumed steps detail (scenario_in devices contents) (state_by devices contents)
 Does devices (debug image script name) contents v =
     (commands : List Command) × (commands_or_fault (slice_index_or contents 2 []) ≡ Ok commands) × (v ≡ debugged (scenario_in devices contents) commands)
-Does devices (cover image script steps) contents v =
-    let x = scenario_in devices contents in
-    (known : ℕ → Bool) × IsKnownIn steps x known × (v ≡ covered steps x known)
+Does devices (cover image script steps false) contents v = IsCovered steps (scenario_in devices contents) [] v
+Does devices (cover app script steps true) contents v =
+    (image : Picture) × IsBuilt contents image × IsCovered steps (scenario_of image (script_in contents) devices) (labels_from (described contents) 0 (sources_in contents)) v
 Does devices (sweep image script arrival from to steps memory) contents v = v ≡ swept (scenario_in devices contents) (asking (slice_index_or contents 2 []) from to steps memory)
 Does devices (timeline image script steps names) contents v = v ≡ timed steps (names_by names contents) (scenario_in devices contents)
 Does devices (live image script name) contents v = v ≡ lived (scenario_in devices contents) (slice_index_or contents 2 [])

@@ -8,7 +8,7 @@ ghost use Rattle.image_build.specs.Accepted.{HasAccepted, described, next_task};
 ghost use Rattle.trace_cli.specs.Contents.{file_limit, room_refusal, source_refusal};
 ghost use Rattle.trace_cli.specs.Sources.{OnlyReads};
 ghost use Rattle.trace_cli.specs.FileFaults.{IsFaultFor, IsNamedFaultOf};
-ghost use Rattle.trace_cli.specs.Building.{HasNext, HasAll, IsBuiltApp, IsImageOf, IsImage, kept_lines, IsNamedFaultInApp, IsNamedFaultInSources};
+ghost use Rattle.trace_cli.specs.Building.{HasNext, HasAll, IsBuiltApp, IsImageOf, IsImage, KeepsNone, IsNamedFaultInApp, IsNamedFaultInSources};
 ghost use Rattle.trace_cli.specs.Verdict.{built};
 ghost use Rattle.trace_cli.specs.Answer.{Tells, AnswersJob};
 
@@ -90,7 +90,7 @@ fn take_sources<F: Files>(
 ) -> Result<(), NamedFault>
     requires described { described builder.old ≡ app_of app.now }
     requires none { HasAccepted [] builder.old }
-    requires unlisted { kept_lines lines.old ≡ [] }
+    requires unlisted { KeepsNone lines.old }
     ensures described { described builder.new ≡ described builder.old }
     ensures wanted { OnOk result (lines.new.wanted ≡ lines.old.wanted) }
     ensures accepted_sources { OnOk result (HasAll (F.seen files.old).contents (app_of app.now) builder.new lines.new) }
@@ -116,7 +116,7 @@ fn image_of<F: Files>(
 ) -> Result<Image, NamedFault>
     requires described { described builder ≡ app_of app.now }
     requires none { HasAccepted [] builder }
-    requires unlisted { kept_lines lines.old ≡ [] }
+    requires unlisted { KeepsNone lines.old }
     ensures wanted { IfOk result (λ _. lines.new.wanted ≡ lines.old.wanted) }
     ensures image { IfOk result (λ i. IsImageOf (F.seen files.old).contents (app_of app.now) (picture i) lines.new) }
     ensures named_fault { IfErr result (λ h. (h ≡ NamedFault.Memory) ⊎ IsNamedFaultInSources (F.seen files.old) (F.seen files.new) (app_of app.now) h) }
@@ -133,7 +133,7 @@ fn image_of<F: Files>(
     }
 }
 
-/// An application, its image, and where the instructions of its sources lie.
+/// An application, its image, and where the instructions and the labels of its sources lie.
 #[derive(Drop)]
 pub struct BuiltApp {
     pub app: App,
@@ -141,7 +141,7 @@ pub struct BuiltApp {
     pub lines: SourceLines,
 }
 
-/// The application under a name, and its image; and where the instructions of its sources lie, if that is wanted.
+/// The application under a name, and its image; and where the instructions and the labels of its sources lie, if that is wanted.
 pub fn built_app<F: Files>(
     alloc: Global,
     files: &mut F,

@@ -11,7 +11,7 @@ ghost use Rattle.command_line.specs.declared.job.Detail.{Detail};
 ghost use Rattle.trace_cli.specs.Sources.{image_file, script_file, OnlyReads};
 ghost use Rattle.trace_cli.specs.FileFaults.{IsNamedFaultOf};
 ghost use Rattle.trace_cli.specs.Verdict.{Verdict, ran};
-ghost use Rattle.trace_cli.specs.Ready.{IsImageFile, IsScriptFile, IsSet, IsRunSet, TakesImage, RunsImage, RunsApp, IsReady, IsAppReady, IsNamedFaultIn};
+ghost use Rattle.trace_cli.specs.Ready.{IsImageFile, IsScriptFile, IsSet, IsRunSet, TakesImage, RunsImage, TakesApp, RunsApp, IsReady, IsAppReady, IsAppSet, IsNamedFaultIn};
 
 use crate::building::{BuiltApp, built_app};
 use crate::file_faults::{NamedFault, fault_named};
@@ -100,7 +100,7 @@ pub fn prepare_run<F: Files>(
 }
 
 /// The board at the start of the run of the application and the script under these names, with devices, and the application; and where the
-/// instructions of its sources lie, if that is wanted. It is the run of each job that takes these files.
+/// instructions and the labels of its sources lie, if that is wanted. It is the run of each job that takes these files.
 pub fn prepare_app<F: Files>(
     alloc: Global,
     files: &mut F,
@@ -112,8 +112,8 @@ pub fn prepare_app<F: Files>(
     requires fresh { AreFresh (map shown devices.items) }
     ensures ready { (job : Asked) (verdict : AppData → List (List ℕ) → Scenario → Verdict) → RunsApp (map shown devices.items) job app.now script.now verdict
         → IfOk result (λ p. IsAppReady shown (map shown devices.items) job (F.seen files.old).contents verdict wanted p.0 (app_of p.1.app) p.1.lines) }
-    ensures named_fault { (job : Asked) (verdict : AppData → List (List ℕ) → Scenario → Verdict) → RunsApp (map shown devices.items) job app.now script.now verdict
-        → IfErr result (IsNamedFaultIn (map shown devices.items) job (F.seen files.old) (F.seen files.new)) }
+    ensures set { IfOk result (λ p. IsAppSet shown (map shown devices.items) app.now script.now (F.seen files.old).contents wanted p.0 (app_of p.1.app) p.1.lines) }
+    ensures named_fault { (job : Asked) → TakesApp (map shown devices.items) job app.now script.now → IfErr result (IsNamedFaultIn (map shown devices.items) job (F.seen files.old) (F.seen files.new)) }
     ensures only_reads { OnlyReads (F.seen files.old) (F.seen files.new) }
 {
     let built = match built_app(alloc, files, app, wanted) {

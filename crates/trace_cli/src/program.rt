@@ -98,8 +98,9 @@ fn answer<F: Files, S: Sink>(
                 image,
                 script,
                 steps,
+                labels,
             },
-        ) => cover_files(alloc, image, script, steps, files, out, devices),
+        ) => cover_files(alloc, image, script, steps, labels, files, out, devices),
         Ok(
             Job::Sweep {
                 image,

@@ -4,6 +4,7 @@ use Rattle.outside_io.specs.Outside.{AppendsFront}
 use Rattle.std.proofs.lemmas.Result.{err_from_is_err_and}
 use Rattle.board_model.specs.declared.outcomes.Level.TheVariants.{All}
 use Rattle.board_model.specs.Run.{run}
+use Rattle.thumb_asm.specs.Listed.{labels_in}
 use Rattle.run_cover.specs.declared.counts.Count.{Count}
 use Rattle.run_cover.specs.Known.{IsKnown}
 use Rattle.run_cover.specs.Marked.{known_of}
@@ -19,7 +20,7 @@ returns-in_err-push_listing-clause-text g c = λ x s st.
     let last = c.count_run-end.ensures.last x s st in (
       k,
       subst (λ (n : ℕ → Count). IsKnown x.setup r.last.memory n k) same (c.find.ensures x r.last last),
-      rw (p.1) (subst (λ (n : ℕ → Count). AppendsFront (g.S.Sink.seen c.args.out.now).written (g.S.Sink.seen c.push_listing.new.out).written (listing_text x.setup (record { memory = r.last.memory; counts = n; known = k }) c.args.labels.now)) same (c.in_err-push_listing.ensures.bytes x r.last last)),
+      rw (p.1) (subst (λ (n : ℕ → Count). AppendsFront (g.S.Sink.seen c.args.out.now).written (g.S.Sink.seen c.push_listing.new.out).written (listing_text x.setup (record { memory = r.last.memory; counts = n; known = k }) (labels_in c.args.labels.now))) same (c.in_err-push_listing.ensures.bytes x r.last last)),
     )
 
 pub returns-clause-text : goal.returns-clause-text
@@ -30,5 +31,5 @@ returns-clause-text g c = λ x s st.
     let last = c.count_run-end.ensures.last x s st in (
       k,
       subst (λ (n : ℕ → Count). IsKnown x.setup r.last.memory n k) same (c.find.ensures x r.last last),
-      subst (λ (n : ℕ → Count). Appends (g.S.Sink.seen c.args.out.now).written (g.S.Sink.seen c.push_listing.new.out).written (listing_text x.setup (record { memory = r.last.memory; counts = n; known = k }) c.args.labels.now)) same (c.in_ok-push_listing.ensures.bytes x r.last last),
+      subst (λ (n : ℕ → Count). Appends (g.S.Sink.seen c.args.out.now).written (g.S.Sink.seen c.push_listing.new.out).written (listing_text x.setup (record { memory = r.last.memory; counts = n; known = k }) (labels_in c.args.labels.now))) same (c.in_ok-push_listing.ensures.bytes x r.last last),
     )

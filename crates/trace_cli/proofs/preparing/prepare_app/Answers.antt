@@ -7,18 +7,22 @@ pub returns-in-Ok-set_up-clause-ready : goal.returns-in-Ok-set_up-clause-ready
 returns-in-Ok-set_up-clause-ready g c = λ job verdict runs.
     app_ready job verdict (picture c.in-Ok.built.image) c.in-Ok-set_up.board runs c.in-Ok.ensures.built (set_there c.in-Ok.ensures.only_reads.contents c.in-Ok-set_up.ensures.set)
 
+pub returns-in-Ok-set_up-clause-set : goal.returns-in-Ok-set_up-clause-set
+returns-in-Ok-set_up-clause-set g c =
+    record { image = picture c.in-Ok.built.image; built = c.in-Ok.ensures.built; set = set_there c.in-Ok.ensures.only_reads.contents c.in-Ok-set_up.ensures.set }
+
 pub returns-in-Err-set_up-clause-named_fault : goal.returns-in-Err-set_up-clause-named_fault
-returns-in-Err-set_up-clause-named_fault g c = λ job verdict runs.
+returns-in-Err-set_up-clause-named_fault g c = λ job takes.
     let a = g.F.Files.seen c.args.files.now in
     let b = g.F.Files.seen c.built_app.new.files in
     let e = g.F.Files.seen c.set_up.new.files in
-    app_script_faults a b e job verdict (picture c.in-Ok.built.image) c.in-Err-set_up.named_fault runs c.in-Ok.ensures.built c.in-Ok.ensures.only_reads.contents c.in-Ok.ensures.only_reads.later c.in-Err-set_up.ensures.named_fault
+    app_script_faults a b e job (picture c.in-Ok.built.image) c.in-Err-set_up.named_fault takes c.in-Ok.ensures.built c.in-Ok.ensures.only_reads.contents c.in-Ok.ensures.only_reads.later c.in-Err-set_up.ensures.named_fault
 
 pub returns-in-Err-clause-named_fault : goal.returns-in-Err-clause-named_fault
-returns-in-Err-clause-named_fault g c = λ job verdict runs.
+returns-in-Err-clause-named_fault g c = λ job takes.
     let a = g.F.Files.seen c.args.files.now in
     let b = g.F.Files.seen c.built_app.new.files in
-    app_faults a b job verdict c.in-Err.named_fault runs c.in-Err.ensures.named_fault
+    app_faults a b job c.in-Err.named_fault takes c.in-Err.ensures.named_fault
 
 pub returns-in-Ok-set_up-clause-only_reads : goal.returns-in-Ok-set_up-clause-only_reads
 returns-in-Ok-set_up-clause-only_reads g c = reads_more c.in-Ok.ensures.only_reads c.in-Ok-set_up.ensures.only_reads

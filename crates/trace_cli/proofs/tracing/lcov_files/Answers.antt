@@ -6,7 +6,7 @@ use Rattle.trace_cli.specs.Building.{kept_lines}
 use Rattle.trace_cli.specs.Ready.{RunsApp}
 use Rattle.trace_cli.specs.Tracing.{sections, sections_by}
 use Rattle.trace_cli.specs.Verdict.{traced}
-use Rattle.trace_cli.proofs.Readying.{answers_named_fault, answers_traced, lines_ready, ready_stood}
+use Rattle.trace_cli.proofs.Readying.{answers_named_fault, answers_traced, lines_ready, ready_stood, takes_app_of}
 use Rattle.trace_cli.proofs.tracing.lcov_files.Goals as goal
 
 traces : (devices : List DeviceData) (app script out : List ℕ) (n : ℕ) → RunsApp devices (lcov app script out n) app script (λ described sources. traced out n (sections described sources))
@@ -37,4 +37,4 @@ returns-in-Err-clause-answer g c =
     let w = g.S.Sink.seen c.args.out.now in
     let w' = g.S.Sink.seen c.tell_named_fault.new.out in
     answers_named_fault (lcov c.args.app.now c.args.script.now c.args.name.now c.args.steps) a b w w' c.in-Err.named_fault c.tell_named_fault.result c.in-Err.ensures.only_reads.contents
-    (c.in-Err.ensures.named_fault _ _ (traces _ c.args.app.now c.args.script.now c.args.name.now c.args.steps)) c.tell_named_fault.ensures
+    (c.in-Err.ensures.named_fault _ (takes_app_of (traces _ c.args.app.now c.args.script.now c.args.name.now c.args.steps))) c.tell_named_fault.ensures
