@@ -19,6 +19,7 @@ use Rattle.thumb_asm.specs.Passes.{size_from}
 use Rattle.asm_laws.proofs.Steady.{Steady, IsSteady, steady_statement}
 use Rattle.asm_laws.proofs.Lengths.{Alike, CodesOf, number_length, data_length, coded_length, shape_long, insn_long}
 use Rattle.asm_laws.proofs.Single.{same_entries, alike_label, alike_env}
+use Rattle.thumb_asm.proofs.Placing.{not_when}
 
 -- No cause among several.
 
@@ -29,10 +30,6 @@ former (Some x) p h = cc
 latter : {A : Type 0} (o p : Option A) → or_else o p ≡ None → p ≡ None
 latter None p h = h
 latter (Some x) p h = cc
-
-unset : (b : Bool) (c : Cause) → when b c ≡ None → b ≡ false
-unset true c h = cc
-unset false c h = refl
 
 here : (k : ℕ) (o : Option Cause) (later : Option (Cause × ℕ)) → at_line k o later ≡ None → o ≡ None
 here k None later h = refl
@@ -79,7 +76,7 @@ means_sized env env' at (Near e f) own a h c p = insn_sized env at (Near e f) ow
 means_sized env env' at Misplaced own a h c p = insn_sized env at Misplaced own h p
 means_sized env env' at (Listed loads rs) own a h c p = insn_sized env at (Listed loads rs) own h p ∙ listed_long loads rs
 means_sized env env' at (Block n raised loads rs) own a h c p = insn_sized env at (Block n raised loads rs) own h p ∙ block_long n raised loads rs
-means_sized env env' at (Data k es) own a h c p = ap length p ∙ data_length env env' k es a ∙ data_sized env' k es (unset _ _ (former _ _ (latter _ _ c)))
+means_sized env env' at (Data k es) own a h c p = ap length p ∙ data_length env env' k es a ∙ data_sized env' k es (not_when _ _ (former _ _ (latter _ _ c)))
 means_sized env env' at (Text text) own a h c p = ap length p
 means_sized env env' at (Zeros e) own a h c p = ap length p ∙ repeat_length (natural_part (signed e))
 means_sized env env' at (Padding e) own a h c p = ap length p ∙ repeat_length (padding at (natural_part (signed e)))

@@ -18,7 +18,8 @@ use Rattle.trace_audit.specs.Texts.{lines_of}
 use Rattle.trace_audit.specs.Verdicts.{is_printable, read_lines}
 use Rattle.audit_laws.specs.Told.{told_by, IsLine}
 use Rattle.audit_laws.proofs.Fitting.{AreFitNotes}
-use Rattle.audit_laws.specs.Whole.{notes_text, notes_told, AreGoodSayings, AreLines, joined, IsLastLine, AreLastLines}
+use Rattle.audit_laws.specs.Whole.{notes_told, AreGoodSayings, AreLines, joined, IsLastLine, AreLastLines}
+use Rattle.trace_text.specs.Lines.{notes_text}
 use Rattle.trace_audit.proofs.Adding.{good_none, good_push}
 use Rattle.audit_laws.proofs.Spelled.{note_read}
 

@@ -17,7 +17,8 @@ use Rattle.audit_laws.proofs.Reading.{decimal_word, short, hex_word, hex_words}
 use Rattle.audit_laws.proofs.Last.{end_back, last_low_back, last_high_back, mem_back, row_back, task_back, wait_offered, wait_taken, of_wait_offered, of_wait_taken, of_faulted, of_timer}
 use Rattle.trace_text.specs.Fit.{IsFitTimer}
 use Rattle.audit_laws.specs.Told.{IsLine}
-use Rattle.audit_laws.specs.Ends.{IsHow, end_line, health_text, IsFitHealth, timer_text, IsWaitText, task_line, mem_line, row_line}
+use Rattle.audit_laws.specs.Ends.{IsHow, end_line, IsFitHealth, IsWaitText, mem_line, row_line}
+use Rattle.trace_text.specs.Lines.{health_text, timer_text, task_line}
 use Rattle.audit_laws.proofs.Hexes.{hex_fits, registers_spaced, spaced_joined}
 use Rattle.audit_laws.proofs.Spelled.{so_many, flags, flags_word}
 
@@ -76,6 +77,7 @@ task_spelled : (i generation : ℕ) (health w x timer : List ℕ) → codes "tas
 task_spelled i generation health w x timer = simp (append_assoc, append-nil)
 
 pub task_read : (i generation : ℕ) (health : Health) (text : List ℕ) (w : Wait) (posted : ℕ) (timer : Option Timer) → i < 2 ^ 32 → generation < 2 ^ 32 → IsFitHealth health → IsWaitText text w → IsFitTimer timer → IsLine (task_line i generation health text posted timer) (line.Waits i w)
+unfolding task_line
 task_read i generation health text w posted timer a b fit waits fits =
     let h = health_word health fit in
     let x = wait_word text w waits in

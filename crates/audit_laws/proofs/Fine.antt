@@ -10,7 +10,8 @@ use Rattle.trace_audit.specs.declared.reading.Line.{Line}
 use Rattle.trace_audit.specs.Texts.{lines_of}
 use Rattle.trace_audit.specs.Verdicts.{is_printable, cause_of, HasNoCause}
 use Rattle.audit_laws.specs.Told.{IsLine}
-use Rattle.audit_laws.specs.Whole.{notes_text, AreLines, AreShort, joined}
+use Rattle.audit_laws.specs.Whole.{AreLines, AreShort, joined}
+use Rattle.trace_text.specs.Lines.{notes_text}
 use Rattle.audit_laws.proofs.Fitting.{AreFitNotes}
 use Rattle.audit_laws.proofs.Spelled.{note_read}
 use Rattle.audit_laws.proofs.Assembled.{cut_line, cut_nothing}

@@ -25,7 +25,8 @@ use Rattle.trace_audit.specs.declared.reading.Wait.{Wait}
 use Rattle.trace_audit.specs.declared.reading.Wait.TheVariants as wait
 use Rattle.audit_laws.proofs.Last.{hex_length}
 use Rattle.trace_text.specs.Fit.{IsFitFrom, IsFitNote, IsFitTimer}
-use Rattle.audit_laws.specs.Ends.{IsHow, end_line, health_text, IsFitHealth, timer_text, IsWaitText, task_line}
+use Rattle.audit_laws.specs.Ends.{IsHow, end_line, IsFitHealth, IsWaitText}
+use Rattle.trace_text.specs.Lines.{health_text, timer_text, task_line}
 use Rattle.audit_laws.proofs.Hexes.{hex_fits, byte_fits}
 use Rattle.audit_laws.proofs.Spelled.{code_fits}
 
@@ -225,4 +226,5 @@ wait_length text (wait.Offered k) h = subst (λ x. length x ≤ 18) (sym h.0) (p
 wait_length text (wait.Taken k) h = let q : length (codes "taken:" ++ decimal k) ≤ 16 = plus (codes "taken:") (decimal k) 6 10 (lit (codes "taken:")) (ten k h.1) in subst (λ x. length x ≤ 18) (sym h.0) (omega arith)
 
 pub task_short : (i generation : ℕ) (health : Health) (text : List ℕ) (w : Wait) (posted : ℕ) (timer : Option Timer) → i < 2 ^ 32 → generation < 2 ^ 32 → IsFitHealth health → IsWaitText text w → IsFitTimer timer → length (task_line i generation health text posted timer) ≤ 160
+unfolding task_line
 task_short i generation health text w posted timer a b fit waits fits = under (task_line i generation health text posted timer) 104 (plus (codes "task " ++ decimal i ++ codes " " ++ decimal generation ++ codes " " ++ health_text health ++ codes " " ++ text ++ spaced_hex posted ++ codes " " ++ timer_text timer) (codes "\n") 103 1 (plus (codes "task " ++ decimal i ++ codes " " ++ decimal generation ++ codes " " ++ health_text health ++ codes " " ++ text ++ spaced_hex posted ++ codes " ") (timer_text timer) 74 29 (plus (codes "task " ++ decimal i ++ codes " " ++ decimal generation ++ codes " " ++ health_text health ++ codes " " ++ text ++ spaced_hex posted) (codes " ") 73 1 (plus (codes "task " ++ decimal i ++ codes " " ++ decimal generation ++ codes " " ++ health_text health ++ codes " " ++ text) (spaced_hex posted) 64 9 (plus (codes "task " ++ decimal i ++ codes " " ++ decimal generation ++ codes " " ++ health_text health ++ codes " ") (text) 46 18 (plus (codes "task " ++ decimal i ++ codes " " ++ decimal generation ++ codes " " ++ health_text health) (codes " ") 45 1 (plus (codes "task " ++ decimal i ++ codes " " ++ decimal generation ++ codes " ") (health_text health) 27 18 (plus (codes "task " ++ decimal i ++ codes " " ++ decimal generation) (codes " ") 26 1 (plus (codes "task " ++ decimal i ++ codes " ") (decimal generation) 16 10 (plus (codes "task " ++ decimal i) (codes " ") 15 1 (plus (codes "task ") (decimal i) 5 10 (lit (codes "task ")) (ten i a)) (lit (codes " "))) (ten generation b)) (lit (codes " "))) (health_length health fit)) (lit (codes " "))) (wait_length text w waits)) (nine posted)) (lit (codes " "))) (timer_length timer fits)) (lit (codes "\n"))) (omega arith)

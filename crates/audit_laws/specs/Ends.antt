@@ -1,9 +1,8 @@
 -- The lines after the notes, as board_run/specs/Text writes them.
-use Rattle.std.specs.Prelude.{ℕ, ◌<◌, ◌^◌, ◌≡◌, ◌⊎◌, List, ◌++◌, codes, decimal, Option, None, Some}
+use Rattle.std.specs.Prelude.{ℕ, ◌<◌, ◌^◌, ◌≡◌, ◌⊎◌, List, ◌++◌, codes, decimal}
 use Rattle.kernel_abi.specs.declared.Health.{Health}
 use Rattle.kernel_abi.specs.declared.Health.TheVariants.{Well, Stopped, Faulted}
-use Rattle.kernel_abi.specs.declared.Timer.{Timer}
-use Rattle.trace_text.specs.Text.{hex, spaced_hex}
+use Rattle.trace_text.specs.Text.{hex}
 use Rattle.trace_audit.specs.declared.reading.Wait.{Wait}
 use Rattle.trace_audit.specs.declared.reading.Wait.TheVariants as wait
 use Rattle.trace_text.specs.Fit.{IsFit, IsFitTimer}
@@ -16,30 +15,16 @@ IsHow how = (how ≡ codes "bound") ⊎ ((how ≡ codes "still") ⊎ (how ≡ co
 abbrev pub end_line : List ℕ → ℕ → ℕ → List ℕ
 end_line how turns now = codes "end " ++ how ++ codes " " ++ decimal turns ++ codes " " ++ decimal now ++ codes "\n"
 
-abbrev pub health_text : Health → List ℕ
-health_text Well = codes "well"
-health_text Stopped = codes "stopped"
-health_text (Faulted fault) = codes "faulted:" ++ decimal fault.number
-
 abbrev pub IsFitHealth : Health → Type 0
 IsFitHealth Well = Unit {0}
 IsFitHealth Stopped = Unit {0}
 IsFitHealth (Faulted fault) = IsFit fault.number
-
-abbrev pub timer_text : Option Timer → List ℕ
-timer_text None = codes "-"
-timer_text (Some timer) = decimal timer.deadline ++ codes ":" ++ hex timer.bits
 
 -- a text of what a task waits for, and what it is read as
 abbrev pub IsWaitText : List ℕ → Wait → Type 0
 IsWaitText text wait.Other = (text ≡ codes "-") ⊎ (text ≡ codes "listen")
 IsWaitText text (wait.Offered k) = (text ≡ codes "offered:" ++ decimal k) × IsFit k
 IsWaitText text (wait.Taken k) = (text ≡ codes "taken:" ++ decimal k) × IsFit k
-
--- `task <i> <generation> <health> <wait> <posted h> <timer>`
-abbrev pub task_line : ℕ → ℕ → Health → List ℕ → ℕ → Option Timer → List ℕ
-task_line i generation health wait posted timer =
-    codes "task " ++ decimal i ++ codes " " ++ decimal generation ++ codes " " ++ health_text health ++ codes " " ++ wait ++ spaced_hex posted ++ codes " " ++ timer_text timer ++ codes "\n"
 
 -- `mem <base h> <size>`
 abbrev pub mem_line : ℕ → ℕ → List ℕ

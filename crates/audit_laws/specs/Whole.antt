@@ -9,10 +9,6 @@ use Rattle.trace_audit.specs.declared.reading.Saying.{Saying}
 use Rattle.trace_audit.specs.Rules.{IsGoodSaying, IsGoodWait}
 use Rattle.audit_laws.specs.Told.{IsRight, told_by, IsLine}
 
--- notes, each with its turn
-abbrev pub notes_text : List (ℕ × Note) → List ℕ
-notes_text notes = flat_map (λ n. line_of n.0 n.1) notes
-
 abbrev pub notes_told : List (ℕ × Note) → List Saying
 notes_told notes = map (λ n. told_by n.1) notes
 

@@ -8,7 +8,8 @@ ghost use Rattle.trace_audit.specs.declared.reading.Wait.{Wait};
 ghost use Rattle.trace_audit.specs.Fields.{is_hex};
 ghost use Rattle.trace_text.specs.Fit.{IsFitTimer};
 ghost use Rattle.audit_laws.specs.Told.{IsLine};
-ghost use Rattle.audit_laws.specs.Ends.{IsHow, end_line, IsFitHealth, IsWaitText, task_line, mem_line, row_line};
+ghost use Rattle.audit_laws.specs.Ends.{IsHow, end_line, IsFitHealth, IsWaitText, mem_line, row_line};
+ghost use Rattle.trace_text.specs.Lines.{task_line};
 
 /// Each line after the notes with numbers in range is one line of printable bytes, and an audit reads it as what it is: the end of
 /// the turns, what a task waits for, or its registers, a region and bytes, which show something.

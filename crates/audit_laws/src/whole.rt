@@ -7,7 +7,8 @@ ghost use Rattle.trace_audit.specs.Rules.{IsGood};
 ghost use Rattle.trace_audit.specs.Texts.{lines_of};
 ghost use Rattle.trace_audit.specs.Verdicts.{HasNoCause, read_lines};
 ghost use Rattle.trace_text.specs.Fit.{AreFit};
-ghost use Rattle.audit_laws.specs.Whole.{notes_text, notes_told, joined, AreInOrder, AreRight, AreGoodSayings, AreLines, AreShort, AreLastLines};
+ghost use Rattle.audit_laws.specs.Whole.{notes_told, joined, AreInOrder, AreRight, AreGoodSayings, AreLines, AreShort, AreLastLines};
+ghost use Rattle.trace_text.specs.Lines.{notes_text};
 
 /// A text is good of notes that are in range and right, in turns that do not fall, which say what is good of calls; then a line of the end; then lines
 /// which show something, or tell what a task waits for as the notes say. No line of it has a cause, where none is too long.

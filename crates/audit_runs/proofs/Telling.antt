@@ -12,7 +12,7 @@ use Rattle.board_model.specs.declared.outcomes.End.{End}
 use Rattle.board_model.specs.declared.outcomes.End.TheVariants.{Bound, Still, Supervisor}
 use Rattle.board_model.specs.Run.{Run}
 use Rattle.board_model.specs.Lifetimes.{notes_in}
-use Rattle.board_run.specs.Text.{wait_text, low_text, high_text, task_lines, task_text, end_name, end_text, trace_text, task_line as told_line, end_line as told_end}
+use Rattle.board_run.specs.Text.{wait_text, low_text, high_text, task_lines, task_text, end_name, end_text, trace_text, end_line as told_end}
 use Rattle.trace_audit.specs.declared.reading.Line.{Line}
 use Rattle.trace_audit.specs.declared.reading.Line.TheVariants as line
 use Rattle.trace_audit.specs.declared.reading.Saying.{Saying}
@@ -20,8 +20,9 @@ use Rattle.trace_audit.specs.Rules.{IsGoodWait, IsGood}
 use Rattle.trace_audit.specs.Texts.{lines_of}
 use Rattle.trace_audit.specs.Verdicts.{HasNoCause, read_lines}
 use Rattle.audit_laws.specs.Told.{told_by}
-use Rattle.audit_laws.specs.Ends.{IsHow, IsWaitText, end_line, task_line}
-use Rattle.audit_laws.specs.Whole.{notes_text, notes_told, AreInOrder, AreRight, AreGoodSayings, AreLines, AreShort, joined, AreLastLines}
+use Rattle.audit_laws.specs.Ends.{IsHow, IsWaitText, end_line}
+use Rattle.trace_text.specs.Lines.{notes_text, task_line}
+use Rattle.audit_laws.specs.Whole.{notes_told, AreInOrder, AreRight, AreGoodSayings, AreLines, AreShort, joined, AreLastLines}
 use Rattle.audit_laws.proofs.Fitting.{fit_notes}
 use Rattle.audit_laws.proofs.Assembled.{text_good}
 use Rattle.audit_laws.proofs.Fine.{text_fine}
@@ -51,7 +52,7 @@ abbrev three_lines : State → ℕ → List ℕ
 three_lines s i = line_at s i (task_at s i) ++ low_of (task_at s i) ++ high_of (task_at s i)
 
 task_same : (s : State) (i : ℕ) → task_text s i ≡ three_lines s i
-unfolding task_text task_lines told_line
+unfolding task_text task_lines
 task_same s i = refl
 
 tasks_same : (s : State) (is : List ℕ) → flat_map (task_text s) is ≡ flat_map (three_lines s) is

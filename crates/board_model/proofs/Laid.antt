@@ -1,5 +1,6 @@
 -- Before an arrival comes, and once it is over, the same happens as without it, or at any other time.
 use Rattle.std.proofs.Common.{◌≡◌, ◌∙◌, ℕ, zero, suc, ◌+◌, ◌<◌, ◌≤◌, Bool, true, false, List, [], ◌∷◌, ◌++◌, refl, sym, ap, subst, arith}
+use Rattle.std.proofs.lemmas.Bool.{and_parts}
 use Rattle.std.specs.Prelude.{◌&&◌, ◌||◌, nat_le, nat_lt, filter, map, is_some}
 use Rattle.std.specs.List.{list_any, list_all}
 use Rattle.std.proofs.lemmas.Bool.Decides.{nat_tests}
@@ -19,14 +20,10 @@ none_before turn time (d ∷ ds) lt =
     let no : is_of turn (time + d.0, d.1) ≡ false = grind (arith, nat_tests) in
     rw no (none_before turn time ds lt)
 
-both : (a b : Bool) → (a && b) ≡ true → (a ≡ true) × (b ≡ true)
-both true b e = (refl, e)
-both false b e = absurd (cc)
-
 none_after : (turn time : ℕ) (events : List Listed) → list_all (λ (d : Listed). nat_lt d.0 time) events ≡ true → time ≤ turn → filter (is_of turn) events ≡ []
 none_after turn time [] over le = refl
 none_after turn time (d ∷ ds) over le =
-    let p = both (nat_lt d.0 time) (list_all (λ (d : Listed). nat_lt d.0 time) ds) over in
+    let p = and_parts (nat_lt d.0 time) (list_all (λ (d : Listed). nat_lt d.0 time) ds) over in
     let here = p.0 in
     let no : is_of turn d ≡ false = grind (arith, nat_tests) in
     rw no (none_after turn time ds p.1 le)
@@ -68,7 +65,7 @@ lasts_before script arrival time later turn le more =
 none_lasts : (turn time : ℕ) (events : List Listed) → list_all (λ (d : Listed). nat_lt d.0 time) events ≡ true → time ≤ turn → list_any (from_turn turn) events ≡ false
 none_lasts turn time [] over le = refl
 none_lasts turn time (d ∷ ds) over le =
-    let p = both (nat_lt d.0 time) (list_all (λ (d : Listed). nat_lt d.0 time) ds) over in
+    let p = and_parts (nat_lt d.0 time) (list_all (λ (d : Listed). nat_lt d.0 time) ds) over in
     let here = p.0 in
     let no : from_turn turn d ≡ false = grind (arith, nat_tests) in
     rw no (none_lasts turn time ds p.1 le)

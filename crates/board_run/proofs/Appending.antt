@@ -7,7 +7,7 @@ use Rattle.std.specs.List.{flat_map, range_with_len}
 use Rattle.kernel_abi.specs.declared.Note.{Note}
 use Rattle.board_model.specs.Run.{at_turn}
 use Rattle.trace_text.specs.Text.{line_of}
-use Rattle.board_run.specs.Text.{notes_text}
+use Rattle.trace_text.specs.Lines.{notes_text}
 use Rattle.std.proofs.Common.{arith, get_or, suc, zero, add-one}
 use Rattle.outside_io.specs.Outside.{AppendsFront, Pushes}
 use Rattle.outside_io.proofs.Pushing.{appends_more, front_more, front_wider}

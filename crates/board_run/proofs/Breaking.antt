@@ -18,7 +18,8 @@ use Rattle.board_model.specs.Turn.{turn}
 use Rattle.board_core.specs.Stands.{Stands, turns_of}
 use Rattle.board_model.specs.Run.{turn_after, Run, run, ending, is_down, is_still, unless, ended_at, with_front, at_turn}
 use Rattle.outside_io.specs.Outside.{AppendsFront, Pushes}
-use Rattle.board_run.specs.Text.{notes_text, end_text, trace_text}
+use Rattle.board_run.specs.Text.{end_text, trace_text}
+use Rattle.trace_text.specs.Lines.{notes_text}
 use Rattle.board_run.specs.Midway.{Midway}
 use Rattle.board_run.specs.Running.{BreaksOff, turn_lines}
 use Rattle.board_run.specs.Telling.{BreaksTelling, notes_in}

@@ -9,7 +9,7 @@ use Rattle.trace_text.specs.Text.{line_of}
 use Rattle.board_model.specs.Run.{at_turn}
 use Rattle.outside_io.specs.Outside.{AppendsFront, HasCause}
 use Rattle.board_run.specs.Telling.{BreaksText, HearsText}
-use Rattle.board_run.specs.Text.{notes_text}
+use Rattle.trace_text.specs.Lines.{notes_text}
 use Rattle.outside_io.proofs.Pushing.{appends_more, appends_none, front_more}
 
 pub fit_joined : (a b : List (ℕ × Note)) → AreFit a → AreFit b → AreFit (a ++ b)

@@ -10,7 +10,8 @@ use Rattle.board_model.specs.Run.{Run}
 use Rattle.board_model.specs.Alike.{seen, seen_task, seen_call, seen_listen, reduced}
 use Rattle.board_model.proofs.Alike.{shown, task_alike, call_alike, listen_alike, count_alike, turn_alike, now_alike}
 use Rattle.board_model.proofs.GenerationsSeen.{shown_reduced}
-use Rattle.board_run.specs.Text.{task_line, low_text, high_text, task_lines, wait_text, task_text, end_line, end_text, notes_text, trace_text}
+use Rattle.board_run.specs.Text.{low_text, high_text, task_lines, wait_text, task_text, end_line, end_text, trace_text}
+use Rattle.trace_text.specs.Lines.{task_line, notes_text}
 use Rattle.board_run.specs.MemoryText.{memory_text}
 
 abbrev births : ℕ → ℕ

@@ -38,7 +38,7 @@ unfolding run
 run_goes level x left s is = ap (λ (o : Option End). unless s o (with_front (at_turn s.turn (turn level x s).notes) (run level x left (turn level x s).state))) is
 
 -- with no turn left it ends here
-kept_last : (s : State) (o : Option End) → (unless s o (ended_at s Bound)).last ≡ s
+pub kept_last : (s : State) (o : Option End) → (unless s o (ended_at s Bound)).last ≡ s
 kept_last s None = refl
 kept_last s (Some e) = refl
 

@@ -13,7 +13,8 @@ use Rattle.task_table.specs.Holds.{wait_of}
 use Rattle.task_table.specs.Reading.{task_at, call_of, listen_of}
 use Rattle.board_core.specs.declared.views.TaskView.{TaskView}
 use Rattle.board_core.specs.Views.{IsTask}
-use Rattle.board_run.specs.Text.{task_line, low_text, high_text, task_lines, task_text, tasks_text, wait_text}
+use Rattle.board_run.specs.Text.{low_text, high_text, task_lines, task_text, tasks_text, wait_text}
+use Rattle.trace_text.specs.Lines.{task_line}
 use Rattle.trace_text.specs.Fit.{IsFitTimer}
 use Rattle.board_run.specs.Timers.{AreFitTimers}
 use Rattle.board_run.specs.ViewText.{view_text, wait_words, timer_of}

@@ -11,7 +11,8 @@ use Rattle.board_model.specs.declared.outcomes.Level.{Level}
 use Rattle.board_model.specs.Script.{Scenario}
 use Rattle.board_core.specs.Stands.{Stands, turns_of}
 use Rattle.board_model.specs.Run.{run}
-use Rattle.board_run.specs.Text.{notes_text, end_text}
+use Rattle.board_run.specs.Text.{end_text}
+use Rattle.trace_text.specs.Lines.{notes_text}
 
 -- with so many turns left, where without a bound it would end so
 abbrev pub end_within : Option End → ℕ → Option End

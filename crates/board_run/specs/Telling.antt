@@ -10,7 +10,7 @@ use Rattle.board_core.specs.Stands.{turns_of}
 use Rattle.board_model.specs.declared.outcomes.Level.{Level}
 use Rattle.board_model.specs.Script.{Scenario}
 use Rattle.board_model.specs.Run.{run}
-use Rattle.board_run.specs.Text.{notes_text}
+use Rattle.trace_text.specs.Lines.{notes_text}
 
 -- the notes of the first n turns
 abbrev pub notes_in : Level → Scenario → ℕ → State → List (ℕ × Note)

@@ -1,33 +1,19 @@
 -- The lines of a trace, byte by byte (docs/FORMATS.md, Trace).
 use Rattle.std.specs.Prelude.{ℕ, ◌%◌, List, ◌++◌, length, take, drop, codes, decimal, Option, Some, None}
 use Rattle.std.specs.List.{flat_map, range_with_len}
-use Rattle.kernel_abi.specs.declared.Health.{Health}
-use Rattle.kernel_abi.specs.declared.Health.TheVariants.{Well, Stopped, Faulted}
-use Rattle.kernel_abi.specs.declared.Timer.{Timer}
-use Rattle.kernel_abi.specs.declared.Note.{Note}
 use Rattle.words_core.specs.declared.Flags.{Flags}
 use Rattle.task_table.specs.State as kernel
 use Rattle.task_table.specs.State.{Task, State, Listen}
 use Rattle.task_table.specs.declared.slot.Phase.{Phase}
 use Rattle.task_table.specs.declared.slot.Phase.TheVariants.{Offered, Taken}
 use Rattle.task_table.specs.Reading.{task_at, call_of, listen_of}
-use Rattle.trace_text.specs.Text.{hex, spaced_hex, low_words, high_words, line_of}
+use Rattle.trace_text.specs.Text.{low_words, high_words}
+use Rattle.trace_text.specs.Lines.{notes_text, task_line}
 use Rattle.board_model.specs.declared.outcomes.End.{End}
 use Rattle.board_model.specs.declared.outcomes.End.TheVariants.{Bound, Still, Supervisor}
 use Rattle.board_model.specs.Run.{Run}
 
--- ## notes
-
--- the lines of notes, each with its turn
-abbrev pub notes_text : List (ℕ × Note) → List ℕ
-notes_text notes = flat_map (λ n. line_of n.0 n.1) notes
-
 -- ## a task, in three lines
-
-abbrev pub health_text : Health → List ℕ
-health_text Well = codes "well"
-health_text Stopped = codes "stopped"
-health_text (Faulted fault) = codes "faulted:" ++ decimal fault.number
 
 abbrev pub call_text : Phase → ℕ → List ℕ
 call_text Offered number = codes "offered:" ++ decimal number
@@ -38,15 +24,6 @@ abbrev pub wait_text : Option kernel.Call → Option Listen → List ℕ
 wait_text (Some call) listen = call_text call.phase call.number
 wait_text None (Some listen) = codes "listen"
 wait_text None None = codes "-"
-
-abbrev pub timer_text : Option Timer → List ℕ
-timer_text None = codes "-"
-timer_text (Some timer) = decimal timer.deadline ++ codes ":" ++ hex timer.bits
-
--- `task <i> <generation> <health> <wait> <posted h> <timer>`
-unfoldable pub task_line : ℕ → ℕ → Health → List ℕ → ℕ → Option Timer → List ℕ
-task_line i generation health wait posted timer =
-    codes "task " ++ decimal i ++ codes " " ++ decimal generation ++ codes " " ++ health_text health ++ codes " " ++ wait ++ spaced_hex posted ++ codes " " ++ timer_text timer ++ codes "\n"
 
 -- its registers and flags
 abbrev pub low_text : List ℕ → List ℕ

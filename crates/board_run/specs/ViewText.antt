@@ -5,7 +5,8 @@ use Rattle.kernel_abi.specs.declared.Timer.{Timer}
 use Rattle.task_table.specs.declared.slot.Wait.{Wait}
 use Rattle.task_table.specs.declared.slot.Wait.TheVariants as wait
 use Rattle.board_core.specs.declared.views.TaskView.{TaskView}
-use Rattle.board_run.specs.Text.{call_text, task_line, low_text, high_text}
+use Rattle.board_run.specs.Text.{call_text, low_text, high_text}
+use Rattle.trace_text.specs.Lines.{task_line}
 
 -- what it waits for
 abbrev pub wait_words : Wait → List ℕ

@@ -3,7 +3,8 @@
 ghost use Rattle.std.specs.Prelude.{◌≡◌, ◌≤◌, ◌+◌, length, ◌++◌, []};
 ghost use Rattle.arrayvec.specs.ArrayString.{array_string_len};
 ghost use Rattle.trace_text.specs.Fit.{IsFitTimer};
-ghost use Rattle.board_run.specs.Text.{health_text, timer_text, task_line, low_text, high_text, end_name, end_line};
+ghost use Rattle.board_run.specs.Text.{low_text, high_text, end_name, end_line};
+ghost use Rattle.trace_text.specs.Lines.{health_text, timer_text, task_line};
 ghost use Rattle.board_run.specs.ViewText.{wait_words, timer_of};
 ghost use Rattle.board_run.specs.MemoryText.{byte_hex, region_line};
 
@@ -95,7 +96,7 @@ fn push_timer(out: &mut ArrayString<160>, timer: Option<(u64, u32)>)
 }
 
 /// The line of a task.
-#[tactic(auto, unfolding(crate::specs::Text::task_line))]
+#[tactic(auto, unfolding(trace_text::specs::Lines::task_line))]
 pub fn task_line(
     i: u64,
     generation: u8,

@@ -4,7 +4,8 @@ ghost use Rattle.outside_io.specs.Outside.{Pushes, HasCause};
 ghost use Rattle.board_model.specs.Run.{at_turn};
 ghost use Rattle.trace_text.specs.Text.{line_of};
 ghost use Rattle.trace_text.specs.Fit.{IsFit, IsFitNote, IsFitTimer, AreFit};
-ghost use Rattle.board_run.specs.Text.{notes_text, task_line, low_text, high_text, end_line};
+ghost use Rattle.board_run.specs.Text.{low_text, high_text, end_line};
+ghost use Rattle.trace_text.specs.Lines.{notes_text, task_line};
 ghost use Rattle.board_run.specs.ViewText.{view_text, wait_words, timer_of};
 
 use crate::line::{

@@ -20,7 +20,7 @@ use Rattle.debug_core.proofs.Standing.{follows_after}
 
 -- ---- what a turn ran
 
-one_same : {A : Type 0} (a b : A) → ◌≡◌ {A = Option A} (Some a) (Some b) → a ≡ b
+pub one_same : {A : Type 0} (a b : A) → ◌≡◌ {A = Option A} (Some a) (Some b) → a ≡ b
 one_same a b e = cc
 
 abbrev Hit : Type 0

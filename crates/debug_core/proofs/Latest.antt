@@ -17,9 +17,6 @@ pub record IsLatest (cs : List Checkpoint) (to k : ℕ) (best : ℕ × ℕ) : Ty
   pub early : best.1 ≤ to
   pub last : (j turn : ℕ) → j < k → HoldsAt (λ c. c.turn ≡ Some turn) cs j → turn ≤ to → turn ≤ best.1
 
-pub latest_first : (cs : List Checkpoint) (to : ℕ) → 0 < length cs → HoldsAt (λ c. c.turn ≡ Some 0) cs 0 → IsLatest cs to 0 (0, 0)
-latest_first cs to some is = record { inside = some; is = is; early = omega arith; last = λ j turn lt at le. absurd (omega (arith, lt)) }
-
 -- with one more
 module _ (cs : List Checkpoint) (to k : ℕ) (c : Checkpoint) (here : c ≡ get_or cs k c) (lt : k < length cs) where
   at_here : (o : Option ℕ) → c.turn ≡ o → (j turn : ℕ) → j < k + 1 → HoldsAt (λ c. c.turn ≡ Some turn) cs j → (j < k) ⊎ (o ≡ Some turn)

@@ -6,18 +6,15 @@ use Rattle.std.proofs.Math.Nat.{mod-mod}
 use Rattle.std.proofs.lemmas.Bool.{lt-ltb, le-ltb}
 use Rattle.std.proofs.lemmas.List.{take_all}
 use Rattle.std.proofs.lemmas.Option.{slice_get-get_or, slice_get_within}
-use Rattle.kernel_abi.specs.Devices.{AreSaneDevices, DeviceData, IsSettable}
-use Rattle.kernel_abi.specs.declared.Kind.{Kind}
-use Rattle.kernel_abi.specs.declared.Kind.TheVariants.{Console, Port}
+use Rattle.kernel_abi.specs.Devices.{AreSaneDevices, DeviceData}
 use Rattle.kernel_abi.specs.declared.TaskId.{TaskId}
 use Rattle.task_table.specs.declared.Line.{Line}
-use Rattle.task_table.specs.declared.slot.FromId.{FromId}
 use Rattle.task_table.specs.declared.slot.FromId.TheVariants as from_id
 use Rattle.task_table.specs.declared.slot.Wait.TheVariants as wait
-use Rattle.task_table.specs.Holds.{from_id_of, id_at, kept_call, wait_of}
-use Rattle.task_table.specs.State.{Any, Birth, Call, From, KernelOnly, LineSetup, Listen, One, Setup, State, Task}
+use Rattle.task_table.specs.Holds.{id_at, wait_of}
+use Rattle.task_table.specs.State.{Birth, LineSetup, Setup, State, Task}
 use Rattle.task_table.specs.Reading.{call_of, line_at, listen_of, no_line as no_line_there, task_at}
-use Rattle.board_model.specs.Alike.{but_memory, reduced, seen, seen_birth, seen_call, seen_from, seen_listen}
+use Rattle.board_model.specs.Alike.{but_memory, reduced, seen, seen_birth}
 use Rattle.board_model.proofs.Alike.{call_alike, count_alike, line_alike, listen_alike, shown, task_alike}
 use Rattle.board_model.specs.Script.{Scenario}
 use Rattle.board_core.specs.declared.board.Board.{Board}
@@ -31,6 +28,9 @@ use Rattle.board_core.proofs.Loading.{rest_held}
 use Rattle.debug_core.specs.declared.answer.Answer.TheVariants as answered
 use Rattle.debug_core.specs.declared.answer.Answer.TheVariants.{Absent, Registers}
 use Rattle.debug_core.specs.Answers.{device_by, device_of, irq_by, irq_of, owner_of, registers_of, task_of, task_view}
+use Rattle.board_core.proofs.Queues.{few_wait}
+use Rattle.snapshot.proofs.SpelledAlike.{from_seen, call_seen, wait_seen}
+use Rattle.debug_core.proofs.Hitting.{one_same}
 
 abbrev births : ℕ → ℕ
 births b = b % 64
@@ -63,31 +63,6 @@ named index birth = record { number = index + 1024 * birth }
 
 same_id : (b : Birth) → id_at (seen_birth births b) ≡ id_at b
 same_id b = ap (named b.index) (mod-mod b.birth 64)
-
-same_from : (f : From) → from_id_of (seen_from births f) ≡ from_id_of f
-same_from Any = refl
-same_from (One b) = ap (λ id. from_id.One id) (same_id b)
-same_from KernelOnly = refl
-
-same_call : (c : Call) → kept_call (seen_call births c) ≡ kept_call c
-same_call c =
-    λ j.
-    record {
-      number = c.number;
-      client = same_id c.client j;
-      server = same_id c.server j;
-      operation = c.operation;
-      message = c.message;
-      reply = c.reply;
-      table = c.table;
-      leases = c.leases;
-      phase = c.phase;
-    }
-
-wait_seen : (c : Option Call) (l : Option Listen) → wait_of (option_map (seen_call births) c) (option_map (seen_listen births) l) ≡ wait_of c l
-wait_seen (Some c) l = ap (λ k. wait.Call k) (same_call c)
-wait_seen None (Some l) = ap (λ (f : FromId). wait.Listen (record { from = f; mask = l.mask; buffer = l.buffer })) (same_from l.from)
-wait_seen None None = refl
 
 same_wait : (u s : State) (i : ℕ) → shown births u ≡ shown births s → wait_of (call_of u i) (listen_of u i) ≡ wait_of (call_of s i) (listen_of s i)
 same_wait u s i h =
@@ -130,18 +105,12 @@ told_owner l = (l.owner, l.bits)
 abbrev pub told_line : Line → Bool × Bool
 told_line l = (l.enabled, l.pending)
 
-one_same : {A : Type 0} (a b : A) → ◌≡◌ {A = Option A} (Some a) (Some b) → a ≡ b
-one_same a b e = cc
-
 no_pair : {A : Type 0} (a : A) → ◌≡◌ {A = Option A} None (Some a) → ⊥
 no_pair a e = cc
 
 unowned : (s : State) (number : ℕ) (o : Option LineSetup) → None ≡ option_map told_owner o → Absent ≡ irq_by s number o
 unowned s number None e = refl
 unowned s number (Some l) e = absurd (no_pair (told_owner l) e)
-
-pub no_owner : (g : Setup) (s : State) (number : ℕ) (lines : List LineSetup) → lines ≡ g.lines → None ≡ option_map told_owner (find (λ (l : LineSetup). eqb l.line number) lines) → Absent ≡ irq_of g s number
-no_owner g s number lines same e = unowned s number (owner_of g number) (e ∙ ap (λ (ls : List LineSetup). option_map told_owner (find (λ (l : LineSetup). eqb l.line number) ls)) same)
 
 all_lines : {X : Type 0} {H : X → Type 0} (shown : Shows X H) (x : Scenario) (b : Board X H) (s : State) → Stands shown x b s → length s.lines ≡ 64
 all_lines shown x b s st =
@@ -189,16 +158,12 @@ irq_same g u s number e = by (owner_of g number)
 pub no_device : (s : State) (k : ℕ) → ◌≡◌ {A = Option DeviceData} None (slice_get s.devices k) → Absent ≡ device_of s k
 no_device s k e = ap (device_by k) e
 
-few_by_kind : (kind : Kind) (count : ℕ) (queue : List ℕ) → IsSettable kind count queue → length queue ≤ 64
-few_by_kind Console count queue h = let none : length queue ≡ 0 = ap (λ (bytes : List ℕ). length bytes) h in omega arith
-few_by_kind Port count queue h = h.1
-
 -- at most 64 bytes wait in it
 few_waiting : (ds : List DeviceData) (k : ℕ) (d : DeviceData) → AreSaneDevices ds → Some d ≡ slice_get ds k → length d.queue ≤ 64
 few_waiting ds k d sane e =
     let lt = slice_get_within ds k d (sym e) in
     let is = one_same (get_or ds k d) d (sym (slice_get-get_or ds k d lt) ∙ sym e) in
-    few_by_kind d.kind d.count d.queue (sane.sane d (k, lt, is)).settable
+    few_wait d.kind d.count d.queue (sane.sane d (k, lt, is)).settable
 
 pub its_device : (s : State) (k : ℕ) (v : DeviceView) → AreSaneDevices s.devices → Some (device_told v) ≡ slice_get s.devices k → answered.Device k v.kind v.base v.count v.queue ≡ device_of s k
 its_device s k v sane e =

@@ -11,7 +11,8 @@ use Rattle.task_table.specs.Reading.{call_of, line_at, listen_of, task_at}
 use Rattle.task_table.specs.Holds.{wait_of}
 use Rattle.trace_text.specs.Text.{bit, byte_hex, hex, line_of, spaced_hex}
 use Rattle.board_run.specs.MemoryText.{byte_of}
-use Rattle.board_run.specs.Text.{end_name, high_text, low_text, notes_text, task_line}
+use Rattle.board_run.specs.Text.{end_name, high_text, low_text}
+use Rattle.trace_text.specs.Lines.{notes_text, task_line}
 use Rattle.board_run.specs.ViewText.{timer_of, wait_words}
 use Rattle.board_model.specs.declared.outcomes.End.{End}
 use Rattle.board_model.specs.declared.outcomes.Level.TheVariants.{All}

@@ -210,7 +210,7 @@ begins bytes h e = by_form (form_at bytes) refl (taken (nat_lt (length bytes) 20
     by_form None is ok = cc
 
 -- so many records are there
-tasks_count : (n : ℕ) (bytes : List ℕ) → length (tasks_at n bytes) ≡ n
+pub tasks_count : (n : ℕ) (bytes : List ℕ) → length (tasks_at n bytes) ≡ n
 tasks_count zero bytes = refl
 tasks_count (suc n) bytes = omega (arith, tasks_count n (drop 12 bytes))
 

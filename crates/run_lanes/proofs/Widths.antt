@@ -1,7 +1,7 @@
 -- How many turns a column has, as turns come.
 use Rattle.std.proofs.Common.{◌≡◌, ◌<◌, ◌≤◌, ◌⊎◌, ℕ, zero, suc, ◌+◌, ◌*◌, Bool, true, false, refl, sym, ap, ◌∙◌, if◌then◌else◌, inl, inr, arith}
+use Rattle.std.proofs.lemmas.Bool.{lt-leb, le-leb, leb-true, leb-false}
 use Rattle.std.specs.Prelude.{nat_le}
-use Rattle.std.proofs.lemmas.Bool.Decides.{nat_tests}
 use Rattle.run_lanes.specs.Columns.{doubled_until, most_columns}
 
 -- p twice as often as there are steps
@@ -9,24 +9,12 @@ abbrev pub reach : ℕ → ℕ → ℕ
 reach zero p = p
 reach (suc more) p = reach more (2 * p)
 
-not_enough : (n m : ℕ) → m < n → nat_le n m ≡ false
-not_enough n m h = grind (arith, nat_tests)
-
-is_enough : (n m : ℕ) → n ≤ m → nat_le n m ≡ true
-is_enough n m h = grind (arith, nat_tests)
-
-were_enough : (n m : ℕ) → nat_le n m ≡ true → n ≤ m
-were_enough n m h = grind (arith, nat_tests)
-
-were_not : (n m : ℕ) → nat_le n m ≡ false → m < n
-were_not n m h = grind (arith, nat_tests)
-
 -- a turn more for which there is room
 stays_by : (more p n : ℕ) (b : Bool) → nat_le n (most_columns * p) ≡ b → (n + 1 ≤ most_columns * doubled_until more (2 * p) n → doubled_until more (2 * p) (n + 1) ≡ doubled_until more (2 * p) n) →
     n + 1 ≤ most_columns * (if b then p else doubled_until more (2 * p) n) → (if nat_le (n + 1) (most_columns * p) then p else doubled_until more (2 * p) (n + 1)) ≡ (if b then p else doubled_until more (2 * p) n)
-stays_by more p n true is rest room = ap (λ (b : Bool). if b then p else doubled_until more (2 * p) (n + 1)) (is_enough (n + 1) (most_columns * p) room)
+stays_by more p n true is rest room = ap (λ (b : Bool). if b then p else doubled_until more (2 * p) (n + 1)) (le-leb (n + 1) (most_columns * p) room)
 stays_by more p n false is rest room =
-    ap (λ (b : Bool). if b then p else doubled_until more (2 * p) (n + 1)) (not_enough (n + 1) (most_columns * p) (omega (arith, were_not n (most_columns * p) is))) ∙ rest room
+    ap (λ (b : Bool). if b then p else doubled_until more (2 * p) (n + 1)) (lt-leb (n + 1) (most_columns * p) (omega (arith, leb-false n (most_columns * p) is))) ∙ rest room
 
 pub width_stays : (more p n : ℕ) → n + 1 ≤ most_columns * doubled_until more p n → doubled_until more p (n + 1) ≡ doubled_until more p n
 unfolding doubled_until
@@ -37,14 +25,14 @@ width_stays (suc more) p n room = stays_by more p n (nat_le n (most_columns * p)
 width_first : (more p n : ℕ) → n ≤ most_columns * p → doubled_until more p n ≡ p
 unfolding doubled_until
 width_first zero p n room = refl
-width_first (suc more) p n room = ap (λ (b : Bool). if b then p else doubled_until more (2 * p) n) (is_enough n (most_columns * p) room)
+width_first (suc more) p n room = ap (λ (b : Bool). if b then p else doubled_until more (2 * p) n) (le-leb n (most_columns * p) room)
 
 doubles_by : (more p n : ℕ) (b : Bool) → nat_le n (most_columns * p) ≡ b → 0 < p → (n ≡ most_columns * doubled_until more (2 * p) n → doubled_until more (2 * p) (n + 1) ≡ 2 * doubled_until more (2 * p) n) →
     n ≡ most_columns * (if b then p else doubled_until more (2 * p) n) → (if nat_le (n + 1) (most_columns * p) then p else doubled_until more (2 * p) (n + 1)) ≡ 2 * (if b then p else doubled_until more (2 * p) n)
 doubles_by more p n true is some rest full =
-    ap (λ (b : Bool). if b then p else doubled_until more (2 * p) (n + 1)) (not_enough (n + 1) (most_columns * p) (omega arith)) ∙ width_first more (2 * p) (n + 1) (omega arith)
+    ap (λ (b : Bool). if b then p else doubled_until more (2 * p) (n + 1)) (lt-leb (n + 1) (most_columns * p) (omega arith)) ∙ width_first more (2 * p) (n + 1) (omega arith)
 doubles_by more p n false is some rest full =
-    ap (λ (b : Bool). if b then p else doubled_until more (2 * p) (n + 1)) (not_enough (n + 1) (most_columns * p) (omega (arith, were_not n (most_columns * p) is))) ∙ rest full
+    ap (λ (b : Bool). if b then p else doubled_until more (2 * p) (n + 1)) (lt-leb (n + 1) (most_columns * p) (omega (arith, leb-false n (most_columns * p) is))) ∙ rest full
 
 pub width_doubles : (more p n : ℕ) → 0 < p → n < most_columns * reach more p → n ≡ most_columns * doubled_until more p n → doubled_until more p (n + 1) ≡ 2 * doubled_until more p n
 unfolding doubled_until
@@ -62,7 +50,7 @@ width_some zero p n some = some
 width_some (suc more) p n some = some_by p (doubled_until more (2 * p) n) (nat_le n (most_columns * p)) some (width_some more (2 * p) n (omega arith))
 
 enough_by : (p m n : ℕ) (b : Bool) → nat_le n (most_columns * p) ≡ b → n ≤ most_columns * m → n ≤ most_columns * (if b then p else m)
-enough_by p m n true is h = were_enough n (most_columns * p) is
+enough_by p m n true is h = leb-true n (most_columns * p) is
 enough_by p m n false is h = h
 
 pub width_enough : (more p n : ℕ) → n ≤ most_columns * reach more p → n ≤ most_columns * doubled_until more p n
@@ -79,7 +67,7 @@ least_next p w n over (inr h) = inr h
 
 least_by : (p m n : ℕ) (b : Bool) → nat_le n (most_columns * p) ≡ b → Least (2 * p) m n → Least p (if b then p else m) n
 least_by p m n true is h = inl refl
-least_by p m n false is h = least_next p m n (were_not n (most_columns * p) is) h
+least_by p m n false is h = least_next p m n (leb-false n (most_columns * p) is) h
 
 pub width_least : (more p n : ℕ) → (doubled_until more p n ≡ p) ⊎ ((half : ℕ) × (doubled_until more p n ≡ 2 * half) × (most_columns * half < n))
 unfolding doubled_until

@@ -114,11 +114,11 @@ behind a turn e = grind (arith, nat_tests)
 few_of : (n : ℕ) → nat_le 8 n ≡ false → n < 8
 few_of n e = grind (arith, nat_tests)
 
-more_of : (b : Bool) (n : ℕ) → (b ≡ true → n < 8) → n ≤ 8 → n + (if b then 1 else 0) ≤ 8
+pub more_of : (b : Bool) (n : ℕ) → (b ≡ true → n < 8) → n ≤ 8 → n + (if b then 1 else 0) ≤ 8
 more_of true n h k = let few : n < 8 = h refl in omega arith
 more_of false n h k = omega arith
 
-is_turn : (turn u : ℕ) → (turn == u) ≡ true → turn ≡ u
+pub is_turn : (turn u : ℕ) → (turn == u) ≡ true → turn ≡ u
 is_turn turn u e = grind (arith, nat_tests)
 
 pub facts_more : (script : ScriptData) (next : List Listed) (turn at : ℕ) (event : Event) → Facts script → HasLine event → HasDevice event → turn < 1000000000 → length script.events < 65536 →

@@ -120,10 +120,6 @@ no_listed_is events xs from first same s past = λ turn a b. none_of events turn
 nothing : (es fs : List Event) → es ≡ [] → fs ≡ [] → es ++ fs ≡ []
 nothing es fs e f = rw (e, f) refl
 
-first_some : (es fs : List Event) → es ≢ [] → es ++ fs ≢ []
-first_some [] fs h e = h refl
-first_some (x ∷ xs) fs h e = cc
-
 second_some : (es fs : List Event) → fs ≢ [] → es ++ fs ≢ []
 second_some [] fs h e = h e
 second_some (x ∷ xs) fs h e = cc

@@ -15,6 +15,7 @@ use Rattle.run_script.specs.Statements.{at_said, every_said, irq_said, feed_said
 use Rattle.run_script.specs.Scripts.{Listed, ScriptData, Refusal, go_on, has_later, is_full, is_of, no_script, with_lines, with_statement}
 use Rattle.run_script.proofs.Numbers.{number_within_bounds}
 use Rattle.run_script.proofs.Walk.{no_line, one_line}
+use Rattle.run_script.proofs.Adding.{is_turn}
 
 -- ---- of a statement
 
@@ -115,9 +116,6 @@ one_more : (b : Bool) (n : ℕ) → (b ≡ true → n < 8) → n ≤ 8 → n + (
 one_more true n h k = let few : n < 8 = h refl in omega arith
 one_more false n h k = omega arith
 
-same_turn : (turn u : ℕ) → (turn == u) ≡ true → turn ≡ u
-same_turn turn u h = grind arith
-
 kept_period : (d : ScriptData) (period : ℕ) → IsPeriod period → Facts d → Facts (record { every = Some period; events = d.events })
 kept_period d period known f = record {
   every = λ q e. let same : period ≡ q = (cc) in subst IsPeriod same known;
@@ -135,7 +133,7 @@ kept_event d turn event known h k f =
       most = omega (arith, free.0, length-append d.events ((turn, event) ∷ []));
       ascending = IsNonDecreasingBy-push (λ (l : Listed). l.0) d.events (turn, event) f.ascending (λ x lt. none_later d.events turn h _ x (omega arith));
       most_each = λ u. subst (λ n. n ≤ 8) (sym (sum_by-append (λ (l : Listed). if is_of u l then 1 else 0) d.events ((turn, event) ∷ [])))
-          (one_more (turn == u) (count_by (is_of u) d.events) (λ e. subst (λ v. count_by (is_of v) d.events < 8) (same_turn turn u e) free.1) (f.most_each u));
+          (one_more (turn == u) (count_by (is_of u) d.events) (λ e. subst (λ v. count_by (is_of v) d.events < 8) (is_turn turn u e) free.1) (f.most_each u));
       listed = All-push IsListed d.events (turn, event) f.listed known;
     }
 

@@ -116,15 +116,15 @@ abbrev births : ℕ → ℕ
 births b = b % 64
 
 -- an id tells the generation of a birth alone
-same_id : (i b : ℕ) → id_of i (b % 64) ≡ id_of i b
+pub same_id : (i b : ℕ) → id_of i (b % 64) ≡ id_of i b
 same_id i b = ap (λ n. i + 1024 * n) (mod-mod b 64)
 
-from_seen : (f : From) → from_id_of (seen_from births f) ≡ from_id_of f
+pub from_seen : (f : From) → from_id_of (seen_from births f) ≡ from_id_of f
 from_seen Any = refl
 from_seen (One b) = ap (λ n. from_id.One record { number = n }) (same_id b.index b.birth)
 from_seen KernelOnly = refl
 
-call_seen : (c : Call) → kept_call (seen_call births c) ≡ kept_call c
+pub call_seen : (c : Call) → kept_call (seen_call births c) ≡ kept_call c
 call_seen c = λ i. record {
   number = c.number;
   client = record { number = same_id c.client.index c.client.birth i };
@@ -140,7 +140,7 @@ call_seen c = λ i. record {
 listen_seen : (l : Listen) → kept_listen (seen_listen births l) ≡ kept_listen l
 listen_seen l = λ i. record { from = from_seen l.from i; mask = l.mask; buffer = l.buffer }
 
-wait_seen : (c : Option Call) (l : Option Listen) → wait_of (option_map (seen_call births) c) (option_map (seen_listen births) l) ≡ wait_of c l
+pub wait_seen : (c : Option Call) (l : Option Listen) → wait_of (option_map (seen_call births) c) (option_map (seen_listen births) l) ≡ wait_of c l
 wait_seen (Some c) l = ap wait.Call (call_seen c)
 wait_seen None (Some l) = ap wait.Listen (listen_seen l)
 wait_seen None None = refl

@@ -1,9 +1,7 @@
 -- A board's view of a task is saved as the task is whose births are their generations.
 use Rattle.std.proofs.Common.{◌≡◌, ◌∙◌, ◌+◌, ◌*◌, ◌%◌, ℕ, List, ◌∷◌, [], Option, Some, None, refl, sym, ap, get_or}
 use Rattle.std.specs.Prelude.{option_map, slice_get, unwrap_or}
-use Rattle.std.proofs.Math.Nat.{mod-mod}
 use Rattle.std.proofs.lemmas.Option.{unwrap_or-slice_get}
-use Rattle.kernel_abi.specs.Ids.{id_of}
 use Rattle.kernel_abi.specs.declared.Timer.{Timer}
 use Rattle.task_table.specs.declared.Line.{Line}
 use Rattle.task_table.specs.State.{State, Task, Call, Listen, From, Any, One, KernelOnly}
@@ -17,15 +15,12 @@ use Rattle.board_core.specs.Views.{IsTask}
 use Rattle.snapshot.specs.Saved.{health_number, fault_of, flags_number, timer_flag, timer_of, from_number, from_id, wait_number, wait_words, record_of, line_number}
 use Rattle.snapshot.specs.Shown.{sender_number, sender_id, shown_number, shown_words, timer_shown, record_shown, line_shown}
 use Rattle.snapshot.proofs.Saves.{reduced_task}
+use Rattle.snapshot.proofs.SpelledAlike.{same_id}
 
 abbrev births : ℕ → ℕ
 births b = b % 64
 
 -- ## what it waits for
-
--- an id tells the generation of a birth alone
-same_id : (i b : ℕ) → id_of i (b % 64) ≡ id_of i b
-same_id i b = ap (λ n. i + 1024 * n) (mod-mod b 64)
 
 from_number_seen : (f : From) → from_number (seen_from births f) ≡ from_number f
 from_number_seen Any = refl

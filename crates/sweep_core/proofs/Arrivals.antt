@@ -18,6 +18,7 @@ use Rattle.run_script.specs.Laying.{has_no_place}
 use Rattle.run_script.specs.Scripts.{Listed, ScriptData, events_of, is_of, lasts, listed_of, ticks_of}
 use Rattle.board_model.specs.Laid.{is_free, is_script, laid, may_be_laid, postponed}
 use Rattle.sweep_core.specs.Laying.{IsLaid}
+use Rattle.run_script.proofs.Adding.{more_of}
 
 -- ## what happens in each turn tells how many events are listed of it
 
@@ -119,10 +120,6 @@ pub record IsScript (events : List Listed) : Type 0 where
 script_of_facts : (s : ScriptData) → Facts s → IsScript s.events
 script_of_facts s f = record { most = f.most; each = f.most_each; early = early_of s f }
 
-one_more : (b : Bool) (n : ℕ) → (b ≡ true → n < 8) → n ≤ 8 → n + (if b then 1 else 0) ≤ 8
-one_more true n few le = let less : n < 8 = few refl in omega arith
-one_more false n few le = omega arith
-
 -- with one more event of this turn they are a script
 record HasPlace (events : List Listed) (turn : ℕ) : Type 0 where
   early : turn < 1000000000
@@ -133,7 +130,7 @@ with_one : (events : List Listed) (d : Listed) → IsScript events → HasPlace 
 with_one events d s place = record {
   most = omega (arith, length-append events (d ∷ []), place.short);
   each = λ turn. subst (λ n. n ≤ 8) (sym (sum_by_push (λ (e : Listed). if is_of turn e then 1 else 0) events d))
-      (one_more (d.0 == turn) (count_by (is_of turn) events) (λ is. subst (λ t. count_by (is_of t) events < 8) (eqb-true d.0 turn is) place.few) (s.each turn));
+      (more_of (d.0 == turn) (count_by (is_of turn) events) (λ is. subst (λ t. count_by (is_of t) events < 8) (eqb-true d.0 turn is) place.few) (s.each turn));
   early = All-push (λ (e : Listed). e.0 < 1000000000) events d s.early place.early;
 }
 

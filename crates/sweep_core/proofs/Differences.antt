@@ -2,7 +2,7 @@
 use Rattle.std.proofs.Common.{◌≡◌, ◌≢◌, ◌∙◌, ◌⊎◌, inl, inr, ℕ, zero, suc, ◌+◌, ◌-◌, ◌<◌, add-one, not, Bool, true, false, cond, List, Option, Some, None, refl, sym, ap, subst, arith}
 use Rattle.std.specs.Prelude.{◌&&◌, ◌||◌, bytes_eq}
 use Rattle.std.specs.List.{list_any, range_with_len}
-use Rattle.std.proofs.lemmas.Bool.{cases_lt}
+use Rattle.std.proofs.lemmas.Bool.{cases_lt, or_parts, or_cases}
 use Rattle.std.proofs.lemmas.Slice.Eq.{bytes_eq-Decides}
 use Rattle.board_model.specs.Script.{Scenario}
 use Rattle.sweep_core.specs.Comparing.{Comparison, compared_times, nothing_compared, with_outcome, with_time}
@@ -13,15 +13,6 @@ use Rattle.sweep_core.specs.Swept.{Asking, arrival_run, base_run, is_made, is_wo
 or_true : (a : Bool) → (a || true) ≡ true
 or_true true = refl
 or_true false = refl
-
--- what is neither of two is not found
-neither : (a b : Bool) → (a || b) ≡ false → (a ≡ false) × (b ≡ false)
-neither true b e = absurd (cc)
-neither false b e = (refl, e)
-
-either : (a b : Bool) → (a || b) ≡ true → (a ≡ true) ⊎ (b ≡ true)
-either true b e = inl refl
-either false b e = inr e
 
 apart : (b : Bool) → b ≡ true → b ≡ false → ⊥
 apart b t f = let e : true ≡ false = sym t ∙ f in cc
@@ -140,9 +131,9 @@ module _ (made worse : ℕ → Bool) (words : ℕ → List ℕ) (from : ℕ) whe
   made_first n found h is = record {
     unmade = λ e. absurd (cc e);
     first = λ f e. (n, omega arith, is, sym (some_is (words (from + n)) f e));
-    well = λ e. let p = neither found (worse (from + n)) (neither (found || worse (from + n)) false e).0 in last_or (λ k. made (from + k) ≡ true → worse (from + k) ≡ false) n (h.well p.0) (λ m. p.1);
+    well = λ e. let p = or_parts found (worse (from + n)) (or_parts (found || worse (from + n)) false e).0 in last_or (λ k. made (from + k) ≡ true → worse (from + k) ≡ false) n (h.well p.0) (λ m. p.1);
     same = λ e f first. last_or (λ k. made (from + k) ≡ true → words (from + k) ≡ f) n (λ k lt m. absurd (apart (made (from + k)) m (h.unmade refl k lt))) (λ m. some_is (words (from + n)) f first);
-    some = λ e. by_test (either (found || worse (from + n)) false e);
+    some = λ e. by_test (or_cases (found || worse (from + n)) false e);
   }
     where
       by_worse : (found ≡ true) ⊎ (worse (from + n) ≡ true) → Found (suc n)
@@ -150,7 +141,7 @@ module _ (made worse : ℕ → Bool) (words : ℕ → List ℕ) (from : ℕ) whe
       by_worse (inr e) = (n, omega arith, is, inl e)
 
       by_test : ((found || worse (from + n)) ≡ true) ⊎ (false ≡ true) → Found (suc n)
-      by_test (inl e) = by_worse (either found (worse (from + n)) e)
+      by_test (inl e) = by_worse (or_cases found (worse (from + n)) e)
       by_test (inr e) = absurd (cc e)
 
   -- each further one that is
@@ -160,8 +151,8 @@ module _ (made worse : ℕ → Bool) (words : ℕ → List ℕ) (from : ℕ) whe
     unmade = λ e. absurd (cc e);
     first = λ f e. let r = h.first f e in (r.0, omega (arith, r.1), r.2, r.3);
     well = λ e. last_or (λ k. made (from + k) ≡ true → worse (from + k) ≡ false) n (h.well (quiet e).0) (λ m. (quiet e).1);
-    same = λ e f first. last_or (λ k. made (from + k) ≡ true → words (from + k) ≡ f) n (h.same (quiet e).0 f first) (λ m. not_differing o g (neither (found || w) (not (bytes_eq o g)) e).1 ∙ some_is g f first);
-    some = λ e. by_test (either (found || w) (not (bytes_eq o g)) e);
+    same = λ e f first. last_or (λ k. made (from + k) ≡ true → words (from + k) ≡ f) n (h.same (quiet e).0 f first) (λ m. not_differing o g (or_parts (found || w) (not (bytes_eq o g)) e).1 ∙ some_is g f first);
+    some = λ e. by_test (or_cases (found || w) (not (bytes_eq o g)) e);
   }
     where
       o : List ℕ
@@ -171,14 +162,14 @@ module _ (made worse : ℕ → Bool) (words : ℕ → List ℕ) (from : ℕ) whe
       w = worse (from + n)
 
       quiet : ((found || w) || not (bytes_eq o g)) ≡ false → (found ≡ false) × (w ≡ false)
-      quiet e = neither found w (neither (found || w) (not (bytes_eq o g)) e).0
+      quiet e = or_parts found w (or_parts (found || w) (not (bytes_eq o g)) e).0
 
       by_worse : (found ≡ true) ⊎ (w ≡ true) → Found (suc n)
       by_worse (inl e) = found_before n (h.some e)
       by_worse (inr e) = (n, omega arith, is, inl e)
 
       by_test : ((found || w) ≡ true) ⊎ (not (bytes_eq o g) ≡ true) → Found (suc n)
-      by_test (inl e) = by_worse (either found w e)
+      by_test (inl e) = by_worse (or_cases found w e)
       by_test (inr e) =
           let r = h.first g refl in
           (n, omega arith, is, inr (r.0, omega (arith, r.1), r.2, λ same. apart (bytes_eq o g) (equal o g (same ∙ sym r.3)) (not_equal o g e)))

@@ -22,6 +22,7 @@ use Rattle.board_model.proofs.SameScripts.{same_run}
 use Rattle.sweep_core.specs.declared.tally.Tally.{Tally}
 use Rattle.sweep_core.specs.Outcomes.{heard, heard_note, nothing_heard}
 use Rattle.sweep_core.specs.Sweeping.{IsAsGood}
+use Rattle.board_run.proofs.Going.{kept_last}
 
 pub first_turn : (x : Scenario) → (start_of x).turn ≡ 0
 unfolding start
@@ -41,17 +42,13 @@ heard_parts t a b = fold-append (λ (u : Tally) (n : ℕ × Note). heard_note u 
 
 -- ---- no turn at all
 
-by_end : (s : State) (o : Option End) → (unless s o (ended_at s Bound)).last ≡ s
-by_end s None = refl
-by_end s (Some e) = refl
-
 none_noted : (s : State) (o : Option End) → (unless s o (ended_at s Bound)).notes ≡ []
 none_noted s None = refl
 none_noted s (Some e) = refl
 
 pub stays : (x : Scenario) (s : State) → cut_at Calls x 0 s ≡ s
 unfolding run
-stays x s = by_end s (ending x 0 s)
+stays x s = kept_last s (ending x 0 s)
 
 pub silent : (x : Scenario) (s : State) → (run Calls x 0 s).notes ≡ []
 unfolding run

@@ -73,12 +73,6 @@ names_append (x ∷ xs) ys = ap (λ t. (string_bytes x.0, x.1) ∷ t) (names_app
 pub names_taken : {A : Type 0} (xs : List (String A × ℕ)) (i : ℕ) (e : String A × ℕ) → i < length xs → e ≡ get_or xs i e → names_of (take (i + 1) xs) ≡ names_of (take i xs) ++ ((string_bytes e.0, e.1) ∷ [])
 names_taken xs i e lt h = ap (λ n. names_of (take n xs)) (add-one i) ∙ ap names_of (take-suc xs i e lt) ∙ ap (λ x. names_of (take i xs ++ (x ∷ []))) (sym h) ∙ names_append (take i xs) (e ∷ [])
 
--- a symbol that an earlier one hides, and one that is not hidden
-hidden : (b : Bool) (v : ℕ) (o : Option ℕ) → (b ≡ true → (x : ℕ) × (o ≡ Some x)) → o ≡ or_else o (cond b (Some v) None)
-hidden true v o h = let x = h refl in rw x.1 refl
-hidden false v None h = refl
-hidden false v (Some x) h = refl
-
 pub symbol_next : (f g : Env) (names : Names) (name : List ℕ) (v : ℕ) → ((q : List ℕ) → f q ≡ entry_at names q) → ((q : List ℕ) → g q ≡ with_symbol name v f q) → (q : List ℕ) → g q ≡ entry_at (names ++ ((name, v) ∷ [])) q
 symbol_next f g names name v h k q = k q ∙ ap (λ t. or_else t (cond (bytes_eq q name) (Some v) None)) (h q) ∙ sym (entry_more names (name, v) q)
 

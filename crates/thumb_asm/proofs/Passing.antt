@@ -86,10 +86,6 @@ second_next : (env : Env) (at k : ℕ) (l : List ℕ) (ls : List (List ℕ)) →
 unfolding second_in
 second_next env at k l ls h = rw h refl
 
-second_here : (env : Env) (at k : ℕ) (l : List ℕ) (ls : List (List ℕ)) (c : Cause) → second_group env at (statement_of (parts l).statement) ≡ Some c → second_in env at k (l ∷ ls) ≡ Some (c, k)
-unfolding second_in
-second_here env at k l ls c h = rw h refl
-
 second_none : (env : Env) (at k : ℕ) → second_in env at k [] ≡ None
 unfolding second_in
 second_none env at k = refl

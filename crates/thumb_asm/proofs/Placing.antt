@@ -1,5 +1,6 @@
 -- The lines that have addresses, one by one.
 use Rattle.std.proofs.Common.{◌≡◌, ℕ, ◌+◌, ◌≤◌, ◌<◌, List, [], ◌∷◌, ◌++◌, map, refl, ap, ◌∙◌, sym, arith, append_assoc, Bool, true, false, cond, not, ◌||◌, nat_lt, Option, Some, None, is_some}
+use Rattle.std.proofs.lemmas.Bool.{ltb-false}
 use Rattle.std.proofs.lemmas.List.{append-nil, map-append}
 use Rattle.thumb_asm.specs.declared.Cause.{Cause}
 use Rattle.thumb_asm.specs.declared.Cause.TheVariants as cause
@@ -77,16 +78,13 @@ neither : {A : Type 0} (a b : Option A) → or_else a b ≡ None → (a ≡ None
 neither None b h = (refl, h)
 neither (Some x) b h = cc
 
-not_when : (b : Bool) (c : Cause) → when b c ≡ None → b ≡ false
+pub not_when : (b : Bool) (c : Cause) → when b c ≡ None → b ≡ false
 not_when true c h = cc
 not_when false c h = refl
 
 no_line : (k : ℕ) (a : Option Cause) (later : Option (Cause × ℕ)) → at_line k a later ≡ None → (a ≡ None) × (later ≡ None)
 no_line k None later h = (refl, h)
 no_line k (Some c) later h = cc
-
-at_most : (a b : ℕ) → nat_lt a b ≡ false → b ≤ a
-at_most a b h = grind arith
 
 -- what a line has that is not refused
 group_none : (given : Env) (base : ℕ) (earlier : Env) (used : ℕ) (line : List ℕ) → first_group given base earlier used line ≡ None → (label_cause given earlier (parts line).label ≡ None) × (used + line_size (base + used) line ≤ 1048576)
@@ -95,7 +93,7 @@ group_none given base earlier used line h =
     let over : Bool = nat_lt 1048576 (used + line_size (base + used) line) in
     let behind = neither (label_cause given earlier (parts line).label) (or_else (statement_cause (statement_of (parts line).statement)) (when over cause.TooLong)) (neither _ _ (neither _ _ h).1).1 in
     let under : nat_lt 1048576 (used + line_size (base + used) line) ≡ false = not_when over cause.TooLong (neither _ _ behind.1).1 in
-    (behind.0, at_most 1048576 (used + line_size (base + used) line) under)
+    (behind.0, ltb-false 1048576 (used + line_size (base + used) line) under)
 
 named_by : (b r h : Bool) (at : ℕ) (name : List ℕ) → cond (not b) (Some cause.BadLabel) (cond r (Some cause.NameClash) (cond h (Some cause.LabelTwice) None)) ≡ None → cond {A = Names} b ((name, at) ∷ []) [] ≡ (name, at) ∷ []
 named_by true r h at name e = refl

@@ -2,7 +2,7 @@ use Rattle.std.proofs.Common.{◌∙◌, ◌+◌, arith, sym, subst, ℕ, List, 
 use Rattle.std.proofs.lemmas.Result.{err_from_is_err_and}
 use Rattle.std.specs.Io.KnownBytes.{Appends}
 use Rattle.board_model.specs.Run.{at_turn}
-use Rattle.board_run.specs.Text.{notes_text}
+use Rattle.trace_text.specs.Lines.{notes_text}
 use Rattle.outside_io.proofs.Pushing.{appends_more, part_fails}
 use Rattle.board_run.proofs.Appending.{notes_at, notes_more}
 use Rattle.trace_text.specs.Fit.{IsFit}

@@ -2,7 +2,7 @@ use Rattle.std.proofs.Common.{◌≡◌, ◌≤◌, take}
 use Rattle.std.specs.Io.KnownBytes.{Appends}
 use Rattle.board_model.specs.Run.{at_turn}
 use Rattle.trace_text.specs.Fit.{AreFit}
-use Rattle.board_run.specs.Text.{notes_text}
+use Rattle.trace_text.specs.Lines.{notes_text}
 use Rattle.board_run.proofs.pushing.push_notes.Given as goal
 
 abbrev pub invariant-loop-note : goal.invariant-loop-note

@@ -5,7 +5,7 @@ use Rattle.board_model.specs.declared.outcomes.Level.TheVariants.{All}
 use Rattle.board_model.specs.Run.{at_turn as notes_at}
 use Rattle.board_model.specs.Turn.{turn}
 use Rattle.board_core.specs.Data.{boxed}
-use Rattle.board_run.specs.Text.{notes_text}
+use Rattle.trace_text.specs.Lines.{notes_text}
 use Rattle.debug_core.specs.Answers.{told_before}
 use Rattle.debug_core.specs.Runs.{state_at}
 use Rattle.debug_core.specs.Times.{IsAt}
