@@ -72,6 +72,8 @@ tools/lay "$at/script.txt" "$at/arrival.txt" 114 > "$made/laid.txt"
 [ "$(grep -c ' out ' "$made/go.txt")" = 1 ] || { echo "lost-byte, a byte in turn 114 is not lost"; exit 1; }
 "$program" cover "$made/restart.img" examples/restart/empty.txt --steps 300 > "$made/cover.txt"
 same "$made/cover.txt" examples/restart/cover.txt "restart, cover"
+"$program" cover examples/restart/app.toml examples/restart/empty.txt --steps 300 --labels > "$made/labels.txt"
+same "$made/labels.txt" examples/restart/labels.txt "restart, cover with labels"
 # what it counts is what --all tells
 "$program" run "$made/restart.img" examples/restart/empty.txt --steps 300 --all | awk '$2 == "insn" { n[$4]++ } END { for (a in n) print a, n[a] }' | sort > "$made/counts.txt"
 awk '$1 ~ /^[0-9]/ { print $2, $1 }' "$made/cover.txt" | sort > "$made/covered.txt"
