@@ -125,14 +125,14 @@ instructions() {
 }
 for image in $compiled; do instructions "$image" 54 "out/$image.img" out/empty.txt; done
 instructions "two instructions" 26 "$data/a.img" out/empty.txt
-instructions "shared memory" 52 out/shared.img out/empty.txt
-instructions "a driver that polls" 192 out/polls.img out/empty.txt
-instructions "32 tasks with timers" 352 out/timers.img timers/script.txt
-instructions "16 clients, 4 servers" 245 out/messages.img out/empty.txt
-instructions "8 lenders, 1 server" 242 out/leases.img out/empty.txt
-instructions "large sample" 152 sample/sample.img sample/script.txt
-instructions "512 tasks with timers" 382 out/timers512.img timers/script.txt
+instructions "shared memory" 50 out/shared.img out/empty.txt
+instructions "a driver that polls" 108 out/polls.img out/empty.txt
+instructions "32 tasks with timers" 314 out/timers.img timers/script.txt
+instructions "16 clients, 4 servers" 223 out/messages.img out/empty.txt
+instructions "8 lenders, 1 server" 226 out/leases.img out/empty.txt
+instructions "large sample" 141 sample/sample.img sample/script.txt
+instructions "512 tasks with timers" 346 out/timers512.img timers/script.txt
 start=$(host out/timers512.img timers/script.txt --steps 0)
 awk -v n="$start" 'BEGIN { printf "%-28s %7.1f million host instructions before the first turn, at most 10\n", "512 tasks with timers", n / 1e6; exit n / 1e6 > 10 }' || short=1
-instructions "507 clients, 4 servers" 257 out/messages512.img out/empty.txt
+instructions "507 clients, 4 servers" 236 out/messages512.img out/empty.txt
 exit $short
