@@ -49,6 +49,7 @@ resume crates/hubris/data/a.img crates/hubris/data/e.txt $out/state --steps 3
 debug crates/hubris/data/a.img crates/hubris/data/e.txt $out/commands
 live crates/hubris/data/a.img crates/hubris/data/e.txt $out/commands
 cover crates/hubris/data/a.img crates/hubris/data/e.txt --steps 3
+cover examples/restart/app.toml examples/restart/empty.txt --steps 300 --labels
 sweep crates/hubris/data/a.img crates/hubris/data/e.txt examples/lost-byte/arrival.txt 0 5 --steps 9 --mem
 timeline crates/hubris/data/a.img crates/hubris/data/e.txt --steps 3
 picture $out/restart.img examples/restart/empty.txt $out/app.img --steps 300 --names examples/restart/app.toml
