@@ -4,8 +4,7 @@
 
 mod words;
 
-ghost use Rattle.std.specs.Prelude.{◌≡◌, ◌%◌};
-ghost use Rattle.words_core.specs.Regs.{reg_at};
+ghost use Rattle.std.specs.Prelude.{◌%◌};
 
 use crate::words::Words;
 use std::{env, io};

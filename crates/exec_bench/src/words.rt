@@ -1,5 +1,5 @@
 //! The bus of the loop: ten halfwords of code and 64 words of RAM.
-ghost use Rattle.std.specs.Prelude.{◌≡◌, ℕ, ◌<◌, ◌≤◌, slice_set, map, Some, replicate};
+ghost use Rattle.std.specs.Prelude.{◌≡◌, ◌<◌, slice_set, map, Some, replicate};
 ghost use Rattle.thumb_insn.specs.Table.{narrow_of};
 ghost use Rattle.exec_bench.specs.Words.{refused, held, word_index, is_word, is_code, loop_insns};
 

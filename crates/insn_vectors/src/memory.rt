@@ -1,5 +1,5 @@
 //! A flash and a RAM behind regions, as a bus.
-ghost use Rattle.std.specs.Prelude.{◌≡◌, ℕ, ◌+◌, ◌<◌, ◌≤◌, ◌*◌, ◌^◌, ◌/◌, ◌%◌, length, replicate, ◌∷◌, [], IfOk};
+ghost use Rattle.std.specs.Prelude.{◌≡◌, ◌+◌, ◌<◌, ◌≤◌, ◌*◌, ◌^◌, ◌/◌, ◌%◌, length, replicate, ◌∷◌, [], IfOk};
 ghost use Rattle.insn_vectors.specs.Flat.{first_bad, byte_at, number_of, IsStored, IsPut, flash_with, ram_with, with_half, with_bytes, flash_region, ram_region};
 ghost use Rattle.insn_vectors.specs.Played.{banks_of, with_code};
 

@@ -4,7 +4,7 @@
 //! Each `of` takes r4 to r11 in this order. Bits above 15 of a register that holds an id count for
 //! nothing, and no value is refused.
 
-ghost use Rattle.std.specs.Prelude.{◌≡◌, ◌+◌, ◌*◌, ◌/◌, ◌%◌, ◌^◌, ◌<◌, ◌≤◌};
+ghost use Rattle.std.specs.Prelude.{◌≡◌, ◌+◌, ◌*◌, ◌/◌, ◌%◌, ◌<◌, ◌≤◌};
 ghost use Rattle.kernel_abi.specs.Arguments.{register, low_half, high_half, send_args, recv_args, reply_args, timer_args, borrow_args, info_args, irq_args, id_args};
 
 use crate::TaskId;

@@ -3,7 +3,7 @@ use Rattle.std.proofs.Common.{ℕ, ◌≡◌, ◌≢◌, ◌<◌, ◌-◌, ◌++
 use Rattle.std.proofs.lemmas.List.{get_or_default, get_or-set_same, get_or-set_other, set-set, set_comm, get_or_append_left, get_or-append_right, set-append_left, set-append_right, length-append, length-set, same_lists, places, nil_from_length}
 use Rattle.mem_banks.specs.declared.bank.Bank.{Bank}
 use Rattle.mem_banks.specs.Banks.{IsPut}
-use Rattle.mem_banks.specs.Windows.{Doing, AreOpened, AreAllOpened, AreTwo, bytes_in, IsPutIn}
+use Rattle.mem_banks.specs.Windows.{Doing, AreOpened, AreOpenedBeside, AreAllOpened, AreTwo, bytes_in, IsPutIn}
 use Rattle.mem_banks.specs.Memory.{pasted}
 
 -- a bank put in place of one
@@ -41,25 +41,26 @@ whole_new : (xs ys : List ℕ) → length ys ≡ length xs → ys ≡ pasted xs 
 whole_new xs ys n = same_lists _ _ (simp (length-append, length-take, length-drop) (omega arith)) (λ i d u. grind (arith, places))
 
 -- x stands for the first one, p, and y for the second one, q
-pub two_by : {B : Type 0} (did : Doing B) (old between after : List Bank) (i j : ℕ) (s s' : B) (x y p q : Bank) (area left : List ℕ) → i < length old → j < length old → p ≡ get_or old i p → q ≡ get_or old j q → q ≡ get_or between j q → between ≡ set old i x → after ≡ set between j y → x.base ≡ p.base → y.base ≡ q.base → x.bytes.items ≡ p.bytes.items → length y.bytes.items ≡ length q.bytes.items → length left ≡ length area →
-    did s p.bytes.items q.bytes.items area s' y.bytes.items left → AreOpened did old i (Some j) area s s' after left
-two_by did old between after i j s s' x y p q area left there_i there_j is_p is_q stays is_between is_after base_x base_y same size area_size work =
+pub two_by : {B : Type 0} (did : Doing B) (old between after : List Bank) (i j : ℕ) (s s' : B) (x y p q : Bank) (area left second second_left : List ℕ) → i < length old → j < length old → p ≡ get_or old i p → q ≡ get_or old j q → q ≡ get_or between j q → between ≡ set old i x → after ≡ set between j y → x.base ≡ p.base → y.base ≡ q.base → x.bytes.items ≡ p.bytes.items → length y.bytes.items ≡ length q.bytes.items → length left ≡ length area → length second_left ≡ length second →
+    did s p.bytes.items q.bytes.items area second s' y.bytes.items left second_left → AreOpened did old i (Some j) area second s s' after left second_left
+two_by did old between after i j s s' x y p q area left second second_left there_i there_j is_p is_q stays is_between is_after base_x base_y same size area_size second_size work =
     let at_p : (d : Bank) → get_or old i d ≡ p = λ d. get_or_default old i d p there_i ∙ sym is_p in
     let at_q : (d : Bank) → get_or old j d ≡ q = λ d. get_or_default old j d q there_j ∙ sym is_q in
     let count : length between ≡ length old = rw is_between (length-set old i x) in
     record {
       after = y.bytes.items;
-      work = λ d. let done : did s (get_or old i d).bytes.items (get_or old j d).bytes.items area s' y.bytes.items left = rw (at_p d, at_q d) work in done;
+      work = λ d. let done : did s (get_or old i d).bytes.items (get_or old j d).bytes.items area second s' y.bytes.items left second_left = rw (at_p d, at_q d) work in done;
       size = λ d. size ∙ ap (λ (b : Bank). length b.bytes.items) (sym (at_q d));
       area_size = area_size;
+      second_size = second_size;
       between = between;
-      first = put_at old between i 0 [] x p there_i is_p is_between base_x (same ∙ whole_none p.bytes.items);
-      second = put_at between after j 0 y.bytes.items y q (omega (arith, count, there_j)) stays is_after base_y (whole_new q.bytes.items y.bytes.items size);
+      first_put = put_at old between i 0 [] x p there_i is_p is_between base_x (same ∙ whole_none p.bytes.items);
+      second_put = put_at between after j 0 y.bytes.items y q (omega (arith, count, there_j)) stays is_after base_y (whole_new q.bytes.items y.bytes.items size);
     }
 
 -- ## one bank beside no bytes
-pub one_by : {B : Type 0} (did : Doing B) (old after : List Bank) (i : ℕ) (s s' : B) (x p : Bank) (none some area left : List ℕ) → i < length old → p ≡ get_or old i p → after ≡ set old i x → x.base ≡ p.base → x.bytes.items ≡ p.bytes.items → none ≡ [] → length some ≡ length none → length left ≡ length area → did s p.bytes.items none area s' some left → AreOpened did old i None area s s' after left
-one_by did old after i s s' x p none some area left there is_p is_after base same empty size area_size work =
+pub one_by : {B : Type 0} (did : Doing B) (old after : List Bank) (i : ℕ) (s s' : B) (x p : Bank) (none some area left second second_left : List ℕ) → i < length old → p ≡ get_or old i p → after ≡ set old i x → x.base ≡ p.base → x.bytes.items ≡ p.bytes.items → none ≡ [] → length some ≡ length none → length left ≡ length area → length second_left ≡ length second → did s p.bytes.items none area second s' some left second_left → AreOpened did old i None area second s s' after left second_left
+one_by did old after i s s' x p none some area left second second_left there is_p is_after base same empty size area_size second_size work =
     let at_p : (d : Bank) → get_or old i d ≡ p = λ d. get_or_default old i d p there ∙ sym is_p in
     let nothing : some ≡ [] = nil_from_length _ (size ∙ ap length empty) in
     record {
@@ -67,12 +68,13 @@ one_by did old after i s s' x p none some area left there is_p is_after base sam
       work = λ d. rw (at_p d) (rw (empty, nothing) at work);
       size = λ d. refl;
       area_size = area_size;
+      second_size = second_size;
       between = after;
-      first = put_at old after i 0 [] x p there is_p is_after base (same ∙ whole_none p.bytes.items);
-      second = refl;
+      first_put = put_at old after i 0 [] x p there is_p is_after base (same ∙ whole_none p.bytes.items);
+      second_put = refl;
     }
 
--- ## a third bank, from which the bytes are taken meanwhile
+-- ## a further bank, from which the bytes are taken meanwhile
 
 -- what is put in another bank is put beside it
 record IsBeside (k : ℕ) (e : Bank) (xs ys zs : List Bank) : Type 0 where
@@ -99,34 +101,96 @@ bytes_beside : (old : List Bank) (k : ℕ) (e : Bank) (j : Option ℕ) (d : Bank
 bytes_beside old k e (Some j) d other = ap (λ (b : Bank). b.bytes.items) (get_or-set_other old k j e d other)
 bytes_beside old k e None d other = refl
 
--- e stands for the third one, p, without its bytes, and z with those that were left
-pub area_by : {B : Type 0} (did : Doing B) (old after final : List Bank) (i : ℕ) (j : Option ℕ) (k : ℕ) (s s' : B) (e p q z : Bank) (left : List ℕ) → k < length old → p ≡ get_or old k p → e.base ≡ p.base → AreTwo (Some i) (Some k) → AreTwo j (Some k) → AreOpened did (set old k e) i j p.bytes.items s s' after left →
-    q ≡ get_or after k q → z.base ≡ q.base → z.bytes.items ≡ left → final ≡ set after k z → AreAllOpened did old i j (Some k) s s' final
-area_by did old after final i j k s s' e p q z left there is_p base other_i other_j opened is_q base_z bytes_z is_final =
-    let at_p : (d : Bank) → get_or old k d ≡ p = λ d. get_or_default old k d p there ∙ sym is_p in
-    let one = put_beside old opened.between k i 0 [] e other_i opened.first in
-    let second : IsPutIn (set one.0 k e) j opened.after after = subst (λ (xs : List Bank). IsPutIn xs j opened.after after) one.2.same opened.second in
-    let two = put_in_beside one.0 after k j opened.after e other_j second in
-    let count : length two.0 ≡ length old = two.2.there ∙ one.2.there in
-    let kept : (d : Bank) → get_or two.0 k d ≡ p = λ d. two.2.stays d ∙ one.2.stays d ∙ at_p d in
-    let is_e : q ≡ e = is_q ∙ ap (λ (xs : List Bank). get_or xs k q) two.2.same ∙ get_or-set_same two.0 k e q (omega (arith, count)) in
+-- one put after the other
+then_beside : (k : ℕ) (e : Bank) (xs ys zs vs ws : List Bank) → IsBeside k e xs ys zs → IsBeside k e ys vs ws → IsBeside k e xs vs ws
+then_beside k e xs ys zs vs ws one two = record { same = two.same; there = two.there ∙ one.there; stays = λ d. two.stays d ∙ one.stays d }
+
+-- what is put where some banks stand beside it is put where others that are the same do
+put_from : (old new after : List Bank) (j : Option ℕ) (bytes : List ℕ) → old ≡ new → IsPutIn old j bytes after → IsPutIn new j bytes after
+put_from old new after j bytes same = subst (λ (xs : List Bank). IsPutIn xs j bytes after) same
+
+-- the bytes of a bank, whoever asks
+bytes_there : (old : List Bank) (k : ℕ) (p d : Bank) → k < length old → p ≡ get_or old k p → p.bytes.items ≡ (get_or old k d).bytes.items
+bytes_there old k p d there is_p = ap (λ (b : Bank). b.bytes.items) (is_p ∙ sym (get_or_default old k d p there))
+
+-- e stands for the bank, p, without its bytes, and z with those that were left
+put_back : (old there after final : List Bank) (k : ℕ) (e p q z : Bank) (left : List ℕ) → k < length old → p ≡ get_or old k p → e.base ≡ p.base → length left ≡ length p.bytes.items → IsBeside k e old there after → q ≡ get_or after k q → z.base ≡ q.base → z.bytes.items ≡ left → final ≡ set after k z → IsPut there k 0 left final
+put_back old there after final k e p q z left within is_p base size beside is_q base_z bytes_z is_final =
+    let kept : (d : Bank) → get_or there k d ≡ p = λ d. beside.stays d ∙ (get_or_default old k d p within ∙ sym is_p) in
+    let count = beside.there in
+    let is_e : q ≡ e = is_q ∙ ap (λ (xs : List Bank). get_or xs k q) beside.same ∙ get_or-set_same there k e q (omega (arith, count)) in (
+      z,
+      is_final ∙ ap (λ (xs : List Bank). set xs k z) beside.same ∙ set-set there k e z,
+      λ d. rw (kept d) (base_z ∙ ap (λ (b : Bank). b.base) is_e ∙ base, bytes_z ∙ whole_new p.bytes.items left size),
+    )
+
+-- ## the bank of the first area, and that of the second one
+pub area_by : {B : Type 0} (did : Doing B) (old after final : List Bank) (i : ℕ) (j : Option ℕ) (k : ℕ) (s s' : B) (e p q z : Bank) (left second second_left : List ℕ) → k < length old → p ≡ get_or old k p → e.base ≡ p.base → AreTwo (Some i) (Some k) → AreTwo j (Some k) → AreOpened did (set old k e) i j p.bytes.items second s s' after left second_left →
+    q ≡ get_or after k q → z.base ≡ q.base → z.bytes.items ≡ left → final ≡ set after k z → AreOpenedBeside did old i j (Some k) second s s' final second_left
+area_by did old after final i j k s s' e p q z left second second_left there is_p base other_i other_j opened is_q base_z bytes_z is_final =
+    let one = put_beside old opened.between k i 0 [] e other_i opened.first_put in
+    let two = put_in_beside one.0 after k j opened.after e other_j (put_from opened.between (set one.0 k e) after j opened.after one.2.same opened.second_put) in
     record {
       after = opened.after;
       area_after = left;
       work = λ d.
           let here : get_or (set old k e) i d ≡ get_or old i d = get_or-set_other old k i e d other_i in
-          let done : did s (get_or old i d).bytes.items (bytes_in old j d) p.bytes.items s' opened.after left = rw (here, bytes_beside old k e j d other_j) at (opened.work d) in
-          let same : p.bytes.items ≡ (get_or old k d).bytes.items = ap (λ (b : Bank). b.bytes.items) (sym (at_p d)) in
-          subst (λ (xs : List ℕ). did s (get_or old i d).bytes.items (bytes_in old j d) xs s' opened.after left) same done;
+          let done : did s (get_or old i d).bytes.items (bytes_in old j d) p.bytes.items second s' opened.after left second_left = rw (here, bytes_beside old k e j d other_j) at (opened.work d) in
+          subst (λ (xs : List ℕ). did s (get_or old i d).bytes.items (bytes_in old j d) xs second s' opened.after left second_left) (bytes_there old k p d there is_p) done;
       size = λ d. opened.size d ∙ ap (λ (xs : List ℕ). length xs) (bytes_beside old k e j d other_j);
-      area_size = λ d. opened.area_size ∙ ap (λ (b : Bank). length b.bytes.items) (sym (at_p d));
+      area_size = λ d. opened.area_size ∙ ap (λ (xs : List ℕ). length xs) (bytes_there old k p d there is_p);
+      second_size = opened.second_size;
       one = one.0;
       two = two.0;
-      first = one.1;
-      second = two.1;
-      third = (
-        z,
-        is_final ∙ ap (λ (xs : List Bank). set xs k z) two.2.same ∙ set-set two.0 k e z,
-        λ d. rw (kept d) (base_z ∙ ap (λ (b : Bank). b.base) is_e ∙ base, bytes_z ∙ whole_new p.bytes.items left opened.area_size),
-      );
+      first_put = one.1;
+      second_put = two.1;
+      third_put = put_back old two.0 after final k e p q z left there is_p base opened.area_size (then_beside k e old one.0 opened.between two.0 after one.2 two.2) is_q base_z bytes_z is_final;
+    }
+
+pub second_by : {B : Type 0} (did : Doing B) (old after final : List Bank) (i : ℕ) (j l : Option ℕ) (k : ℕ) (s s' : B) (e p q z : Bank) (left : List ℕ) → k < length old → p ≡ get_or old k p → e.base ≡ p.base → AreTwo (Some i) (Some k) → AreTwo j (Some k) → AreTwo l (Some k) → AreOpenedBeside did (set old k e) i j l p.bytes.items s s' after left →
+    q ≡ get_or after k q → z.base ≡ q.base → z.bytes.items ≡ left → final ≡ set after k z → AreAllOpened did old i j l (Some k) s s' final
+second_by did old after final i j l k s s' e p q z left there is_p base other_i other_j other_l opened is_q base_z bytes_z is_final =
+    let one = put_beside old opened.one k i 0 [] e other_i opened.first_put in
+    let two = put_in_beside one.0 opened.two k j opened.after e other_j (put_from opened.one (set one.0 k e) opened.two j opened.after one.2.same opened.second_put) in
+    let three = put_in_beside two.0 after k l opened.area_after e other_l (put_from opened.two (set two.0 k e) after l opened.area_after two.2.same opened.third_put) in
+    record {
+      after = opened.after;
+      area_after = opened.area_after;
+      second_after = left;
+      work = λ d.
+          let here : get_or (set old k e) i d ≡ get_or old i d = get_or-set_other old k i e d other_i in
+          let done : did s (get_or old i d).bytes.items (bytes_in old j d) (bytes_in old l d) p.bytes.items s' opened.after opened.area_after left = rw (here, bytes_beside old k e j d other_j, bytes_beside old k e l d other_l) at (opened.work d) in
+          subst (λ (xs : List ℕ). did s (get_or old i d).bytes.items (bytes_in old j d) (bytes_in old l d) xs s' opened.after opened.area_after left) (bytes_there old k p d there is_p) done;
+      size = λ d. opened.size d ∙ ap (λ (xs : List ℕ). length xs) (bytes_beside old k e j d other_j);
+      area_size = λ d. opened.area_size d ∙ ap (λ (xs : List ℕ). length xs) (bytes_beside old k e l d other_l);
+      second_size = λ d. opened.second_size ∙ ap (λ (xs : List ℕ). length xs) (bytes_there old k p d there is_p);
+      one = one.0;
+      two = two.0;
+      three = three.0;
+      first_put = one.1;
+      second_put = two.1;
+      third_put = three.1;
+      fourth_put = put_back old three.0 after final k e p q z left there is_p base opened.second_size (then_beside k e old two.0 opened.two three.0 after (then_beside k e old one.0 opened.one two.0 opened.two one.2 two.2) three.2) is_q base_z bytes_z is_final;
+    }
+
+-- ## no areas
+pub without_areas : {B : Type 0} (did : Doing B) (old after : List Bank) (i : ℕ) (j : Option ℕ) (s s' : B) (area left second second_left : List ℕ) → area ≡ [] → second ≡ [] → AreOpened did old i j area second s s' after left second_left → AreAllOpened did old i j None None s s' after
+without_areas did old after i j s s' area left second second_left none none_second opened =
+    let nothing : left ≡ [] = nil_from_length left (opened.area_size ∙ ap (λ (xs : List ℕ). length xs) none) in
+    let no_second : second_left ≡ [] = nil_from_length second_left (opened.second_size ∙ ap (λ (xs : List ℕ). length xs) none_second) in
+    record {
+      after = opened.after;
+      area_after = [];
+      second_after = [];
+      work = λ d. rw (none, none_second, nothing, no_second) at (opened.work d);
+      size = opened.size;
+      area_size = λ d. refl;
+      second_size = λ d. refl;
+      one = opened.between;
+      two = after;
+      three = after;
+      first_put = opened.first_put;
+      second_put = opened.second_put;
+      third_put = refl;
+      fourth_put = refl;
     }

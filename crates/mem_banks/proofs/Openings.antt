@@ -1,4 +1,4 @@
--- What a window of three banks makes of the memory.
+-- What a window of four banks makes of the memory.
 use Rattle.std.proofs.Common.{ℕ, zero, suc, ◌≡◌, ◌≢◌, ◌<◌, ◌≤◌, ◌+◌, ◌⊎◌, inl, inr, Bool, true, false, ◌&&◌, eqb, rules, leb, List, [], ◌∷◌, Option, Some, None, length, take, drop, get_or, Contains, refl, ap, sym, ◌∙◌, subst, arith, length-take, length-drop}
 use Rattle.std.proofs.lemmas.Bool.{le-leb, lt-leb, cases_lt}
 use Rattle.std.proofs.lemmas.List.{length-append, same_lists, places, nil_from_length}
@@ -161,45 +161,60 @@ module _ (table : List ℕ) (banks : List Bank) (kept : AreKept table banks) whe
   place_done after None r new none size same = let D : List Bank → Type 0 = λ xs. IsDone table banks xs r.0 new in subst D (sym same) (nothing_done table banks r.0 new kept (nil_from_length _ (size ∙ none.1)))
   place_done after (Some k) r new p size put = bank_done after k r new p.0 (omega (arith, size)) put
 
-module _ {B : Type 0} (did : Doing B) (table : List ℕ) (banks after : List Bank) (i : ℕ) (j k : Option ℕ) (flash ram area : ℕ × ℕ) (s s' : B) (kept : AreKept table banks) (of_i : IsBankOf banks i flash) (of_j : IsPlaceOf banks j ram) (of_k : IsPlaceOf banks k area) (opened : AreAllOpened did banks i j k s s' after) where
+module _ {B : Type 0} (did : Doing B) (table : List ℕ) (banks after : List Bank) (i : ℕ) (j k l : Option ℕ) (flash ram area second : ℕ × ℕ) (s s' : B) (kept : AreKept table banks) (of_i : IsBankOf banks i flash) (of_j : IsPlaceOf banks j ram) (of_k : IsPlaceOf banks k area) (of_l : IsPlaceOf banks l second) (opened : AreAllOpened did banks i j k l s s' after) where
   size : length opened.after ≡ ram.1
   size = let d : Bank = first_of banks i of_i.0 in opened.size d ∙ place_size table banks kept j ram d of_j
 
   area_size : length opened.area_after ≡ area.1
   area_size = let d : Bank = first_of banks i of_i.0 in opened.area_size d ∙ place_size table banks kept k area d of_k
 
+  second_size : length opened.second_after ≡ second.1
+  second_size = let d : Bank = first_of banks i of_i.0 in opened.second_size d ∙ place_size table banks kept l second d of_l
+
   one_done : IsDone table banks opened.one flash.0 []
-  one_done = bank_done table banks kept opened.one i flash [] of_i (omega arith) opened.first
+  one_done = bank_done table banks kept opened.one i flash [] of_i (omega arith) opened.first_put
 
   two_done : IsDone table opened.one opened.two ram.0 opened.after
-  two_done = place_done table opened.one one_done.kept opened.two j ram opened.after (place_still banks opened.one j ram one_done.spans of_j) size opened.second
+  two_done = place_done table opened.one one_done.kept opened.two j ram opened.after (place_still banks opened.one j ram one_done.spans of_j) size opened.second_put
 
-  all_done : IsDone table opened.two after area.0 opened.area_after
-  all_done = place_done table opened.two two_done.kept after k area opened.area_after (place_still banks opened.two k area (two_done.spans ∙ one_done.spans) of_k) area_size opened.third
+  three_done : IsDone table opened.two opened.three area.0 opened.area_after
+  three_done = place_done table opened.two two_done.kept opened.three k area opened.area_after (place_still banks opened.two k area (two_done.spans ∙ one_done.spans) of_k) area_size opened.third_put
+
+  all_done : IsDone table opened.three after second.0 opened.second_after
+  all_done = place_done table opened.three three_done.kept after l second opened.second_after (place_still banks opened.three l second (three_done.spans ∙ (two_done.spans ∙ one_done.spans)) of_l) second_size opened.fourth_put
 
   -- the banks after it
   pub all_kept : AreKept table after
   all_kept = all_done.kept
 
   pub all_spans : spans_of after ≡ spans_of banks
-  all_spans = all_done.spans ∙ (two_done.spans ∙ one_done.spans)
+  all_spans = all_done.spans ∙ (three_done.spans ∙ (two_done.spans ∙ one_done.spans))
 
-  pub all_window : AreTwo (Some i) j → AreTwo (Some i) k → AreTwo j k → IsOpened did (seen banks) flash ram area s s' (seen after)
-  all_window apart beside two =
+  pub all_window : AreTwo (Some i) j → AreTwo (Some i) k → AreTwo j k → AreTwo (Some i) l → AreTwo j l → AreTwo k l → IsOpened did (seen banks) flash ram area second s s' (seen after)
+  all_window apart beside two second_beside second_two areas =
       let d : Bank = first_of banks i of_i.0 in
       let same : seen opened.one ≡ seen banks = one_done.value ∙ sym (with_bytes_none (seen banks) flash.0 [] refl) in
+      let ram_done : seen opened.two ≡ with_bytes (seen banks) ram.0 opened.after = two_done.value ∙ ap (λ m. with_bytes m ram.0 opened.after) same in
       record {
         flash_there = in_memory table banks kept i flash of_i;
         ram_there = place_there table banks kept j ram of_j;
         area_there = place_there table banks kept k area of_k;
+        second_there = place_there table banks kept l second of_l;
         apart = bank_apart table banks kept i j flash ram of_i of_j apart;
         area_apart = (bank_apart table banks kept i k flash area of_i of_k beside, places_apart table banks kept j k ram area of_j of_k two);
+        second_apart = (
+          bank_apart table banks kept i l flash second of_i of_l second_beside,
+          places_apart table banks kept j l ram second of_j of_l second_two,
+          places_apart table banks kept k l area second of_k of_l areas,
+        );
         after = opened.after;
         area_after = opened.area_after;
-        work = rw (bank_bytes table banks i flash d kept of_i, place_bytes table banks kept j ram d of_j, place_bytes table banks kept k area d of_k) (opened.work d);
+        second_after = opened.second_after;
+        work = rw (bank_bytes table banks i flash d kept of_i, place_bytes table banks kept j ram d of_j, place_bytes table banks kept k area d of_k, place_bytes table banks kept l second d of_l) (opened.work d);
         size = size;
         area_size = area_size;
-        left = all_done.value ∙ ap (λ m. with_bytes m area.0 opened.area_after) (two_done.value ∙ ap (λ m. with_bytes m ram.0 opened.after) same);
+        second_size = second_size;
+        left = all_done.value ∙ ap (λ m. with_bytes m second.0 opened.second_after) (three_done.value ∙ ap (λ m. with_bytes m area.0 opened.area_after) ram_done);
       }
 
 -- ## the banks of regions that were given
@@ -237,8 +252,8 @@ given_bank regions banks r parts given =
 given_found : (regions : List (ℕ × ℕ)) (banks : List Bank) (r : ℕ × ℕ) → AreParts regions (spans_of banks) → Contains regions r → 0 < r.1 → HasNoBank banks r → ⊥
 given_found regions banks r parts given some none = let b = given_bank regions banks r parts given in none b.0 some b.1
 
-pub text_found : (regions : List (ℕ × ℕ)) (banks : List Bank) (flash ram area : ℕ × ℕ) → AreParts regions (spans_of banks) → AreGiven regions flash ram area → HasNoBank banks flash → ⊥
-text_found regions banks flash ram area parts given none = given_found regions banks flash parts given.flash_given given.flash_some none
+pub text_found : (regions : List (ℕ × ℕ)) (banks : List Bank) (flash ram area second : ℕ × ℕ) → AreParts regions (spans_of banks) → AreGiven regions flash ram area second → HasNoBank banks flash → ⊥
+text_found regions banks flash ram area second parts given none = given_found regions banks flash parts given.flash_given given.flash_some none
 
 pub place_found : (regions : List (ℕ × ℕ)) (banks : List Bank) (r : ℕ × ℕ) → AreParts regions (spans_of banks) → IsGivenOrNone regions r → HasNoPlace banks r → ⊥
 place_found regions banks r parts (inl none) nowhere = nowhere.0 none
@@ -265,6 +280,15 @@ data_apart banks (Some i) (Some j) r s (inr other) p p' = λ same.
   where
     pair : r.0 ≡ s.0 → r.1 ≡ s.1 → r ≡ s
     pair e f = rw (e, f) refl
+
+-- a region is another than each of two
+pub first_other : (r s t : ℕ × ℕ) → IsNoRegion t ⊎ ((r ≢ t) × (s ≢ t)) → IsNoRegion t ⊎ (r ≢ t)
+first_other r s t (inl none) = inl none
+first_other r s t (inr others) = inr others.0
+
+pub last_other : (r s t : ℕ × ℕ) → IsNoRegion t ⊎ ((r ≢ t) × (s ≢ t)) → IsNoRegion t ⊎ (s ≢ t)
+last_other r s t (inl none) = inl none
+last_other r s t (inr others) = inr others.1
 
 -- what the code's test of a region says
 pub no_region : (ram : ℕ × ℕ) (r : Bool) → r ≡ (eqb ram.0 0x20000000 && eqb ram.1 0) → r ≡ true → IsNoRegion ram

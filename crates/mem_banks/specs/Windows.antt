@@ -1,4 +1,4 @@
--- The bytes of three regions, handed to somebody for the time of one call. A region is its base and its size.
+-- The bytes of four regions, handed to somebody for the time of one call. A region is its base and its size.
 use Rattle.std.specs.Prelude.{ℕ, ◌+◌, ◌<◌, ◌≤◌, ◌⊎◌, ◌≡◌, ◌≢◌, List, [], length, slice_index_or, Contains, Option, Some, None}
 use Rattle.mem_banks.specs.declared.bank.Bank.{Bank}
 use Rattle.mem_banks.specs.Memory.{Memory, bytes_at, with_bytes}
@@ -22,24 +22,28 @@ AreApart r s = (r.0 + r.1 ≤ s.0) ⊎ (s.0 + s.1 ≤ r.0)
 abbrev pub bytes_of : Memory → ℕ × ℕ → List ℕ
 bytes_of m r = bytes_at m r.0 r.1
 
--- what a user does with bytes of flash, RAM and a further area: those of the flash stay, and it leaves others of both in the RAM
+-- what a user does with bytes of flash, RAM and two further areas: those of the flash stay, and it leaves others of the three in the RAM
 abbrev pub Doing : Type 0 → Type 1
-Doing B = B → List ℕ → List ℕ → List ℕ → B → List ℕ → List ℕ → Type 0
+Doing B = B → List ℕ → List ℕ → List ℕ → List ℕ → B → List ℕ → List ℕ → List ℕ → Type 0
 
--- a user b did its work with the bytes of three regions of a memory; then it is b', and the bytes that it left of the
--- second and the third region stand there
-pub record IsOpened {B : Type 0} (did : Doing B) (m : Memory) (flash ram area : ℕ × ℕ) (b b' : B) (m' : Memory) : Type 0 where
+-- a user b did its work with the bytes of four regions of a memory; then it is b', and the bytes that it left of all but the
+-- first region stand there
+pub record IsOpened {B : Type 0} (did : Doing B) (m : Memory) (flash ram area second : ℕ × ℕ) (b b' : B) (m' : Memory) : Type 0 where
   pub flash_there : IsInMemory m flash
   pub ram_there : IsInRam m ram
   pub area_there : IsInRam m area
+  pub second_there : IsInRam m second
   pub apart : AreApart flash ram
   pub area_apart : AreApart flash area × AreApart ram area
+  pub second_apart : AreApart flash second × AreApart ram second × AreApart area second
   pub after : List ℕ
   pub area_after : List ℕ
-  pub work : did b (bytes_of m flash) (bytes_of m ram) (bytes_of m area) b' after area_after
+  pub second_after : List ℕ
+  pub work : did b (bytes_of m flash) (bytes_of m ram) (bytes_of m area) (bytes_of m second) b' after area_after second_after
   pub size : length after ≡ ram.1
   pub area_size : length area_after ≡ area.1
-  pub left : m' ≡ with_bytes (with_bytes m ram.0 after) area.0 area_after
+  pub second_size : length second_after ≡ second.1
+  pub left : m' ≡ with_bytes (with_bytes (with_bytes m ram.0 after) area.0 area_after) second.0 second_after
 
 -- it is no region: it has no bytes, and begins where the RAM does
 abbrev pub IsNoRegion : ℕ × ℕ → Type 0
@@ -49,14 +53,16 @@ IsNoRegion r = (r.0 ≡ 0x20000000) × (r.1 ≡ 0)
 abbrev pub IsGivenOrNone : List (ℕ × ℕ) → ℕ × ℕ → Type 0
 IsGivenOrNone regions r = IsNoRegion r ⊎ (Contains regions r × (0 < r.1) × (0x20000000 ≤ r.0))
 
--- three of some regions: one in the flash, and two in the RAM, of which each may be none
-pub record AreGiven (regions : List (ℕ × ℕ)) (flash ram area : ℕ × ℕ) : Type 0 where
+-- four of some regions: one in the flash, and three in the RAM, of which each may be none
+pub record AreGiven (regions : List (ℕ × ℕ)) (flash ram area second : ℕ × ℕ) : Type 0 where
   pub flash_given : Contains regions flash
   pub flash_some : 0 < flash.1
   pub below : flash.0 < 0x20000000
   pub ram_given : IsGivenOrNone regions ram
   pub area_given : IsGivenOrNone regions area
+  pub second_given : IsGivenOrNone regions second
   pub other : IsNoRegion area ⊎ (ram ≢ area)
+  pub second_other : IsNoRegion second ⊎ ((ram ≢ second) × (area ≢ second))
 
 -- a bank has the bytes of a region and no others
 abbrev pub IsBankOf : List Bank → ℕ → ℕ × ℕ → Type 0
@@ -87,8 +93,8 @@ IsOne banks (Some k) = k < length banks
 IsOne banks None = Unit {0}
 
 -- a bank of a region of code, and behind it one of a region of the RAM, where there is no area
-abbrev pub AreUsual : List Bank → ℕ → ℕ → ℕ × ℕ → ℕ × ℕ → ℕ × ℕ → Type 0
-AreUsual banks i j flash ram area = (i < j) × IsBankOf banks i flash × IsPlaceOf banks (Some j) ram × IsNoRegion area
+abbrev pub AreUsual : List Bank → ℕ → ℕ → ℕ × ℕ → ℕ × ℕ → ℕ × ℕ → ℕ × ℕ → Type 0
+AreUsual banks i j flash ram area second = (i < j) × IsBankOf banks i flash × IsPlaceOf banks (Some j) ram × IsNoRegion area × IsNoRegion second
 
 -- the bytes of a bank, and what writes over all of them
 abbrev pub bytes_in : List Bank → Option ℕ → Bank → List ℕ
@@ -99,25 +105,44 @@ abbrev pub IsPutIn : List Bank → Option ℕ → List ℕ → List Bank → Typ
 IsPutIn old (Some k) new banks = IsPut old k 0 new banks
 IsPutIn old None new banks = banks ≡ old
 
--- a user did its work with the bytes of two banks and those of an area, and those of the first one are as before
-pub record AreOpened {B : Type 0} (did : Doing B) (old : List Bank) (i : ℕ) (j : Option ℕ) (area : List ℕ) (b b' : B) (banks : List Bank) (left : List ℕ) : Type 0 where
+-- a user did its work with the bytes of two banks and those of two areas, and those of the first one are as before
+pub record AreOpened {B : Type 0} (did : Doing B) (old : List Bank) (i : ℕ) (j : Option ℕ) (area second : List ℕ) (b b' : B) (banks : List Bank) (left second_left : List ℕ) : Type 0 where
   pub after : List ℕ
-  pub work : (d : Bank) → did b (slice_index_or old i d).bytes.items (bytes_in old j d) area b' after left
+  pub work : (d : Bank) → did b (slice_index_or old i d).bytes.items (bytes_in old j d) area second b' after left second_left
   pub size : (d : Bank) → length after ≡ length (bytes_in old j d)
   pub area_size : length left ≡ length area
+  pub second_size : length second_left ≡ length second
   pub between : List Bank
-  pub first : IsPut old i 0 [] between
-  pub second : IsPutIn between j after banks
+  pub first_put : IsPut old i 0 [] between
+  pub second_put : IsPutIn between j after banks
 
--- the same where those of the area are of a bank too
-pub record AreAllOpened {B : Type 0} (did : Doing B) (old : List Bank) (i : ℕ) (j k : Option ℕ) (b b' : B) (banks : List Bank) : Type 0 where
+-- the same where those of the first area are of a bank too
+pub record AreOpenedBeside {B : Type 0} (did : Doing B) (old : List Bank) (i : ℕ) (j k : Option ℕ) (second : List ℕ) (b b' : B) (banks : List Bank) (left : List ℕ) : Type 0 where
   pub after : List ℕ
   pub area_after : List ℕ
-  pub work : (d : Bank) → did b (slice_index_or old i d).bytes.items (bytes_in old j d) (bytes_in old k d) b' after area_after
+  pub work : (d : Bank) → did b (slice_index_or old i d).bytes.items (bytes_in old j d) (bytes_in old k d) second b' after area_after left
   pub size : (d : Bank) → length after ≡ length (bytes_in old j d)
   pub area_size : (d : Bank) → length area_after ≡ length (bytes_in old k d)
+  pub second_size : length left ≡ length second
   pub one : List Bank
   pub two : List Bank
-  pub first : IsPut old i 0 [] one
-  pub second : IsPutIn one j after two
-  pub third : IsPutIn two k area_after banks
+  pub first_put : IsPut old i 0 [] one
+  pub second_put : IsPutIn one j after two
+  pub third_put : IsPutIn two k area_after banks
+
+-- the same where those of both are
+pub record AreAllOpened {B : Type 0} (did : Doing B) (old : List Bank) (i : ℕ) (j k l : Option ℕ) (b b' : B) (banks : List Bank) : Type 0 where
+  pub after : List ℕ
+  pub area_after : List ℕ
+  pub second_after : List ℕ
+  pub work : (d : Bank) → did b (slice_index_or old i d).bytes.items (bytes_in old j d) (bytes_in old k d) (bytes_in old l d) b' after area_after second_after
+  pub size : (d : Bank) → length after ≡ length (bytes_in old j d)
+  pub area_size : (d : Bank) → length area_after ≡ length (bytes_in old k d)
+  pub second_size : (d : Bank) → length second_after ≡ length (bytes_in old l d)
+  pub one : List Bank
+  pub two : List Bank
+  pub three : List Bank
+  pub first_put : IsPut old i 0 [] one
+  pub second_put : IsPutIn one j after two
+  pub third_put : IsPutIn two k area_after three
+  pub fourth_put : IsPutIn three l second_after banks

@@ -1,6 +1,6 @@
 //! Banks of bytes, and where an address is in them.
 
-ghost use Rattle.std.specs.Prelude.{◌≡◌, ◌+◌, ◌*◌, ◌<◌, ◌≤◌, ◌⊎◌, ◌^◌, length, take, drop, IfSome, IfNone, All};
+ghost use Rattle.std.specs.Prelude.{◌≡◌, ◌+◌, ◌*◌, ◌<◌, length, take, drop, IfSome, IfNone, All};
 ghost use Rattle.mem_banks.specs.Memory.{number_of};
 ghost use Rattle.mem_banks.specs.Banks.{IsAt, IsNowhere};
 

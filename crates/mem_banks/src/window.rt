@@ -1,26 +1,33 @@
-//! The bytes of three banks, handed to somebody for the time of one call.
+//! The bytes of four banks, handed to somebody for the time of one call.
 
-ghost use Rattle.std.specs.Prelude.{◌≡◌, ◌*◌, ◌<◌, ℕ, List, IfSome, IfNone, length, Some, None, true, false};
+ghost use Rattle.std.specs.Prelude.{◌≡◌, ◌<◌, ℕ, List, IfSome, IfNone, length, Some, None, true, false};
 ghost use Rattle.mem_banks.specs.Kept.{AreKept};
-ghost use Rattle.mem_banks.specs.Windows.{AreOpened, AreAllOpened, AreUsual, IsBankOf, HasNoBank, IsPlaceOf, HasNoPlace, AreTwo, IsOne};
+ghost use Rattle.mem_banks.specs.Windows.{AreOpened, AreOpenedBeside, AreAllOpened, AreUsual, IsBankOf, HasNoBank, IsPlaceOf, HasNoPlace, AreTwo, IsOne};
 
 use crate::bank::{Bank, find, page};
 use crate::{Memory, RAM};
 use std::alloc::Global;
 use std::mem::swap;
 
-/// Who works with the bytes of three regions while a window on them is open: code, which stays as it is, data in
-/// the RAM, and a further area of the RAM.
+/// Who works with the bytes of four regions while a window on them is open: code, which stays as it is, data in
+/// the RAM, and two further areas of the RAM.
 pub trait WindowUser {
-    /// Before, the bytes of the three regions, after, and the bytes of the second and of the third one after.
-    ghost did: { Self → List ℕ → List ℕ → List ℕ → Self → List ℕ → List ℕ → Type 0 };
+    /// Before, the bytes of the four regions, after, and the bytes of the three in the RAM after.
+    ghost did: { Self → List ℕ → List ℕ → List ℕ → List ℕ → Self → List ℕ → List ℕ → List ℕ → Type 0 };
 
     /// Does its work. No region gets longer or shorter.
-    fn work(&mut self, flash: &mut Vec<u8>, ram: &mut Vec<u8>, area: &mut Vec<u8>)
-        ensures did { did self.old flash.old.items ram.old.items area.old.items self.new ram.new.items area.new.items }
+    fn work(
+        &mut self,
+        flash: &mut Vec<u8>,
+        ram: &mut Vec<u8>,
+        area: &mut Vec<u8>,
+        second: &mut Vec<u8>,
+    )
+        ensures did { did self.old flash.old.items ram.old.items area.old.items second.old.items self.new ram.new.items area.new.items second.new.items }
         ensures flash { flash.new.items ≡ flash.old.items }
         ensures length { length ram.new.items ≡ length ram.old.items }
-        ensures area { length area.new.items ≡ length area.old.items };
+        ensures area { length area.new.items ≡ length area.old.items }
+        ensures second { length second.new.items ≡ length second.old.items };
 }
 
 /// The bank that has the bytes of a region and no others. Most often the table names it.
@@ -82,88 +89,93 @@ fn are_two(first: Option<usize>, second: Option<usize>) -> bool
     }
 }
 
-/// Opens the bytes of two banks, of which that of the code is the first, beside those of an area.
+/// Opens the bytes of two banks, of which that of the code is the first, beside those of two areas.
 #[inline(always)]
 fn open_in_order<B: WindowUser>(
     banks: &mut [Bank],
     flash: usize,
     ram: usize,
     area: &mut Vec<u8>,
+    second: &mut Vec<u8>,
     user: &mut B,
 )
     requires ram { ram < length banks.old }
     requires order { flash < ram }
-    ensures { AreOpened B.did banks.old flash (Some ram) area.old.items user.old user.new banks.new area.new.items }
+    ensures { AreOpened B.did banks.old flash (Some ram) area.old.items second.old.items user.old user.new banks.new area.new.items second.new.items }
 {
     let (front, back) = banks.split_at_mut(ram);
-    user.work(&mut front[flash].bytes, &mut back[0].bytes, area);
+    user.work(&mut front[flash].bytes, &mut back[0].bytes, area, second);
 }
 
-/// Opens the bytes of two banks, beside those of an area.
+/// Opens the bytes of two banks, beside those of two areas.
 fn open_two<B: WindowUser>(
     banks: &mut [Bank],
     flash: usize,
     ram: usize,
     area: &mut Vec<u8>,
+    second: &mut Vec<u8>,
     user: &mut B,
 )
     requires flash { flash < length banks.old }
     requires ram { ram < length banks.old }
     requires apart { flash ≡ ram → ⊥ }
-    ensures { AreOpened B.did banks.old flash (Some ram) area.old.items user.old user.new banks.new area.new.items }
+    ensures { AreOpened B.did banks.old flash (Some ram) area.old.items second.old.items user.old user.new banks.new area.new.items second.new.items }
 {
     if flash < ram {
-        open_in_order(banks, flash, ram, area, user);
+        open_in_order(banks, flash, ram, area, second, user);
     } else {
         let (front, back) = banks.split_at_mut(flash);
-        user.work(&mut back[0].bytes, &mut front[ram].bytes, area);
+        user.work(&mut back[0].bytes, &mut front[ram].bytes, area, second);
     }
 }
 
-/// Opens the bytes of one bank, beside those of an area.
+/// Opens the bytes of one bank, beside those of two areas.
 fn open_one<B: WindowUser>(
     banks: &mut [Bank],
     flash: usize,
     area: &mut Vec<u8>,
+    second: &mut Vec<u8>,
     alloc: Global,
     user: &mut B,
 )
     requires { flash < length banks.old }
-    ensures { AreOpened B.did banks.old flash None area.old.items user.old user.new banks.new area.new.items }
+    ensures { AreOpened B.did banks.old flash None area.old.items second.old.items user.old user.new banks.new area.new.items second.new.items }
 {
     let mut none = Vec::new(alloc);
-    user.work(&mut banks[flash].bytes, &mut none, area);
+    user.work(&mut banks[flash].bytes, &mut none, area, second);
 }
 
-/// Opens the bytes of one bank or two, beside those of an area.
+/// Opens the bytes of one bank or two, beside those of two areas.
 #[inline(always)]
 fn open_beside<B: WindowUser>(
     banks: &mut [Bank],
     flash: usize,
     ram: Option<usize>,
     area: &mut Vec<u8>,
+    second: &mut Vec<u8>,
     alloc: Global,
     user: &mut B,
 )
     requires flash { flash < length banks.old }
     requires ram { IsOne banks.old ram }
     requires apart { AreTwo (Some flash) ram }
-    ensures { AreOpened B.did banks.old flash ram area.old.items user.old user.new banks.new area.new.items }
+    ensures { AreOpened B.did banks.old flash ram area.old.items second.old.items user.old user.new banks.new area.new.items second.new.items }
 {
     match ram {
-        Some(k) => open_two(banks, flash, k, area, user),
-        None => open_one(banks, flash, area, alloc, user),
+        Some(k) => open_two(banks, flash, k, area, second, user),
+        None => open_one(banks, flash, area, second, alloc, user),
     }
 }
 
-/// Opens the bytes of one bank or two and of that of an area. Its bytes are taken out of it meanwhile. Most tasks have
-/// no area, so this is a function of its own.
+/// Opens the bytes of one bank or two and of that of an area, beside those of a second one. Its bytes are taken out of it
+/// meanwhile. Most tasks have no area, so this is a function of its own.
 #[inline(never)]
 fn open_area<B: WindowUser>(
     banks: &mut [Bank],
     flash: usize,
     ram: Option<usize>,
     area: usize,
+    second: &mut Vec<u8>,
     alloc: Global,
     user: &mut B,
 )
@@ -173,21 +185,22 @@ fn open_area<B: WindowUser>(
     requires apart { AreTwo (Some flash) ram }
     requires beside { AreTwo (Some flash) (Some area) }
     requires two { AreTwo ram (Some area) }
-    ensures { AreAllOpened B.did banks.old flash ram (Some area) user.old user.new banks.new }
+    ensures { AreOpenedBeside B.did banks.old flash ram (Some area) second.old.items user.old user.new banks.new second.new.items }
 {
     let mut bytes = Vec::new(alloc);
     swap(&mut banks[area].bytes, &mut bytes);
-    open_beside(banks, flash, ram, &mut bytes, alloc, user);
+    open_beside(banks, flash, ram, &mut bytes, second, alloc, user);
     swap(&mut banks[area].bytes, &mut bytes);
 }
 
-/// Opens the bytes of one bank or two, and of that of an area, where there is one.
+/// Opens the bytes of one bank or two, and of that of an area, where there is one, beside those of a second one.
 #[inline(always)]
-fn open_all<B: WindowUser>(
+fn open_areas<B: WindowUser>(
     banks: &mut [Bank],
     flash: usize,
     ram: Option<usize>,
     area: Option<usize>,
+    second: &mut Vec<u8>,
     alloc: Global,
     user: &mut B,
 )
@@ -197,13 +210,75 @@ fn open_all<B: WindowUser>(
     requires apart { AreTwo (Some flash) ram }
     requires beside { AreTwo (Some flash) area }
     requires two { AreTwo ram area }
-    ensures { AreAllOpened B.did banks.old flash ram area user.old user.new banks.new }
+    ensures { AreOpenedBeside B.did banks.old flash ram area second.old.items user.old user.new banks.new second.new.items }
 {
     match area {
-        Some(k) => open_area(banks, flash, ram, k, alloc, user),
+        Some(k) => open_area(banks, flash, ram, k, second, alloc, user),
         None => {
             let mut none = Vec::new(alloc);
-            open_beside(banks, flash, ram, &mut none, alloc, user);
+            open_beside(banks, flash, ram, &mut none, second, alloc, user);
+        }
+    }
+}
+
+/// Opens the bytes of up to three banks and of that of a second area. Its bytes are taken out of it meanwhile. Few tasks have two
+/// areas, so this is a function of its own.
+#[inline(never)]
+fn open_second<B: WindowUser>(
+    banks: &mut [Bank],
+    flash: usize,
+    ram: Option<usize>,
+    area: Option<usize>,
+    second: usize,
+    alloc: Global,
+    user: &mut B,
+)
+    requires flash { flash < length banks.old }
+    requires ram { IsOne banks.old ram }
+    requires area { IsOne banks.old area }
+    requires second { second < length banks.old }
+    requires apart { AreTwo (Some flash) ram }
+    requires beside { AreTwo (Some flash) area }
+    requires two { AreTwo ram area }
+    requires second_beside { AreTwo (Some flash) (Some second) }
+    requires second_two { AreTwo ram (Some second) }
+    requires areas { AreTwo area (Some second) }
+    ensures { AreAllOpened B.did banks.old flash ram area (Some second) user.old user.new banks.new }
+{
+    let mut bytes = Vec::new(alloc);
+    swap(&mut banks[second].bytes, &mut bytes);
+    open_areas(banks, flash, ram, area, &mut bytes, alloc, user);
+    swap(&mut banks[second].bytes, &mut bytes);
+}
+
+/// Opens the bytes of one bank or two, and of those of two areas, where there are some.
+#[inline(always)]
+fn open_all<B: WindowUser>(
+    banks: &mut [Bank],
+    flash: usize,
+    ram: Option<usize>,
+    area: Option<usize>,
+    second: Option<usize>,
+    alloc: Global,
+    user: &mut B,
+)
+    requires flash { flash < length banks.old }
+    requires ram { IsOne banks.old ram }
+    requires area { IsOne banks.old area }
+    requires second { IsOne banks.old second }
+    requires apart { AreTwo (Some flash) ram }
+    requires beside { AreTwo (Some flash) area }
+    requires two { AreTwo ram area }
+    requires second_beside { AreTwo (Some flash) second }
+    requires second_two { AreTwo ram second }
+    requires areas { AreTwo area second }
+    ensures { AreAllOpened B.did banks.old flash ram area second user.old user.new banks.new }
+{
+    match second {
+        Some(k) => open_second(banks, flash, ram, area, k, alloc, user),
+        None => {
+            let mut none = Vec::new(alloc);
+            open_areas(banks, flash, ram, area, &mut none, alloc, user);
         }
     }
 }
@@ -225,11 +300,12 @@ fn usual_banks(
     flash: (u32, u32),
     ram: (u32, u32),
     area: (u32, u32),
+    second: (u32, u32),
 ) -> Option<(usize, usize)>
     requires { AreKept table.now banks.now }
-    ensures { IfSome result (λ p. AreUsual banks.now p.0 p.1 flash ram area) }
+    ensures { IfSome result (λ p. AreUsual banks.now p.0 p.1 flash ram area second) }
 {
-    if area != (RAM, 0) || ram.0 < RAM || ram.1 == 0 {
+    if area != (RAM, 0) || second != (RAM, 0) || ram.0 < RAM || ram.1 == 0 {
         return None;
     }
     let code = table[page(flash.0)] as usize;
@@ -251,10 +327,11 @@ fn open_usual<B: WindowUser>(
 )
     requires ram { ram < length banks.old }
     requires order { flash < ram }
-    ensures { AreAllOpened B.did banks.old flash (Some ram) None user.old user.new banks.new }
+    ensures { AreAllOpened B.did banks.old flash (Some ram) None None user.old user.new banks.new }
 {
     let mut none = Vec::new(alloc);
-    open_in_order(banks, flash, ram, &mut none, user);
+    let mut no_second = Vec::new(alloc);
+    open_in_order(banks, flash, ram, &mut none, &mut no_second, user);
 }
 
 impl Memory {
@@ -267,10 +344,11 @@ impl Memory {
         flash: (u32, u32),
         ram: (u32, u32),
         area: (u32, u32),
+        second: (u32, u32),
         user: &mut B,
     ) -> bool
-        ensures opened { result ≡ true → IsOpened B.did self.old.bytes flash ram area user.old user.new self.new.bytes }
-        ensures given { AreGiven self.old.regions flash ram area → result ≡ true }
+        ensures opened { result ≡ true → IsOpened B.did self.old.bytes flash ram area second user.old user.new self.new.bytes }
+        ensures given { AreGiven self.old.regions flash ram area second → result ≡ true }
         ensures regions { self.new.regions ≡ self.old.regions }
         ensures kept { result ≡ false → self.new ≡ self.old }
         ensures left { result ≡ false → user.new ≡ user.old }
@@ -284,15 +362,21 @@ impl Memory {
         let Some(more) = ram_bank(&self.banks, &self.table, area) else {
             return false;
         };
+        let Some(last) = ram_bank(&self.banks, &self.table, second) else {
+            return false;
+        };
         if !are_two(Some(code), data) || !are_two(Some(code), more) || !are_two(data, more) {
             return false;
         }
-        open_all(&mut self.banks, code, data, more, self.alloc, user);
+        if !are_two(Some(code), last) || !are_two(data, last) || !are_two(more, last) {
+            return false;
+        }
+        open_all(&mut self.banks, code, data, more, last, self.alloc, user);
         true
     }
 
-    /// Opens the bytes of three regions, by base and size, where each has a bank of its own and the
-    /// second and the third one lie in the RAM, or have no bytes and begin where the RAM does. Else nothing
+    /// Opens the bytes of four regions, by base and size, where each has a bank of its own and all but the
+    /// first one lie in the RAM, or have no bytes and begin where the RAM does. Else nothing
     /// changes, and the answer is false. Regions that were given to `open` are opened.
     #[inline(always)]
     pub fn open_window<B: WindowUser>(
@@ -300,18 +384,26 @@ impl Memory {
         flash: (u32, u32),
         ram: (u32, u32),
         area: (u32, u32),
+        second: (u32, u32),
         user: &mut B,
     ) -> bool
-        ensures opened { result ≡ true → IsOpened B.did self.old.bytes flash ram area user.old user.new self.new.bytes }
-        ensures given { AreGiven self.old.regions flash ram area → result ≡ true }
+        ensures opened { result ≡ true → IsOpened B.did self.old.bytes flash ram area second user.old user.new self.new.bytes }
+        ensures given { AreGiven self.old.regions flash ram area second → result ≡ true }
         ensures regions { self.new.regions ≡ self.old.regions }
         ensures kept { result ≡ false → self.new ≡ self.old }
         ensures left { result ≡ false → user.new ≡ user.old }
     {
-        if let Some((code, data)) = usual_banks(&self.banks, &self.table, flash, ram, area) {
+        if let Some((code, data)) = usual_banks(
+            &self.banks,
+            &self.table,
+            flash,
+            ram,
+            area,
+            second,
+        ) {
             open_usual(&mut self.banks, code, data, self.alloc, user);
             return true;
         }
-        self.open_any(flash, ram, area, user)
+        self.open_any(flash, ram, area, second, user)
     }
 }

@@ -1,8 +1,8 @@
 -- Who is alone.
-use Rattle.std.proofs.Common.{◌≡◌, ◌⊎◌, inl, inr, ◌+◌, ◌<◌, ◌≤◌, ℕ, zero, suc, Bool, true, false, ◌&&◌, ◌||◌, not, leb, ltb, List, [], ◌∷◌, refl, sym, ◌∙◌, ap, arith, ltb-true, eq-eqb, eqb}
+use Rattle.std.proofs.Common.{◌≡◌, ◌⊎◌, inl, inr, ◌+◌, ◌<◌, ◌≤◌, ℕ, zero, suc, Bool, true, false, ◌&&◌, ◌||◌, not, leb, ltb, List, [], ◌∷◌, refl, sym, ◌∙◌, ap, arith, ltb-true, eq-eqb}
 use Rattle.std.specs.Prelude.{Contains}
 use Rattle.std.specs.List.{list_any, list_all}
-use Rattle.std.proofs.lemmas.Bool.{leb-true, false≢true, not-false, and_parts, not-true}
+use Rattle.std.proofs.lemmas.Bool.{leb-true, false≢true, and_parts, not-true}
 use Rattle.region_check.specs.declared.Region.{Region}
 use Rattle.region_check.specs.Rights.{is_inside, is_same_place, is_alone, SameOrApart}
 

@@ -1,6 +1,6 @@
 -- The families of instructions, each of which one function executes.
 use Rattle.thumb_insn.specs.declared.Insn.{Insn}
-use Rattle.thumb_insn.specs.declared.Insn.TheVariants.{AddsReg, SubsReg, AddsImm3, SubsImm3, AddsImm8, SubsImm8, CmpImm, CmpHigh, ShiftImm, MovsImm, Data, Change, Mrs, AddHigh, MovHigh, Adr, AddSp, RaiseSp, LowerSp, LdrLiteral, LoadReg, LoadImm, LoadSp, StoreReg, StoreImm, StoreSp, Push, Stm, Bx, Blx, BranchIf, Branch, Bl, Cpsie, Cpsid, Hint, Fence, Msr}
+use Rattle.thumb_insn.specs.declared.Insn.TheVariants.{AddsReg, SubsReg, AddsImm3, SubsImm3, AddsImm8, SubsImm8, CmpImm, CmpHigh, ShiftImm, MovsImm, Data, Change, Mrs, AddHigh, MovHigh, Adr, AddSp, RaiseSp, LowerSp, LdrLiteral, LoadReg, LoadImm, LoadSp, StoreReg, StoreImm, StoreSp, Push, Stm, Ldm, Pop, Svc, Bx, Blx, BranchIf, Branch, Bl, Cpsie, Cpsid, Hint, Fence, Msr}
 
 -- sums and differences
 abbrev pub IsSum : Insn → Type 0
@@ -76,7 +76,7 @@ IsSystem (Fence barrier i) = Unit {0}
 IsSystem (Msr n) = Unit {0}
 IsSystem i = ⊥
 
--- what moves several words, branches to a register, is a system call, or is rare
+-- what branches to a register, or is rare
 abbrev pub IsRest : Insn → Type 0
 IsRest (AddsReg d n m) = ⊥
 IsRest (SubsReg d n m) = ⊥
@@ -107,4 +107,9 @@ IsRest (StoreSp t i) = ⊥
 IsRest (BranchIf cond offset) = ⊥
 IsRest (Branch offset) = ⊥
 IsRest (Bl offset) = ⊥
+IsRest (Push list lr) = ⊥
+IsRest (Stm n list) = ⊥
+IsRest (Ldm n list) = ⊥
+IsRest (Pop list pc) = ⊥
+IsRest (Svc i) = ⊥
 IsRest i = Unit {0}

@@ -1,5 +1,5 @@
 //! Instructions that reach no memory.
-ghost use Rattle.std.specs.Prelude.{◌≡◌, ◌<◌, ℕ, Bool, [], true, false};
+ghost use Rattle.std.specs.Prelude.{◌≡◌, ◌<◌, [], true};
 ghost use Rattle.thumb_exec.specs.Effect.{Next, go_past, put, get, with_flags, nz, nzc, data_effect, sum_to, tested};
 ghost use Rattle.words_core.specs.Words.{awc, complement};
 

@@ -1,5 +1,5 @@
 //! What an instruction sees of memory.
-ghost use Rattle.std.specs.Prelude.{◌≡◌, ℕ, ◌<◌, ◌≤◌, ◌+◌, ◌%◌, ◌^◌, Option, Some, None, MatchOption, MatchResult, IfOk, IfErr, ◌*◌, true, false};
+ghost use Rattle.std.specs.Prelude.{◌≡◌, ℕ, ◌<◌, ◌≤◌, ◌+◌, ◌%◌, ◌^◌, Option, Some, None, MatchResult, IfOk, IfErr, ◌*◌, true, false};
 ghost use Rattle.thumb_exec.specs.Sizes.{IsSize};
 ghost use Rattle.region_check.specs.declared.Right.{Right as Rights};
 ghost use Rattle.region_check.specs.declared.Right.TheVariants.{Read, Write, Execute};

@@ -1,6 +1,6 @@
 //! Branches, and what goes to any register.
-ghost use Rattle.std.specs.Prelude.{◌≡◌, ◌<◌, ◌/◌, ◌*◌, ◌%◌, ◌-◌, ℕ, MatchOption, Bool, [], true, false};
-ghost use Rattle.thumb_exec.specs.Effect.{Next, Acts, operand, sum, place, holds_if, jump, target, word_of, branch_to, link_to, linked, base, changed, apsr, flags_from, put, pc, Effects};
+ghost use Rattle.std.specs.Prelude.{◌≡◌, ◌<◌, ◌/◌, ◌*◌, ◌%◌, ◌-◌, MatchOption, [], true, false};
+ghost use Rattle.thumb_exec.specs.Effect.{Next, operand, place, holds_if, target, branch_to, link_to, linked, base, changed, apsr, flags_from, Effects};
 
 use crate::arith::{get, go_past};
 use crate::cpu::{Cpu, Outcome};

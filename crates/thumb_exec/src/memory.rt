@@ -1,5 +1,5 @@
 //! Loads and stores of one unit.
-ghost use Rattle.std.specs.Prelude.{◌≡◌, ◌<◌, ◌*◌, ◌%◌, ◌^◌, ℕ, Bool, [], true, false};
+ghost use Rattle.std.specs.Prelude.{◌≡◌, ◌<◌, ◌*◌, ◌%◌, ◌^◌, true, false};
 ghost use Rattle.thumb_exec.specs.declared.cpu.Outcome.TheVariants as outcome;
 ghost use Rattle.thumb_exec.specs.Effect.{Next, Acts, load_effect, store_effect, widened, load_size, size_of};
 

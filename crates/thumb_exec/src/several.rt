@@ -1,6 +1,6 @@
 //! Loads and stores of several words, all or nothing: each word is tested before the first moves.
 //! A mask has bit k for register k.
-ghost use Rattle.std.specs.Prelude.{◌≡◌, ◌<◌, ◌≤◌, ◌+◌, ◌/◌, ◌%◌, ◌^◌, ℕ, nat_eq, Bool, [], ◌∷◌, true, false, if◌then◌else◌, None, IfSome, IfNone};
+ghost use Rattle.std.specs.Prelude.{◌≡◌, ◌<◌, ◌≤◌, ◌+◌, ◌/◌, ◌%◌, ◌^◌, ℕ, nat_eq, ◌∷◌, true, false, if◌then◌else◌, None, IfSome, IfNone};
 ghost use Rattle.region_check.specs.declared.Right.{Right as Rights};
 ghost use Rattle.region_check.specs.declared.Right.TheVariants as rights;
 ghost use Rattle.thumb_exec.specs.Effect.{Acts, Moves, transfers, first_refused, stores_of, loads_of, loaded_all, count, store_all, effect, go_past, put};
@@ -158,6 +158,7 @@ pub fn mask_of(list: u8, more: bool, bit: u16) -> u16
 }
 
 /// Stores the registers of a mask from an address on; then a word goes to a register.
+#[inline(never)]
 pub fn store_all<B: Bus>(
     cpu: &mut Cpu,
     bus: &mut B,
@@ -190,6 +191,7 @@ fn has(mask: u16, r: Reg) -> bool
 
 /// Loads the registers of a mask from a register on, and raises it unless it is loaded.
 #[tactic(auto, unfolding(crate::specs::Effect::effect))]
+#[inline(never)]
 pub fn ldm<B: Bus>(cpu: &mut Cpu, bus: &mut B, n: Reg, list: u8) -> Outcome
     requires { n.number < 8 }
     ensures { Acts B.stored B.took cpu.old cpu.new bus.old bus.new result (effect (B.refuses bus.old) (B.holds bus.old) cpu.old (insns.Ldm n list)) }
@@ -213,6 +215,7 @@ pub fn ldm<B: Bus>(cpu: &mut Cpu, bus: &mut B, n: Reg, list: u8) -> Outcome
 
 /// Loads the registers of a mask from SP on, and raises it; PC last, as a branch.
 #[tactic(auto, unfolding(crate::specs::Effect::effect))]
+#[inline(never)]
 pub fn pop<B: Bus>(cpu: &mut Cpu, bus: &mut B, list: u8, has_pc: bool) -> Outcome
     ensures { Acts B.stored B.took cpu.old cpu.new bus.old bus.new result (effect (B.refuses bus.old) (B.holds bus.old) cpu.old (insns.Pop list has_pc)) }
 {

@@ -1,5 +1,5 @@
 //! One instruction, row by row of the table, in families that each a function executes.
-ghost use Rattle.std.specs.Prelude.{◌≡◌, ◌<◌, ℕ, Bool, [], true, false};
+ghost use Rattle.std.specs.Prelude.{◌≡◌, ◌<◌, [], true, false};
 ghost use Rattle.thumb_exec.specs.Effect.{Acts, Effects, Halts, Next, Refusals, Contents, effect, load_effect, store_effect, store_all, sum_to, put, go_past, shifted, sum, get};
 ghost use Rattle.thumb_exec.specs.declared.cpu.Outcome.TheVariants as outcome;
 ghost use Rattle.thumb_exec.specs.Families.{IsSum, IsData, IsAddress, IsBranch, IsJump, IsSystem, IsLoad, IsStore, IsStoreAll, IsRest};
@@ -300,23 +300,16 @@ fn storing_all(cpu: &Cpu, insn: Insn) -> (u16, u32, Reg, u32)
     }
 }
 
-/// Executes what moves several words, branches to a register, is a system call, or is rare.
-#[tactic(auto, using(crate::proofs::Acting::acts_next, crate::proofs::Acting::acts_of), unfolding(crate::specs::Effect::effect))]
+/// Executes what branches to a register, or is rare.
+#[tactic(auto, unfolding(crate::specs::Effect::effect))]
 #[inline(never)]
-fn rest<B: Bus>(cpu: &mut Cpu, insn: Insn, bus: &mut B) -> Outcome
+fn rest(cpu: &mut Cpu, insn: Insn) -> Outcome
     requires range { InRange insn }
     requires rest { IsRest insn }
-    ensures { Acts B.stored B.took cpu.old cpu.new bus.old bus.new result (effect (B.refuses bus.old) (B.holds bus.old) cpu.old insn) }
+    ensures { (refuses : Refusals) (holds : Contents) → Effects cpu.old cpu.new result (effect refuses holds cpu.old insn) }
 {
     match insn {
-        Insn::Push { .. } | Insn::Stm { .. } => {
-            let (mask, addr, d, value) = storing_all(cpu, insn);
-            store_all(cpu, bus, mask, addr, d, value)
-        }
-        Insn::Ldm { n, list } => ldm(cpu, bus, n, list),
-        Insn::Pop { list, pc } => pop(cpu, bus, list, pc),
         Insn::Bx { .. } | Insn::Blx { .. } => jump(cpu, insn),
-        Insn::Svc { .. } => Outcome::Call,
         Insn::Bkpt { value } => Outcome::Trap(Fault::breakpoint(value)),
         Insn::Cpsie | Insn::Cpsid | Insn::Hint { .. } | Insn::Fence { .. } | Insn::Msr { .. } => {
             system(cpu, insn);
@@ -377,7 +370,14 @@ fn step<B: Bus>(cpu: &mut Cpu, insn: Insn, bus: &mut B) -> Outcome
             let (size, t, addr) = storing(cpu, insn);
             store(cpu, bus, size, t, addr)
         }
-        _ => rest(cpu, insn, bus),
+        Insn::Push { .. } | Insn::Stm { .. } => {
+            let (mask, addr, d, value) = storing_all(cpu, insn);
+            store_all(cpu, bus, mask, addr, d, value)
+        }
+        Insn::Ldm { n, list } => ldm(cpu, bus, n, list),
+        Insn::Pop { list, pc } => pop(cpu, bus, list, pc),
+        Insn::Svc { .. } => Outcome::Call,
+        _ => rest(cpu, insn),
     }
 }
 

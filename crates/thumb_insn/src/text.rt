@@ -1,5 +1,5 @@
 //! The text of an instruction, piece by piece.
-ghost use Rattle.std.specs.Prelude.{◌≡◌, ◌≤◌, ◌<◌, ◌+◌, ◌++◌, [], ◌∷◌, length, map, codes, decimal, Bool, true, false, if◌then◌else◌, nat_eq};
+ghost use Rattle.std.specs.Prelude.{◌≡◌, ◌≤◌, ◌<◌, ◌+◌, ◌++◌, [], ◌∷◌, map, codes, decimal, true, false, if◌then◌else◌};
 ghost use Rattle.arrayvec.specs.ArrayString.{array_string_len};
 ghost use Rattle.thumb_insn.specs.Fields.{is_listed};
 ghost use Rattle.thumb_insn.specs.Text.{branch_target, literal_target, register_name, reg_text, hex_digit, hex_word, place, joined, low_registers, is_empty, and_also, braces, shift_text, op_text, hint_text, line, insn_text, raised};

@@ -23,7 +23,7 @@ use Rattle.thumb_step.specs.Did.{IsStored, IsTaken, Did}
 -- ## Moves
 
 pub kept : (v v' : View) → v' ≡ v → Keeps v v'
-kept v v' e = rw e record { flash_base = refl; flash = refl; readable = refl; code_base = refl; code_size = refl; ram_base = refl; size = refl; area_base = refl; area_writable = refl; area_size = refl }
+kept v v' e = rw e record { flash_base = refl; flash = refl; readable = refl; code_base = refl; code_size = refl; ram_base = refl; size = refl; area_base = refl; area_writable = refl; area_size = refl; second_base = refl; second_writable = refl; second_size = refl }
 
 pub kept_on : (u v w : View) → Keeps u v → Keeps v w → Keeps u w
 kept_on u v w a b = record {
@@ -37,6 +37,9 @@ kept_on u v w a b = record {
   area_base = b.area_base ∙ a.area_base;
   area_writable = b.area_writable ∙ a.area_writable;
   area_size = b.area_size ∙ a.area_size;
+  second_base = b.second_base ∙ a.second_base;
+  second_writable = b.second_writable ∙ a.second_writable;
+  second_size = b.second_size ∙ a.second_size;
 }
 
 moves_put : (ms : List Move) (w w' : Window) → Moves IsStored IsTaken w ms w' → view_of w' ≡ fold put (view_of w) ms
@@ -50,7 +53,7 @@ moves_keep (Puts x ∷ ms) w w' e = kept_on (view_of w) (view_of e.0) (view_of w
 moves_keep (Takes a n ∷ ms) w w' e = kept_on (view_of w) (view_of e.0) (view_of w') (kept (view_of w) (view_of e.0) (ap view_of e.1)) (moves_keep ms e.0 w' e.2)
 
 pub inside_again : (v w : View) (x : Move) → Keeps v w → IsInside w x → IsInside v x
-inside_again v w (Puts x) k h = (h.0, rw (← k.ram_base, ← k.size, ← k.area_base, ← k.area_size, ← k.area_writable) h.1)
+inside_again v w (Puts x) k h = (h.0, rw (← k.ram_base, ← k.size, ← k.area_base, ← k.area_size, ← k.area_writable, ← k.second_base, ← k.second_size, ← k.second_writable) h.1)
 inside_again v w (Takes a n) k h = tt
 
 moves_inside : (ms : List Move) (w w' : Window) → Moves IsStored IsTaken w ms w' → AreInside (view_of w) ms

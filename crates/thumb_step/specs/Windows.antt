@@ -1,4 +1,4 @@
--- Instructions on end of a processor that reaches three runs of bytes, and no others.
+-- Instructions on end of a processor that reaches four runs of bytes, and no others.
 use Rattle.std.specs.Prelude.{◌≡◌, ◌≤◌, ℕ, zero, suc, ◌+◌, ◌-◌, ◌/◌, Bool, true, false, ◌&&◌, ◌||◌, if◌then◌else◌, nat_eq, nat_le, Ok, List, length, take, drop, fold, Option, Some, None, Contains}
 use Rattle.mem_banks.specs.Memory.{number_of, pasted}
 use Rattle.region_check.specs.declared.Right.TheVariants.{Read, Write, Execute}
@@ -12,7 +12,7 @@ use Rattle.words_core.specs.Regs.{reg_at, program_counter}
 use Rattle.thumb_step.specs.declared.window.Window.{Window}
 
 -- what a processor reaches: bytes of the flash from an address on, of which it may execute a stretch, and perhaps read all, bytes that
--- it may read and write, and an area that it may read, and perhaps write
+-- it may read and write, and two areas that it may read, and perhaps write
 pub record View : Type 0 where
   pub flash_base : ℕ
   pub flash : List ℕ
@@ -24,6 +24,9 @@ pub record View : Type 0 where
   pub area_base : ℕ
   pub area : List ℕ
   pub area_writable : Bool
+  pub second_base : ℕ
+  pub second : List ℕ
+  pub second_writable : Bool
 
 -- ## What it may do with which bytes
 
@@ -48,12 +51,24 @@ abbrev pub given : Bool → ℕ → Option ℕ
 given true a = None
 given false a = Some a
 
--- the first of RAM, flash and area that has all of n bytes says whether they may be read, and what they hold
+-- whether the first of the two areas that has all of n bytes may be written
+abbrev pub may_write_area : View → ℕ → ℕ → Bool
+may_write_area v a n = if has v.area_base v.area a n then v.area_writable else has v.second_base v.second a n && v.second_writable
+
+-- whether bytes that the RAM does not have may be read
+abbrev pub may_read_beyond : View → ℕ → ℕ → Bool
+may_read_beyond v a n = if has v.flash_base v.flash a n then v.readable else has v.area_base v.area a n || has v.second_base v.second a n
+
+-- the first of RAM, flash and areas that has all of n bytes says whether they may be read, and what they hold
 abbrev pub may_read : View → ℕ → ℕ → Bool
-may_read v a n = has v.ram_base v.ram a n || (if has v.flash_base v.flash a n then v.readable else has v.area_base v.area a n)
+may_read v a n = has v.ram_base v.ram a n || may_read_beyond v a n
 
 abbrev pub may_write : View → ℕ → ℕ → Bool
-may_write v a n = has v.ram_base v.ram a n || (v.area_writable && has v.area_base v.area a n)
+may_write v a n = has v.ram_base v.ram a n || may_write_area v a n
+
+-- what n bytes of the areas hold
+abbrev pub held_in_area : View → ℕ → ℕ → ℕ
+held_in_area v a n = if has v.area_base v.area a n then number_in v.area_base v.area a n else number_in v.second_base v.second a n
 
 abbrev pub refused_by : View → Refusals
 refused_by v a n Execute = given (has_code v a n) a
@@ -63,7 +78,7 @@ refused_by v a n Write = given (may_write v a n) a
 abbrev pub held_by : View → Contents
 held_by v a n =
     if has v.ram_base v.ram a n then number_in v.ram_base v.ram a n
-    else (if has v.flash_base v.flash a n then number_in v.flash_base v.flash a n else number_in v.area_base v.area a n)
+    else (if has v.flash_base v.flash a n then number_in v.flash_base v.flash a n else held_in_area v a n)
 
 -- a halfword of the stretch, as the flash has it
 pub record IsFetched (v : View) (a half : ℕ) : Type 0 where
@@ -72,11 +87,17 @@ pub record IsFetched (v : View) (a half : ℕ) : Type 0 where
 
 -- ## Moves
 
--- what it reaches after a store in the RAM, or else in the area; a load takes nothing there
+-- what it reaches after a store in one of the areas
+abbrev pub write_area : View → Store → View
+write_area v x =
+    if has v.area_base v.area x.addr x.bytes then record v { area = pasted v.area (x.addr - v.area_base) (bytes_of x.value x.bytes) }
+    else record v { second = pasted v.second (x.addr - v.second_base) (bytes_of x.value x.bytes) }
+
+-- the same in the RAM, or else in an area; a load takes nothing there
 abbrev pub write : View → Store → View
 write v x =
     if has v.ram_base v.ram x.addr x.bytes then record v { ram = pasted v.ram (x.addr - v.ram_base) (bytes_of x.value x.bytes) }
-    else record v { area = pasted v.area (x.addr - v.area_base) (bytes_of x.value x.bytes) }
+    else write_area v x
 
 abbrev pub put : View → Move → View
 put v (Puts x) = write v x
@@ -126,6 +147,9 @@ pub record Keeps (v v' : View) : Type 0 where
   pub area_base : v'.area_base ≡ v.area_base
   pub area_writable : v'.area_writable ≡ v.area_writable
   pub area_size : length v'.area ≡ length v.area
+  pub second_base : v'.second_base ≡ v.second_base
+  pub second_writable : v'.second_writable ≡ v.second_writable
+  pub second_size : length v'.second ≡ length v.second
 
 -- ## The code's window
 
@@ -142,6 +166,9 @@ view_of w =
       area_base = w.area_base;
       area = w.area.items;
       area_writable = w.area_writable;
+      second_base = w.second_base;
+      second = w.second.items;
+      second_writable = w.second_writable;
     }
 
 -- the stretch lies within the flash, which ends below the RAM

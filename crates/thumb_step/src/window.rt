@@ -1,13 +1,13 @@
-//! Instructions on end of a processor whose flash, RAM and further area lie in three vectors of bytes. An access is
+//! Instructions on end of a processor whose flash, RAM and further areas lie in four vectors of bytes. An access is
 //! one test of its place, and no look-up.
-ghost use Rattle.std.specs.Prelude.{◌≡◌, ◌⊎◌, ℕ, ◌+◌, ◌*◌, ◌/◌, ◌%◌, ◌^◌, ◌≤◌, ◌<◌, None, Some, true, false, if◌then◌else◌, MatchOption, MatchResult, IfOk, IfErr, length, take, drop, vec_len};
+ghost use Rattle.std.specs.Prelude.{◌≡◌, ◌+◌, ◌*◌, ◌/◌, ◌≤◌, ◌<◌, None, Some, true, false, MatchOption, MatchResult, IfOk, IfErr, length, take, drop, vec_len};
 ghost use Rattle.mem_banks.specs.Memory.{number_of, pasted};
 ghost use Rattle.region_check.specs.declared.Right.TheVariants.{Read, Write};
 ghost use Rattle.thumb_exec.specs.Effect.{Halts};
 ghost use Rattle.thumb_exec.specs.Sizes.{IsSize};
 ghost use Rattle.thumb_exec.specs.Fetch.{step_effect};
 ghost use Rattle.words_core.specs.Regs.{reg_at, program_counter};
-ghost use Rattle.thumb_step.specs.Windows.{has, has_code, code_places, IsFetched, refused_by, held_by, view_of, Glides, GoesOn, Keeps, IsApart, is_at_syscall, IsAtSyscall};
+ghost use Rattle.thumb_step.specs.Windows.{has, has_code, may_read_beyond, may_write_area, code_places, IsFetched, refused_by, held_by, view_of, Glides, GoesOn, Keeps, IsApart, is_at_syscall, IsAtSyscall};
 ghost use Rattle.thumb_step.specs.Did.{Did, IsStored, IsTaken};
 
 use region_check::Right;
@@ -19,8 +19,8 @@ use thumb_insn::{Decoded, Insn};
 use words_core::PROGRAM_COUNTER;
 
 /// What a processor reaches: the flash, of which it may execute a stretch, and perhaps read all, the RAM, which it may read and
-/// write, and an area, which it may read, and perhaps write, each from an address on. Only accesses beyond flash and
-/// RAM look at the area, so that the others have no test more.
+/// write, and two areas, which it may read, and perhaps write, each from an address on. Only accesses beyond flash and
+/// RAM look at the areas, and only those beyond the first one at the second, so that the others have no test more.
 #[derive(Drop)]
 pub struct Window {
     pub flash: Vec<u8>,
@@ -39,6 +39,11 @@ pub struct Window {
 
     /// Whether the area may be written.
     pub area_writable: bool,
+    pub second: Vec<u8>,
+    pub second_base: u32,
+
+    /// Whether the second area may be written.
+    pub second_writable: bool,
 }
 
 /// A processor and what it reaches.
@@ -126,6 +131,26 @@ impl Window {
         has(self.area_base, &self.area, addr, n)
     }
 
+    /// Whether the second area has all of n bytes.
+    #[inline(always)]
+    fn has_second(&self, addr: u32, n: u32) -> bool
+        ensures { result ≡ has self.now.second_base self.now.second.items addr n }
+    {
+        has(self.second_base, &self.second, addr, n)
+    }
+
+    /// Whether bytes that the RAM does not have may be written.
+    #[inline(never)]
+    fn writes_area(&self, addr: u32, n: u32) -> bool
+        ensures { result ≡ may_write_area (view_of self.now) addr n }
+    {
+        if self.has_area(addr, n) {
+            self.area_writable
+        } else {
+            self.has_second(addr, n) && self.second_writable
+        }
+    }
+
     /// Whether the flash has all of n bytes, and all of them lie in the stretch.
     #[inline(always)]
     fn has_code(&self, addr: u32, n: u32) -> bool
@@ -182,16 +207,34 @@ impl Window {
     /// Whether bytes that the RAM does not have may be read.
     #[inline(never)]
     fn reads_beyond(&self, addr: u32, n: u32) -> bool
-        ensures { result ≡ (if has self.now.flash_base self.now.flash.items addr n then self.now.readable else has self.now.area_base self.now.area.items addr n) }
+        ensures { result ≡ may_read_beyond (view_of self.now) addr n }
     {
         if self.has_flash(addr, n) {
             self.readable
         } else {
-            self.has_area(addr, n)
+            self.has_area(addr, n) || self.has_second(addr, n)
         }
     }
 
-    /// A load of bytes that the RAM does not have: of the flash, or else of the area.
+    /// A load of bytes that neither the RAM nor the flash has: of an area.
+    #[inline(never)]
+    fn load_area(&self, addr: u32, n: u32) -> Result<u32, u32>
+        requires size { IsSize n }
+        requires beyond { has self.now.ram_base self.now.ram.items addr n ≡ false }
+        requires beside { has self.now.flash_base self.now.flash.items addr n ≡ false }
+        ensures { MatchResult result (λ value. (refused_by (view_of self.now) addr n Read ≡ None) × (value ≡ held_by (view_of self.now) addr n)) (λ at. refused_by (view_of self.now) addr n Read ≡ Some at) }
+    {
+        if self.has_area(addr, n) {
+            Ok(number(&self.area, (addr - self.area_base) as usize, n))
+        } else if self.has_second(addr, n) {
+            Ok(number(&self.second, (addr - self.second_base) as usize, n))
+        } else {
+            Err(addr)
+        }
+    }
+
+    /// A load of bytes that the RAM does not have: of the flash, or else of an area, which is a function of its own, so that a load of
+    /// the flash has no preparations for it.
     #[inline(never)]
     fn load_flash(&self, addr: u32, n: u32) -> Result<u32, u32>
         requires size { IsSize n }
@@ -203,10 +246,8 @@ impl Window {
                 return Err(addr);
             }
             Ok(number(&self.flash, (addr - self.flash_base) as usize, n))
-        } else if self.has_area(addr, n) {
-            Ok(number(&self.area, (addr - self.area_base) as usize, n))
         } else {
-            Err(addr)
+            self.load_area(addr, n)
         }
     }
 
@@ -219,12 +260,17 @@ impl Window {
         ensures refused { IfErr result (λ at. (refused_by (view_of self.old) addr n Write ≡ Some at) × (self.new ≡ self.old)) }
         ensures fixed { Keeps (view_of self.old) (view_of self.new) }
     {
-        if !self.area_writable || !self.has_area(addr, n) {
+        if !self.writes_area(addr, n) {
             return Err(addr);
         }
-        let at = (addr - self.area_base) as usize;
         let bytes = value.to_le_bytes();
-        put(&mut self.area, at, &bytes[..n as usize]);
+        if self.has_area(addr, n) {
+            let at = (addr - self.area_base) as usize;
+            put(&mut self.area, at, &bytes[..n as usize]);
+        } else {
+            let at = (addr - self.second_base) as usize;
+            put(&mut self.second, at, &bytes[..n as usize]);
+        }
         Ok(())
     }
 }
@@ -242,7 +288,7 @@ impl Bus for Window {
     fn allows(&self, addr: u32, n: u32, right: Right) -> Option<u32> {
         let is_given = match right {
             Right::Read => self.has_ram(addr, n) || self.reads_beyond(addr, n),
-            Right::Write => self.has_ram(addr, n) || (self.area_writable && self.has_area(addr, n)),
+            Right::Write => self.has_ram(addr, n) || self.writes_area(addr, n),
             Right::Execute => self.has_code(addr, n),
         };
         if is_given { None } else { Some(addr) }

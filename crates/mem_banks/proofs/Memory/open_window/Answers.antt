@@ -11,10 +11,10 @@ invariant_of-self g c =
     let table = c.self.inside.table.items in
     let after = c.open_usual.new.banks in
     let e : length after ≡ c.self.inside.banks.len = omega (arith, c.open_usual.auto.banks, c.deref_mut.ensures.len) in
-    let usual : AreUsual banks c.in-Some.code c.in-Some.data a.flash a.ram a.area = rw c.deref.ensures.value at c.in-Some.ensures in
+    let usual : AreUsual banks c.in-Some.code c.in-Some.data a.flash a.ram a.area a.second = rw c.deref.ensures.value at c.in-Some.ensures in
     let opened = rw c.deref_mut.ensures.value at c.open_usual.ensures in
-    let kept = all_kept g.B.WindowUser.did table banks after c.in-Some.code (Some c.in-Some.data) None a.flash a.ram a.area a.user.now c.open_usual.new.user c.self.invariant.0 usual.1 usual.2 usual.3 opened in
-    let spans = all_spans g.B.WindowUser.did table banks after c.in-Some.code (Some c.in-Some.data) None a.flash a.ram a.area a.user.now c.open_usual.new.user c.self.invariant.0 usual.1 usual.2 usual.3 opened in
+    let kept = all_kept g.B.WindowUser.did table banks after c.in-Some.code (Some c.in-Some.data) None None a.flash a.ram a.area a.second a.user.now c.open_usual.new.user c.self.invariant.0 usual.1 usual.2 usual.3 usual.4 opened in
+    let spans = all_spans g.B.WindowUser.did table banks after c.in-Some.code (Some c.in-Some.data) None None a.flash a.ram a.area a.second a.user.now c.open_usual.new.user c.self.invariant.0 usual.1 usual.2 usual.3 usual.4 opened in
     rw (take_at after _ c.self.inside.banks.len e, spans) (kept, c.self.invariant.1, c.self.invariant.2)
 
 pub returns-in-Some-clause-opened : goal.returns-in-Some-clause-opened
@@ -23,8 +23,8 @@ returns-in-Some-clause-opened g c = λ _.
     let banks = c.self.inside.banks.items in
     let after = c.open_usual.new.banks in
     let e : length after ≡ c.self.inside.banks.len = omega (arith, c.open_usual.auto.banks, c.deref_mut.ensures.len) in
-    let usual : AreUsual banks c.in-Some.code c.in-Some.data a.flash a.ram a.area = rw c.deref.ensures.value at c.in-Some.ensures in
+    let usual : AreUsual banks c.in-Some.code c.in-Some.data a.flash a.ram a.area a.second = rw c.deref.ensures.value at c.in-Some.ensures in
     let opened = rw c.deref_mut.ensures.value at c.open_usual.ensures in
     let apart : c.in-Some.code ≡ c.in-Some.data → ⊥ = λ same. omega (arith, same, usual.0) in
     rw (← c.self.view_is, take_at after _ c.self.inside.banks.len e)
-    (all_window g.B.WindowUser.did c.self.inside.table.items banks after c.in-Some.code (Some c.in-Some.data) None a.flash a.ram a.area a.user.now c.open_usual.new.user c.self.invariant.0 usual.1 usual.2 usual.3 opened apart tt tt)
+    (all_window g.B.WindowUser.did c.self.inside.table.items banks after c.in-Some.code (Some c.in-Some.data) None None a.flash a.ram a.area a.second a.user.now c.open_usual.new.user c.self.invariant.0 usual.1 usual.2 usual.3 usual.4 opened apart tt tt tt tt tt)

@@ -18,5 +18,5 @@ returns g c =
     let is_q : q ≡ get_or after a.area q = get_or_default after a.area c.index-banks-area-2.result q there in
     let z : Bank = record { base = q.base; bytes = c.swap-2.new.x } in
     let bytes : c.swap.new.y.items ≡ p.bytes.items = rw c.swap.ensures.y_after refl in
-    let opened : AreOpened g.B.WindowUser.did (set old a.area e) a.flash a.ram p.bytes.items a.user.now c.open_beside.new.user after c.open_beside.new.area.items = subst (λ (xs : List ℕ). AreOpened g.B.WindowUser.did (set old a.area e) a.flash a.ram xs a.user.now c.open_beside.new.user after c.open_beside.new.area.items) bytes c.open_beside.ensures in
-    area_by g.B.WindowUser.did old after _ a.flash a.ram a.area a.user.now c.open_beside.new.user e p q z c.open_beside.new.area.items c.requires.area is_p refl c.requires.beside c.requires.two opened is_q refl (rw c.swap-2.ensures.x_after refl) refl
+    let opened = subst (λ (xs : List ℕ). AreOpened g.B.WindowUser.did (set old a.area e) a.flash a.ram xs a.second.now.items a.user.now c.open_beside.new.user after c.open_beside.new.area.items c.open_beside.new.second.items) bytes c.open_beside.ensures in
+    area_by g.B.WindowUser.did old after _ a.flash a.ram a.area a.user.now c.open_beside.new.user e p q z c.open_beside.new.area.items a.second.now.items c.open_beside.new.second.items c.requires.area is_p refl c.requires.beside c.requires.two opened is_q refl (rw c.swap-2.ensures.x_after refl) refl

@@ -24,4 +24,4 @@ returns g c =
     let between = set front a.flash x ++ back in
     let count : length (set front a.flash x) ≡ a.ram = length-set front a.flash x ∙ len in
     let stays : q ≡ get_or between a.ram q = get_or_default back 0 c.index-back-0.result q some ∙ sym (get_back between (set front a.flash x) back a.ram q refl count) in
-    two_by g.B.WindowUser.did old between _ a.flash a.ram a.user.now c.work.new.self x y p q a.area.now.items c.work.new.area.items flash c.requires.ram is_p is_q stays (set_front old front back a.flash x split there) (set_back between (set front a.flash x) back a.ram y refl count) refl refl c.work.ensures.flash c.work.ensures.length c.work.ensures.area c.work.ensures.did
+    two_by g.B.WindowUser.did old between _ a.flash a.ram a.user.now c.work.new.self x y p q a.area.now.items c.work.new.area.items a.second.now.items c.work.new.second.items flash c.requires.ram is_p is_q stays (set_front old front back a.flash x split there) (set_back between (set front a.flash x) back a.ram y refl count) refl refl c.work.ensures.flash c.work.ensures.length c.work.ensures.area c.work.ensures.second c.work.ensures.did

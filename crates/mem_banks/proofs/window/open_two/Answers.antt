@@ -22,4 +22,4 @@ returns-else-flash-ram g c =
     let is_q : q ≡ get_or old a.ram q = get_or_default front a.ram c.index-front-ram.result q there ∙ sym (get_front old front back a.ram q split there) in
     let between = front ++ set back 0 x in
     let stays : q ≡ get_or between a.ram q = get_or_default front a.ram c.index-front-ram.result q there ∙ sym (get_front between front (set back 0 x) a.ram q refl there) in
-    two_by g.B.WindowUser.did old between _ a.flash a.ram a.user.now c.work.new.self x y p q a.area.now.items c.work.new.area.items c.requires.flash c.requires.ram is_p is_q stays (set_back old front back a.flash x split len) (set_front between front (set back 0 x) a.ram y refl there) refl refl c.work.ensures.flash c.work.ensures.length c.work.ensures.area c.work.ensures.did
+    two_by g.B.WindowUser.did old between _ a.flash a.ram a.user.now c.work.new.self x y p q a.area.now.items c.work.new.area.items a.second.now.items c.work.new.second.items c.requires.flash c.requires.ram is_p is_q stays (set_back old front back a.flash x split len) (set_front between front (set back 0 x) a.ram y refl there) refl refl c.work.ensures.flash c.work.ensures.length c.work.ensures.area c.work.ensures.second c.work.ensures.did

@@ -5,7 +5,7 @@ use Rattle.thumb_exec.specs.Families.{IsRest}
 use Rattle.thumb_exec.proofs.step.rest.Goals as goal
 
 pub unreachable-requires : goal.unreachable-requires
-unreachable-requires g c = by_insn c.args.insn refl c.requires.rest
+unreachable-requires c = by_insn c.args.insn refl c.requires.rest
   where
     -- each is one of the above, or none of the rest
     by_insn : (i : Insn) → c.args.insn ≡ i → IsRest i → ⊥
@@ -38,16 +38,16 @@ unreachable-requires g c = by_insn c.args.insn refl c.requires.rest
     by_insn (insn.BranchIf cond offset) e r = r
     by_insn (insn.Branch offset) e r = r
     by_insn (insn.Bl offset) e r = r
-    by_insn (insn.Push list lr) e r = c.in_default.not-Push list lr e
-    by_insn (insn.Stm n list) e r = c.in_default.not-Stm n list e
+    by_insn (insn.Push list lr) e r = r
+    by_insn (insn.Stm n list) e r = r
     by_insn (insn.Bx m) e r = c.in_default.not-Bx m e
     by_insn (insn.Blx m) e r = c.in_default.not-Blx m e
-    by_insn (insn.Svc i) e r = c.in_default.not-Svc i e
+    by_insn (insn.Svc i) e r = r
     by_insn (insn.Bkpt i) e r = c.in_default.not-Bkpt i e
     by_insn (insn.Hint i) e r = c.in_default.not-Hint i e
     by_insn (insn.Fence barrier i) e r = c.in_default.not-Fence barrier i e
     by_insn (insn.Msr n) e r = c.in_default.not-Msr n e
     by_insn insn.Cpsie e r = c.in_default.not-Cpsie e
     by_insn insn.Cpsid e r = c.in_default.not-Cpsid e
-    by_insn (insn.Ldm n list) e r = c.in_default.not-Ldm n list e
-    by_insn (insn.Pop list pc) e r = c.in_default.not-Pop list pc e
+    by_insn (insn.Ldm n list) e r = r
+    by_insn (insn.Pop list pc) e r = r
