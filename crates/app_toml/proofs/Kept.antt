@@ -5,7 +5,7 @@ use Rattle.std.proofs.lemmas.Bool.{leb-true, lt-ltb, and_parts}
 use Rattle.std.proofs.lemmas.Bool.Decides.{nat_tests}
 use Rattle.std.proofs.lemmas.List.Elements.{All-cons, All-nil}
 use Rattle.toml.specs.Data.{Data, string, integer, float, boolean, datetime, array, table, Items, no_items, item, Members, no_members, as_array, as_integer, as_table, get_member}
-use Rattle.app_toml.specs.declared.forms.Form.TheVariants.{Number, Name, Filled, Names}
+use Rattle.app_toml.specs.declared.forms.ValueForm.TheVariants.{Number, Name, Filled, Names}
 use Rattle.app_toml.specs.Accepted.{IsAccepted, IsDevice, IsInterrupt, IsName, IsRegion, IsTask, IsWithin}
 use Rattle.app_toml.specs.Apps.{AppData}
 use Rattle.app_toml.specs.Crossed.{cross_fault}

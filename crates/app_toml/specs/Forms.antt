@@ -3,8 +3,8 @@
 use Rattle.std.specs.Prelude.{ℕ, ℤ, ◌+◌, ◌&&◌, ◌==◌, length, Option, None, if◌then◌else◌, int_le}
 use Rattle.text_lines.specs.Names.{is_name}
 use Rattle.toml.specs.Data.{Data, string, integer, boolean, array, Items, no_items, item}
-use Rattle.app_toml.specs.declared.forms.Form.{Form}
-use Rattle.app_toml.specs.declared.forms.Form.TheVariants.{Number, Name, Filled, Flag, Names}
+use Rattle.app_toml.specs.declared.forms.ValueForm.{ValueForm}
+use Rattle.app_toml.specs.declared.forms.ValueForm.TheVariants.{Number, Name, Filled, Flag, Names}
 use Rattle.app_toml.specs.Places.{Refusal, Site, at_entry, or_else, refuse}
 
 abbrev pub name_fault : Site → Data → Option Refusal
@@ -34,7 +34,7 @@ abbrev pub list_fault : Site → Data → Option Refusal
 list_fault site (array ds) = names_fault site 0 ds
 list_fault site _ = refuse 4 site
 
-abbrev pub value_fault : Form → Site → Data → Option Refusal
+abbrev pub value_fault : ValueForm → Site → Data → Option Refusal
 value_fault (Number low high) site d = number_fault low high site d
 value_fault Name site d = name_fault site d
 value_fault Filled site d = filled_fault site d

@@ -4,8 +4,8 @@ use Rattle.std.specs.Prelude.{Bool, true, false, List, [], ◌∷◌, Option, So
 use Rattle.std.specs.List.{list_any}
 use Rattle.std.specs.Str.{bytes_eq}
 use Rattle.toml.specs.Data.{Data, table, Members, no_members, member, get_member}
-use Rattle.app_toml.specs.declared.forms.Form.{Form}
-use Rattle.app_toml.specs.declared.forms.Form.TheVariants.{Number, Name, Filled, Flag, Names}
+use Rattle.app_toml.specs.declared.forms.ValueForm.{ValueForm}
+use Rattle.app_toml.specs.declared.forms.ValueForm.TheVariants.{Number, Name, Filled, Flag, Names}
 use Rattle.app_toml.specs.Forms.{value_fault}
 use Rattle.app_toml.specs.Places.{Refusal, Site, Text, at_key, or_else, refuse, refuse_if}
 
@@ -13,12 +13,12 @@ use Rattle.app_toml.specs.Places.{Refusal, Site, Text, at_key, or_else, refuse, 
 pub record KeyRow : Type 0 where
   pub name : Text
   pub is_needed : Bool
-  pub form : Form
+  pub form : ValueForm
 
-abbrev pub needed : Text → Form → KeyRow
+abbrev pub needed : Text → ValueForm → KeyRow
 needed name form = record { name = name; is_needed = true; form = form }
 
-abbrev pub optional : Text → Form → KeyRow
+abbrev pub optional : Text → ValueForm → KeyRow
 optional name form = record { name = name; is_needed = false; form = form }
 
 -- ---- the keys of each table, in order of reading

@@ -8,10 +8,10 @@ use Rattle.app_toml.specs.declared.parts.DeviceSpec.{DeviceSpec}
 use Rattle.app_toml.specs.declared.parts.LineSpec.{LineSpec}
 use Rattle.app_toml.specs.declared.parts.RegionSpec.{RegionSpec}
 use Rattle.app_toml.specs.declared.parts.TaskSpec.{TaskSpec}
-use Rattle.app_toml.specs.declared.places.Fault.{Fault}
-use Rattle.app_toml.specs.declared.places.Place.{Place}
+use Rattle.app_toml.specs.declared.places.PlacedCause.{PlacedCause}
+use Rattle.app_toml.specs.declared.places.Location.{Location}
 
-abbrev pub site_of : Place → Site
+abbrev pub site_of : Location → Site
 site_of p = record {
   head = p.head.now;
   index = p.index;
@@ -19,7 +19,7 @@ site_of p = record {
   entry = p.nth;
 }
 
-abbrev pub refusal_of : Fault → Refusal
+abbrev pub refusal_of : PlacedCause → Refusal
 refusal_of f = record { cause = f.cause; site = site_of f.place }
 
 abbrev pub key_of : Key → KeyRow

@@ -7,7 +7,7 @@ ghost use Rattle.app_toml.specs.Sites.{refusal_of};
 
 use crate::lines::line_fault;
 use crate::parts::Parts;
-use crate::places::{Fault, first_of};
+use crate::places::{PlacedCause, first_of};
 use crate::repeats::name_twice;
 use crate::tasks::{count_fault, start_fault};
 use crate::unknowns::unknown_name;
@@ -17,7 +17,7 @@ use std::alloc::{AllocError, Global};
 pub(crate) fn cross_fault(
     alloc: Global,
     parts: &Parts,
-) -> Result<Option<Fault<'static>>, AllocError>
+) -> Result<Option<PlacedCause<'static>>, AllocError>
     ensures { IfOk result (λ found. option_map refusal_of found ≡ cross_fault (parts_of parts.now)) }
 {
     let tasks = parts.tasks.as_slice();

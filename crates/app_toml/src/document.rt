@@ -3,10 +3,10 @@
 ghost use Rattle.std.specs.Prelude.{◌≡◌, option_map};
 ghost use Rattle.toml.specs.View.{items_view, table_view};
 ghost use Rattle.app_toml.specs.Document.{form_fault, is_top, listed_fault, lists_fault, single_fault, tables_fault, top_fault};
-ghost use Rattle.app_toml.specs.Sites.{keys_of, refusal_of, site_of};
+ghost use Rattle.app_toml.specs.Sites.{keys_of, refusal_of};
 
 use crate::keys::{Key, member, table_fault};
-use crate::places::{Fault, fault_at, fault_if, first_of, head_place, index_place};
+use crate::places::{PlacedCause, fault_at, fault_if, first_of, head_place, index_place};
 use crate::tables::{
     BOARD_KEYS, DEVICE_KEYS, INTERRUPT_KEYS, REGION_KEYS, SUPERVISOR_KEYS, TASK_KEYS,
 };
@@ -22,7 +22,7 @@ fn is_top(name: &str) -> bool
 }
 
 /// The first unknown key in byte order at the top.
-fn top_fault<'a>(document: &'a Table) -> Option<Fault<'a>>
+fn top_fault<'a>(document: &'a Table) -> Option<PlacedCause<'a>>
     ensures { option_map refusal_of result ≡ top_fault (table_view document.now) }
 {
     for (name, _value) in document.iter() {
@@ -34,7 +34,11 @@ fn top_fault<'a>(document: &'a Table) -> Option<Fault<'a>>
 }
 
 /// A table that has to be there.
-fn single_fault<'a>(name: &'static str, keys: &[Key], document: &'a Table) -> Option<Fault<'a>>
+fn single_fault<'a>(
+    name: &'static str,
+    keys: &[Key],
+    document: &'a Table,
+) -> Option<PlacedCause<'a>>
     ensures { option_map refusal_of result
         ≡ single_fault name.now (keys_of keys.now) (table_view document.now) }
 {
@@ -45,7 +49,11 @@ fn single_fault<'a>(name: &'static str, keys: &[Key], document: &'a Table) -> Op
 }
 
 /// Each table of a list, in order.
-fn tables_fault<'a>(name: &'static str, keys: &[Key], values: &'a [Value]) -> Option<Fault<'a>>
+fn tables_fault<'a>(
+    name: &'static str,
+    keys: &[Key],
+    values: &'a [Value],
+) -> Option<PlacedCause<'a>>
     ensures { option_map refusal_of result
         ≡ tables_fault name.now (keys_of keys.now) 0 (items_view values.now) }
 {
@@ -64,7 +72,7 @@ fn listed_fault<'a>(
     is_needed: bool,
     keys: &[Key],
     document: &'a Table,
-) -> Option<Fault<'a>>
+) -> Option<PlacedCause<'a>>
     ensures { option_map refusal_of result
         ≡ listed_fault name.now is_needed (keys_of keys.now) (table_view document.now) }
 {
@@ -77,7 +85,7 @@ fn listed_fault<'a>(
     }
 }
 
-fn lists_fault<'a>(document: &'a Table) -> Option<Fault<'a>>
+fn lists_fault<'a>(document: &'a Table) -> Option<PlacedCause<'a>>
     ensures { option_map refusal_of result ≡ lists_fault (table_view document.now) }
 {
     let tasks = listed_fault("task", true, &TASK_KEYS, document);
@@ -88,7 +96,7 @@ fn lists_fault<'a>(document: &'a Table) -> Option<Fault<'a>>
 }
 
 /// The first fault of causes 2 to 6.
-pub(crate) fn form_fault<'a>(document: &'a Table) -> Option<Fault<'a>>
+pub(crate) fn form_fault<'a>(document: &'a Table) -> Option<PlacedCause<'a>>
     ensures { option_map refusal_of result ≡ form_fault (table_view document.now) }
 {
     let top = top_fault(document);

@@ -5,14 +5,14 @@ ghost use Rattle.toml.specs.View.{items_view, view};
 ghost use Rattle.app_toml.specs.Forms.{filled_fault, flag_fault, name_fault, names_fault, number_fault, value_fault};
 ghost use Rattle.app_toml.specs.Sites.{refusal_of, site_of};
 
-use crate::places::{Fault, Place, entry_place, fault_at};
+use crate::places::{Location, PlacedCause, entry_place, fault_at};
 use text_lines::is_name;
 use toml::Value;
 
 /// What the value of a key has to be: a number within limits, a name, a text that is not empty,
 /// a truth value, or a list of names.
 #[derive(Clone, Copy)]
-pub(crate) enum Form {
+pub(crate) enum ValueForm {
     Number(i64, i64),
     Name,
     Filled,
@@ -20,7 +20,7 @@ pub(crate) enum Form {
     Names,
 }
 
-fn name_fault<'a>(place: Place<'a>, value: &Value) -> Option<Fault<'a>>
+fn name_fault<'a>(place: Location<'a>, value: &Value) -> Option<PlacedCause<'a>>
     ensures { option_map refusal_of result ≡ name_fault (site_of place.entry) (view value.now) }
 {
     match value.as_str() {
@@ -36,7 +36,7 @@ fn name_fault<'a>(place: Place<'a>, value: &Value) -> Option<Fault<'a>>
 }
 
 /// Of the names of a list, in order.
-fn names_fault<'a>(place: Place<'a>, values: &[Value]) -> Option<Fault<'a>>
+fn names_fault<'a>(place: Location<'a>, values: &[Value]) -> Option<PlacedCause<'a>>
     ensures { option_map refusal_of result
         ≡ names_fault (site_of place.entry) 0 (items_view values.now) }
 {
@@ -49,7 +49,7 @@ fn names_fault<'a>(place: Place<'a>, values: &[Value]) -> Option<Fault<'a>>
     None
 }
 
-fn filled_fault<'a>(place: Place<'a>, value: &Value) -> Option<Fault<'a>>
+fn filled_fault<'a>(place: Location<'a>, value: &Value) -> Option<PlacedCause<'a>>
     ensures { option_map refusal_of result ≡ filled_fault (site_of place.entry) (view value.now) }
 {
     match value.as_str() {
@@ -64,7 +64,7 @@ fn filled_fault<'a>(place: Place<'a>, value: &Value) -> Option<Fault<'a>>
     }
 }
 
-fn flag_fault<'a>(place: Place<'a>, value: &Value) -> Option<Fault<'a>>
+fn flag_fault<'a>(place: Location<'a>, value: &Value) -> Option<PlacedCause<'a>>
     ensures { option_map refusal_of result ≡ flag_fault (site_of place.entry) (view value.now) }
 {
     match value.as_bool() {
@@ -73,7 +73,12 @@ fn flag_fault<'a>(place: Place<'a>, value: &Value) -> Option<Fault<'a>>
     }
 }
 
-fn number_fault<'a>(low: i64, high: i64, place: Place<'a>, value: &Value) -> Option<Fault<'a>>
+fn number_fault<'a>(
+    low: i64,
+    high: i64,
+    place: Location<'a>,
+    value: &Value,
+) -> Option<PlacedCause<'a>>
     ensures { option_map refusal_of result
         ≡ number_fault low high (site_of place.entry) (view value.now) }
 {
@@ -90,16 +95,20 @@ fn number_fault<'a>(low: i64, high: i64, place: Place<'a>, value: &Value) -> Opt
 }
 
 /// A value against its form: its type, then its range or its form.
-pub(crate) fn value_fault<'a>(form: Form, place: Place<'a>, value: &Value) -> Option<Fault<'a>>
+pub(crate) fn value_fault<'a>(
+    form: ValueForm,
+    place: Location<'a>,
+    value: &Value,
+) -> Option<PlacedCause<'a>>
     ensures { option_map refusal_of result
         ≡ value_fault form (site_of place.entry) (view value.now) }
 {
     match form {
-        Form::Number(low, high) => number_fault(low, high, place, value),
-        Form::Name => name_fault(place, value),
-        Form::Filled => filled_fault(place, value),
-        Form::Flag => flag_fault(place, value),
-        Form::Names => match value.as_array() {
+        ValueForm::Number(low, high) => number_fault(low, high, place, value),
+        ValueForm::Name => name_fault(place, value),
+        ValueForm::Filled => filled_fault(place, value),
+        ValueForm::Flag => flag_fault(place, value),
+        ValueForm::Names => match value.as_array() {
             None => fault_at(4, place),
             Some(values) => names_fault(place, values.as_slice()),
         },

@@ -6,8 +6,8 @@ ghost use Rattle.toml.specs.View.{table_view, view};
 ghost use Rattle.app_toml.specs.Keys.{is_known, key_fault, keys_fault, table_fault, unknown_fault};
 ghost use Rattle.app_toml.specs.Sites.{key_of, keys_of, refusal_of, site_of};
 
-use crate::forms::{Form, value_fault};
-use crate::places::{Fault, Place, fault_at, fault_if, key_place};
+use crate::forms::{ValueForm, value_fault};
+use crate::places::{Location, PlacedCause, fault_at, fault_if, key_place};
 use toml::{Table, Value};
 
 /// A key of a table, whether it is needed, and the form of its value.
@@ -15,7 +15,7 @@ use toml::{Table, Value};
 pub(crate) struct Key {
     pub(crate) name: &'static str,
     pub(crate) is_needed: bool,
-    pub(crate) form: Form,
+    pub(crate) form: ValueForm,
 }
 
 /// The value at a key.
@@ -26,7 +26,7 @@ pub(crate) fn member<'a>(table: &'a Table, name: &str) -> Option<&'a Value>
 }
 
 /// One key of a table: missing, then the fault of its value.
-fn key_fault<'a>(key: Key, place: Place<'a>, table: &Table) -> Option<Fault<'a>>
+fn key_fault<'a>(key: Key, place: Location<'a>, table: &Table) -> Option<PlacedCause<'a>>
     ensures { option_map refusal_of result
         ≡ key_fault (key_of key) (site_of place.entry) (table_view table.now) }
 {
@@ -38,7 +38,7 @@ fn key_fault<'a>(key: Key, place: Place<'a>, table: &Table) -> Option<Fault<'a>>
 }
 
 /// The keys of a table one by one.
-fn keys_fault<'a>(keys: &[Key], place: Place<'a>, table: &Table) -> Option<Fault<'a>>
+fn keys_fault<'a>(keys: &[Key], place: Location<'a>, table: &Table) -> Option<PlacedCause<'a>>
     ensures { option_map refusal_of result
         ≡ keys_fault (keys_of keys.now) (site_of place.entry) (table_view table.now) }
 {
@@ -63,7 +63,7 @@ fn is_known(name: &str, keys: &[Key]) -> bool
 }
 
 /// The first key in byte order that is none of the table's.
-fn unknown_fault<'a>(keys: &[Key], place: Place<'a>, table: &'a Table) -> Option<Fault<'a>>
+fn unknown_fault<'a>(keys: &[Key], place: Location<'a>, table: &'a Table) -> Option<PlacedCause<'a>>
     ensures { option_map refusal_of result
         ≡ unknown_fault (keys_of keys.now) (site_of place.entry) (table_view table.now) }
 {
@@ -76,7 +76,11 @@ fn unknown_fault<'a>(keys: &[Key], place: Place<'a>, table: &'a Table) -> Option
 }
 
 /// One table: its unknown keys, then its keys one by one.
-pub(crate) fn table_fault<'a>(keys: &[Key], place: Place<'a>, value: &'a Value) -> Option<Fault<'a>>
+pub(crate) fn table_fault<'a>(
+    keys: &[Key],
+    place: Location<'a>,
+    value: &'a Value,
+) -> Option<PlacedCause<'a>>
     ensures { option_map refusal_of result
         ≡ table_fault (keys_of keys.now) (site_of place.entry) (view value.now) }
 {

@@ -9,7 +9,7 @@ ghost use Rattle.app_toml.specs.Sites.{device_of, interrupt_of, refusal_of};
 
 use crate::overlaps::overlap;
 use crate::parts::{DeviceSpec, LineSpec, Parts};
-use crate::places::{Fault, fault_at, index_place};
+use crate::places::{PlacedCause, fault_at, index_place};
 use crate::unknowns::interrupt_place;
 use region_check::is_size;
 use std::alloc::{AllocError, Global};
@@ -25,7 +25,7 @@ fn has_line(line: u8, interrupts: &[LineSpec]) -> bool
     false
 }
 
-fn line_twice(interrupts: &[LineSpec]) -> Option<Fault<'static>>
+fn line_twice(interrupts: &[LineSpec]) -> Option<PlacedCause<'static>>
     ensures { option_map refusal_of result
         ≡ first_clash line_twice [] 0 (map interrupt_of interrupts.now) }
 {
@@ -46,7 +46,7 @@ fn is_placed(d: &DeviceSpec) -> bool
         && u64::from(d.base) + u64::from(d.size) <= 0x6000_0000
 }
 
-fn bad_device(devices: &[DeviceSpec]) -> Option<Fault<'static>>
+fn bad_device(devices: &[DeviceSpec]) -> Option<PlacedCause<'static>>
     ensures { option_map refusal_of result ≡ first_fault bad_device 0 (map device_of devices.now) }
 {
     for i in 0..devices.len() {
@@ -58,7 +58,10 @@ fn bad_device(devices: &[DeviceSpec]) -> Option<Fault<'static>>
 }
 
 /// The first fault of causes 18 to 20.
-pub(crate) fn line_fault(alloc: Global, parts: &Parts) -> Result<Option<Fault<'static>>, AllocError>
+pub(crate) fn line_fault(
+    alloc: Global,
+    parts: &Parts,
+) -> Result<Option<PlacedCause<'static>>, AllocError>
     ensures { IfOk result (λ found. option_map refusal_of found ≡ line_fault (parts_of parts.now)) }
 {
     let line = line_twice(parts.interrupts.as_slice());

@@ -3,7 +3,7 @@
 ghost use Rattle.std.specs.Prelude.{◌≡◌, IfOk, map, string_bytes};
 ghost use Rattle.app_toml.specs.Accepted.{IsAccepted};
 ghost use Rattle.app_toml.specs.Apps.{DeviceData, InterruptData, RegionData, TaskData};
-ghost use Rattle.app_toml.specs.Held.{app_of, parts_of, tables_of};
+ghost use Rattle.app_toml.specs.Held.{app_of, tables_of};
 ghost use Rattle.app_toml.specs.Places.{Text};
 ghost use Rattle.app_toml.specs.Sites.{device_of, interrupt_of, region_of, task_of};
 

@@ -1,6 +1,6 @@
 //! Cause 20: devices that overlap.
 
-ghost use Rattle.std.specs.Prelude.{◌≡◌, ◌+◌, ◌++◌, ◌∷◌, ◌≤◌, ◌<◌, ◌^◌, [], ℕ, All, IfOk, IfSome, IsSome, List, None, OnOk, Some, false, map, option_map};
+ghost use Rattle.std.specs.Prelude.{◌≡◌, ◌+◌, ◌++◌, ◌∷◌, ◌≤◌, ◌<◌, [], ℕ, All, IfOk, IfSome, IsSome, List, None, OnOk, Some, false, map, option_map};
 ghost use Rattle.std.specs.BTreeMap.{get};
 ghost use Rattle.std.specs.List.{list_any};
 ghost use Rattle.std.specs.Ordering.{nat_cmp};
@@ -12,7 +12,7 @@ ghost use Rattle.app_toml.specs.Sites.{device_of, refusal_of};
 ghost use Rattle.app_toml.specs.Spread.{IsByBase, IsSpread};
 
 use crate::parts::DeviceSpec;
-use crate::places::{Fault, fault_at, index_place};
+use crate::places::{PlacedCause, fault_at, index_place};
 use std::alloc::{AllocError, Global};
 use std::collections::BTreeMap;
 
@@ -59,7 +59,7 @@ fn keep(bases: &mut Bases, device: &DeviceSpec) -> Result<(), AllocError>
 pub(crate) fn overlap(
     alloc: Global,
     devices: &[DeviceSpec],
-) -> Result<Option<Fault<'static>>, AllocError>
+) -> Result<Option<PlacedCause<'static>>, AllocError>
     requires { All IsPlaced (map device_of devices.now) }
     ensures { IfOk result (λ found. option_map refusal_of found ≡ first_clash overlap [] 0 (map device_of devices.now)) }
 {

@@ -12,7 +12,7 @@ use std::alloc::{AllocError, Global};
 
 /// A table, its index in its list, a key, and an entry of the key's list.
 #[derive(Clone, Copy)]
-pub(crate) struct Place<'a> {
+pub(crate) struct Location<'a> {
     pub(crate) head: &'a str,
     pub(crate) index: Option<usize>,
     pub(crate) key: Option<&'a str>,
@@ -21,15 +21,15 @@ pub(crate) struct Place<'a> {
 
 /// A cause, and the place whose text is made only when it is stated.
 #[derive(Clone, Copy)]
-pub(crate) struct Fault<'a> {
+pub(crate) struct PlacedCause<'a> {
     pub(crate) cause: u8,
-    pub(crate) place: Place<'a>,
+    pub(crate) place: Location<'a>,
 }
 
-pub(crate) fn head_place<'a>(head: &'a str) -> Place<'a>
+pub(crate) fn head_place<'a>(head: &'a str) -> Location<'a>
     ensures { site_of result ≡ head_site head.entry.now }
 {
-    Place {
+    Location {
         head,
         index: None,
         key: None,
@@ -38,10 +38,10 @@ pub(crate) fn head_place<'a>(head: &'a str) -> Place<'a>
 }
 
 /// The place of a table in its list.
-pub(crate) fn index_place<'a>(head: &'a str, k: usize) -> Place<'a>
+pub(crate) fn index_place<'a>(head: &'a str, k: usize) -> Location<'a>
     ensures { site_of result ≡ index_site head.entry.now k }
 {
-    Place {
+    Location {
         head,
         index: Some(k),
         key: None,
@@ -49,10 +49,10 @@ pub(crate) fn index_place<'a>(head: &'a str, k: usize) -> Place<'a>
     }
 }
 
-pub(crate) fn key_place<'a>(place: Place<'a>, key: &'a str) -> Place<'a>
+pub(crate) fn key_place<'a>(place: Location<'a>, key: &'a str) -> Location<'a>
     ensures { site_of result ≡ at_key key.entry.now (site_of place.entry) }
 {
-    Place {
+    Location {
         head: place.head,
         index: place.index,
         key: Some(key),
@@ -60,10 +60,10 @@ pub(crate) fn key_place<'a>(place: Place<'a>, key: &'a str) -> Place<'a>
     }
 }
 
-pub(crate) fn entry_place<'a>(place: Place<'a>, k: usize) -> Place<'a>
+pub(crate) fn entry_place<'a>(place: Location<'a>, k: usize) -> Location<'a>
     ensures { site_of result ≡ at_entry k (site_of place.entry) }
 {
-    Place {
+    Location {
         head: place.head,
         index: place.index,
         key: place.key,
@@ -71,13 +71,13 @@ pub(crate) fn entry_place<'a>(place: Place<'a>, k: usize) -> Place<'a>
     }
 }
 
-pub(crate) fn fault_at<'a>(cause: u8, place: Place<'a>) -> Option<Fault<'a>>
+pub(crate) fn fault_at<'a>(cause: u8, place: Location<'a>) -> Option<PlacedCause<'a>>
     ensures { option_map refusal_of result ≡ refuse cause (site_of place.entry) }
 {
-    Some(Fault { cause, place })
+    Some(PlacedCause { cause, place })
 }
 
-pub(crate) fn fault_if<'a>(refused: bool, cause: u8, place: Place<'a>) -> Option<Fault<'a>>
+pub(crate) fn fault_if<'a>(refused: bool, cause: u8, place: Location<'a>) -> Option<PlacedCause<'a>>
     ensures { option_map refusal_of result ≡ refuse_if refused cause (site_of place.entry) }
 {
     if refused {
@@ -88,7 +88,10 @@ pub(crate) fn fault_if<'a>(refused: bool, cause: u8, place: Place<'a>) -> Option
 }
 
 /// The first fault, and where there is none the next.
-pub(crate) fn first_of<'a>(first: Option<Fault<'a>>, next: Option<Fault<'a>>) -> Option<Fault<'a>>
+pub(crate) fn first_of<'a>(
+    first: Option<PlacedCause<'a>>,
+    next: Option<PlacedCause<'a>>,
+) -> Option<PlacedCause<'a>>
     ensures { option_map refusal_of result ≡ or_else (option_map refusal_of first.entry) (option_map refusal_of next.entry) }
 {
     first.or(next)
@@ -120,7 +123,7 @@ fn push_key(out: &mut String, key: Option<&str>) -> Result<(), AllocError>
     }
 }
 
-fn place_text(alloc: Global, place: Place<'_>) -> Result<String, AllocError>
+fn place_text(alloc: Global, place: Location<'_>) -> Result<String, AllocError>
     ensures { IfOk result (λ s. string_bytes s ≡ site_text (site_of place.entry)) }
 {
     let mut out = String::from_str(alloc, place.head)?;
@@ -131,7 +134,7 @@ fn place_text(alloc: Global, place: Place<'_>) -> Result<String, AllocError>
 }
 
 /// The cause with the text of its place.
-pub(crate) fn stated(alloc: Global, fault: Fault<'_>) -> AppFault
+pub(crate) fn stated(alloc: Global, fault: PlacedCause<'_>) -> AppFault
     ensures { IfSome (stated result) (λ t. t ≡ refusal_text (refusal_of fault.entry)) }
 {
     match place_text(alloc, fault.place) {

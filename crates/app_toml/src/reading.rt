@@ -10,7 +10,7 @@ use crate::app::App;
 use crate::crossed::cross_fault;
 use crate::document::form_fault;
 use crate::parts::{AppFault, Parts};
-use crate::places::{Fault, head_place, stated};
+use crate::places::{PlacedCause, head_place, stated};
 use crate::values::parts_in;
 use std::alloc::Global;
 use toml::Table;
@@ -20,7 +20,7 @@ fn no_toml(alloc: Global) -> AppFault
 {
     stated(
         alloc,
-        Fault {
+        PlacedCause {
             cause: 1,
             place: head_place("-"),
         },

@@ -8,7 +8,7 @@ ghost use Rattle.app_toml.specs.Sites.{device_of, refusal_of, region_of, task_of
 
 use crate::known::{known_names, known_regions, learn};
 use crate::parts::{DeviceSpec, Parts, RegionSpec, TaskSpec};
-use crate::places::{Fault, entry_place, fault_at, first_of, index_place, key_place};
+use crate::places::{PlacedCause, entry_place, fault_at, first_of, index_place, key_place};
 use crate::tasks::task_place;
 use std::alloc::{AllocError, Global};
 use std::collections::BTreeSet;
@@ -21,7 +21,7 @@ fn entries_twice(
     k: usize,
     key: &'static str,
     names: &[String],
-) -> Result<Option<Fault<'static>>, AllocError>
+) -> Result<Option<PlacedCause<'static>>, AllocError>
     ensures { IfOk result (λ found. option_map refusal_of found
         ≡ entries_twice (map string_bytes earlier.now) (task_site k key.now) (map string_bytes names.now)) }
 {
@@ -38,7 +38,7 @@ fn entries_twice(
 }
 
 /// The fault of the i-th table of a list, whose name is not new.
-fn named_twice(head: &'static str, i: usize) -> Option<Fault<'static>>
+fn named_twice(head: &'static str, i: usize) -> Option<PlacedCause<'static>>
     ensures { option_map refusal_of result ≡ refuse 7 (at_key (codes "name") (index_site head.now i)) }
 {
     fault_at(7, key_place(index_place(head, i), "name"))
@@ -49,7 +49,7 @@ fn lists_twice(
     alloc: Global,
     k: usize,
     task: &TaskSpec,
-) -> Result<Option<Fault<'static>>, AllocError>
+) -> Result<Option<PlacedCause<'static>>, AllocError>
     ensures { IfOk result (λ found. option_map refusal_of found ≡ lists_twice k (task_of task.now)) }
 {
     let uses = task.uses.as_slice();
@@ -66,7 +66,10 @@ fn lists_twice(
 }
 
 /// Of the tasks: each one's name, then its lists.
-fn tasks_twice(alloc: Global, tasks: &[TaskSpec]) -> Result<Option<Fault<'static>>, AllocError>
+fn tasks_twice(
+    alloc: Global,
+    tasks: &[TaskSpec],
+) -> Result<Option<PlacedCause<'static>>, AllocError>
     ensures { IfOk result (λ found. option_map refusal_of found ≡ first_clash task_twice [] 0 (map task_of tasks.now)) }
 {
     let mut known = BTreeSet::new(alloc);
@@ -88,7 +91,7 @@ fn tasks_twice(alloc: Global, tasks: &[TaskSpec]) -> Result<Option<Fault<'static
 fn regions_twice(
     alloc: Global,
     regions: &[RegionSpec],
-) -> Result<Option<Fault<'static>>, AllocError>
+) -> Result<Option<PlacedCause<'static>>, AllocError>
     ensures { IfOk result (λ found. option_map refusal_of found
         ≡ first_clash region_twice [] 0 (map region_of regions.now)) }
 {
@@ -109,7 +112,7 @@ fn devices_twice(
     alloc: Global,
     regions: &[RegionSpec],
     devices: &[DeviceSpec],
-) -> Result<Option<Fault<'static>>, AllocError>
+) -> Result<Option<PlacedCause<'static>>, AllocError>
     ensures { IfOk result (λ found. option_map refusal_of found
         ≡ first_clash (device_twice (map region_of regions.now)) [] 0 (map device_of devices.now)) }
 {
@@ -126,7 +129,10 @@ fn devices_twice(
 }
 
 /// The first name used before: task by task, then regions, then devices.
-pub(crate) fn name_twice(alloc: Global, parts: &Parts) -> Result<Option<Fault<'static>>, AllocError>
+pub(crate) fn name_twice(
+    alloc: Global,
+    parts: &Parts,
+) -> Result<Option<PlacedCause<'static>>, AllocError>
     ensures { IfOk result (λ found. option_map refusal_of found ≡ name_twice (parts_of parts.now)) }
 {
     let regions = parts.regions.as_slice();

@@ -1,77 +1,77 @@
 //! The keys of each table, in order of reading, with their limits: docs/FORMATS.md, Application.
 
-use crate::forms::Form;
+use crate::forms::ValueForm;
 use crate::keys::Key;
 
 pub(crate) static BOARD_KEYS: [Key; 2] = [
     Key {
         name: "flash",
         is_needed: true,
-        form: Form::Number(256, 1_048_576),
+        form: ValueForm::Number(256, 1_048_576),
     },
     Key {
         name: "ram",
         is_needed: true,
-        form: Form::Number(256, 262_144),
+        form: ValueForm::Number(256, 262_144),
     },
 ];
 
 pub(crate) static SUPERVISOR_KEYS: [Key; 1] = [Key {
     name: "fault",
     is_needed: true,
-    form: Form::Name,
+    form: ValueForm::Name,
 }];
 
 pub(crate) static TASK_KEYS: [Key; 10] = [
     Key {
         name: "name",
         is_needed: true,
-        form: Form::Name,
+        form: ValueForm::Name,
     },
     Key {
         name: "source",
         is_needed: true,
-        form: Form::Filled,
+        form: ValueForm::Filled,
     },
     Key {
         name: "priority",
         is_needed: true,
-        form: Form::Number(0, 255),
+        form: ValueForm::Number(0, 255),
     },
     Key {
         name: "start",
         is_needed: false,
-        form: Form::Flag,
+        form: ValueForm::Flag,
     },
     Key {
         name: "flash",
         is_needed: true,
-        form: Form::Number(1, 1_048_576),
+        form: ValueForm::Number(1, 1_048_576),
     },
     Key {
         name: "ram",
         is_needed: true,
-        form: Form::Number(1, 262_144),
+        form: ValueForm::Number(1, 262_144),
     },
     Key {
         name: "stack",
         is_needed: true,
-        form: Form::Number(0, 262_144),
+        form: ValueForm::Number(0, 262_144),
     },
     Key {
         name: "notifications",
         is_needed: false,
-        form: Form::Names,
+        form: ValueForm::Names,
     },
     Key {
         name: "uses",
         is_needed: false,
-        form: Form::Names,
+        form: ValueForm::Names,
     },
     Key {
         name: "reads",
         is_needed: false,
-        form: Form::Names,
+        form: ValueForm::Names,
     },
 ];
 
@@ -79,12 +79,12 @@ pub(crate) static REGION_KEYS: [Key; 2] = [
     Key {
         name: "name",
         is_needed: true,
-        form: Form::Name,
+        form: ValueForm::Name,
     },
     Key {
         name: "size",
         is_needed: true,
-        form: Form::Number(1, 262_144),
+        form: ValueForm::Number(1, 262_144),
     },
 ];
 
@@ -92,17 +92,17 @@ pub(crate) static DEVICE_KEYS: [Key; 3] = [
     Key {
         name: "name",
         is_needed: true,
-        form: Form::Name,
+        form: ValueForm::Name,
     },
     Key {
         name: "base",
         is_needed: true,
-        form: Form::Number(0, 4_294_967_295),
+        form: ValueForm::Number(0, 4_294_967_295),
     },
     Key {
         name: "size",
         is_needed: true,
-        form: Form::Number(256, 536_870_912),
+        form: ValueForm::Number(256, 536_870_912),
     },
 ];
 
@@ -110,16 +110,16 @@ pub(crate) static INTERRUPT_KEYS: [Key; 3] = [
     Key {
         name: "line",
         is_needed: true,
-        form: Form::Number(0, 63),
+        form: ValueForm::Number(0, 63),
     },
     Key {
         name: "task",
         is_needed: true,
-        form: Form::Name,
+        form: ValueForm::Name,
     },
     Key {
         name: "notification",
         is_needed: true,
-        form: Form::Name,
+        form: ValueForm::Name,
     },
 ];

@@ -7,9 +7,11 @@ ghost use Rattle.app_toml.specs.Rules.{rule_fault};
 ghost use Rattle.app_toml.specs.Sites.{refusal_of, site_of, task_of};
 
 use crate::parts::TaskSpec;
-use crate::places::{Fault, Place, fault_if, first_of, head_place, index_place, key_place};
+use crate::places::{
+    Location, PlacedCause, fault_if, first_of, head_place, index_place, key_place,
+};
 
-pub(crate) fn task_place(k: usize, key: &'static str) -> Place<'static>
+pub(crate) fn task_place(k: usize, key: &'static str) -> Location<'static>
     ensures { site_of result ≡ task_site k key.now }
 {
     key_place(index_place("task", k), key)
@@ -43,7 +45,7 @@ fn is_bad_stack(ram: u32, stack: u32) -> bool
 }
 
 /// Of the k-th task.
-fn rule_fault(rule: Rule, k: usize, task: &TaskSpec) -> Option<Fault<'static>>
+fn rule_fault(rule: Rule, k: usize, task: &TaskSpec) -> Option<PlacedCause<'static>>
     ensures { option_map refusal_of result ≡ rule_fault rule k (task_of task.now) }
 {
     let (is_broken, cause, key) = match rule {
@@ -56,7 +58,7 @@ fn rule_fault(rule: Rule, k: usize, task: &TaskSpec) -> Option<Fault<'static>>
 }
 
 /// The first task that breaks a rule.
-fn first_broken(rule: Rule, tasks: &[TaskSpec]) -> Option<Fault<'static>>
+fn first_broken(rule: Rule, tasks: &[TaskSpec]) -> Option<PlacedCause<'static>>
     ensures { option_map refusal_of result ≡ first_fault (rule_fault rule) 0 (map task_of tasks.now) }
 {
     for i in 0..tasks.len() {
@@ -68,7 +70,7 @@ fn first_broken(rule: Rule, tasks: &[TaskSpec]) -> Option<Fault<'static>>
     None
 }
 
-fn task_count(tasks: &[TaskSpec]) -> Option<Fault<'static>>
+fn task_count(tasks: &[TaskSpec]) -> Option<PlacedCause<'static>>
     ensures { option_map refusal_of result ≡ task_count (map task_of tasks.now) }
 {
     let many = fault_if(tasks.len() > 512, 11, index_place("task", 512));
@@ -79,7 +81,7 @@ fn task_count(tasks: &[TaskSpec]) -> Option<Fault<'static>>
 }
 
 /// The first fault of causes 11 to 14.
-pub(crate) fn count_fault(tasks: &[TaskSpec]) -> Option<Fault<'static>>
+pub(crate) fn count_fault(tasks: &[TaskSpec]) -> Option<PlacedCause<'static>>
     ensures { option_map refusal_of result ≡ count_fault (map task_of tasks.now) }
 {
     let notifications = first_broken(Rule::Notifications, tasks);
@@ -87,7 +89,7 @@ pub(crate) fn count_fault(tasks: &[TaskSpec]) -> Option<Fault<'static>>
     first_of(task_count(tasks), first_of(notifications, regions))
 }
 
-fn supervisor_stopped(tasks: &[TaskSpec]) -> Option<Fault<'static>>
+fn supervisor_stopped(tasks: &[TaskSpec]) -> Option<PlacedCause<'static>>
     ensures { option_map refusal_of result ≡ supervisor_stopped (map task_of tasks.now) }
 {
     if tasks.is_empty() {
@@ -97,7 +99,7 @@ fn supervisor_stopped(tasks: &[TaskSpec]) -> Option<Fault<'static>>
 }
 
 /// The first fault of causes 15 to 17.
-pub(crate) fn start_fault(tasks: &[TaskSpec]) -> Option<Fault<'static>>
+pub(crate) fn start_fault(tasks: &[TaskSpec]) -> Option<PlacedCause<'static>>
     ensures { option_map refusal_of result ≡ start_fault (map task_of tasks.now) }
 {
     let priority = first_broken(Rule::Priority, tasks);

@@ -12,19 +12,20 @@ use crate::known::{Names, TaskNames, has_bit, is_area, is_kept, kept_tasks, know
 use crate::names::is_among;
 use crate::parts::{LineSpec, Parts, TaskSpec};
 use crate::places::{
-    Fault, Place, entry_place, fault_at, fault_if, first_of, head_place, index_place, key_place,
+    Location, PlacedCause, entry_place, fault_at, fault_if, first_of, head_place, index_place,
+    key_place,
 };
 use crate::tasks::task_place;
 use std::alloc::{AllocError, Global};
 
-pub(crate) fn interrupt_place(k: usize, key: &'static str) -> Place<'static>
+pub(crate) fn interrupt_place(k: usize, key: &'static str) -> Location<'static>
     ensures { site_of result ≡ interrupt_site k key.now }
 {
     key_place(index_place("interrupt", k), key)
 }
 
 /// The first interrupt whose task there is not.
-fn unknown_owner(kept: &TaskNames, interrupts: &[LineSpec]) -> Option<Fault<'static>>
+fn unknown_owner(kept: &TaskNames, interrupts: &[LineSpec]) -> Option<PlacedCause<'static>>
     ensures { (tasks : List TaskData) → Keeps kept.now tasks → option_map refusal_of result
         ≡ first_fault (unknown_owner tasks) 0 (map interrupt_of interrupts.now) }
 {
@@ -37,7 +38,7 @@ fn unknown_owner(kept: &TaskNames, interrupts: &[LineSpec]) -> Option<Fault<'sta
 }
 
 /// The supervisor's fault notification is one of task 0, where there is one.
-fn unknown_fault_bit(fault: &str, tasks: &[TaskSpec]) -> Option<Fault<'static>>
+fn unknown_fault_bit(fault: &str, tasks: &[TaskSpec]) -> Option<PlacedCause<'static>>
     ensures { option_map refusal_of result ≡ unknown_fault_bit fault.now (map task_of tasks.now) }
 {
     if tasks.is_empty() {
@@ -48,7 +49,7 @@ fn unknown_fault_bit(fault: &str, tasks: &[TaskSpec]) -> Option<Fault<'static>>
 }
 
 /// The first interrupt whose notification its task has not.
-fn unknown_bit(kept: &TaskNames, interrupts: &[LineSpec]) -> Option<Fault<'static>>
+fn unknown_bit(kept: &TaskNames, interrupts: &[LineSpec]) -> Option<PlacedCause<'static>>
     ensures { (tasks : List TaskData) → Keeps kept.now tasks → option_map refusal_of result
         ≡ first_fault (unknown_bit tasks) 0 (map interrupt_of interrupts.now) }
 {
@@ -68,7 +69,7 @@ fn unknown_entry(
     k: usize,
     key: &'static str,
     names: &[String],
-) -> Option<Fault<'static>>
+) -> Option<PlacedCause<'static>>
     ensures { (regions : List RegionData) (devices : List DeviceData) → NamesAreas known.now regions devices → option_map refusal_of result
         ≡ first_fault (unknown_entry regions devices (task_site k key.now)) 0 (map string_bytes names.now) }
 {
@@ -82,7 +83,7 @@ fn unknown_entry(
 }
 
 /// Of what the k-th task uses, then of what it reads.
-fn unknown_region(known: &Names, k: usize, task: &TaskSpec) -> Option<Fault<'static>>
+fn unknown_region(known: &Names, k: usize, task: &TaskSpec) -> Option<PlacedCause<'static>>
     ensures { (regions : List RegionData) (devices : List DeviceData) → NamesAreas known.now regions devices → option_map refusal_of result
         ≡ unknown_region regions devices k (task_of task.now) }
 {
@@ -93,7 +94,7 @@ fn unknown_region(known: &Names, k: usize, task: &TaskSpec) -> Option<Fault<'sta
     unknown_entry(known, k, "reads", task.reads.as_slice())
 }
 
-fn unknown_regions(known: &Names, tasks: &[TaskSpec]) -> Option<Fault<'static>>
+fn unknown_regions(known: &Names, tasks: &[TaskSpec]) -> Option<PlacedCause<'static>>
     ensures { (regions : List RegionData) (devices : List DeviceData) → NamesAreas known.now regions devices → option_map refusal_of result
         ≡ first_fault (unknown_region regions devices) 0 (map task_of tasks.now) }
 {
@@ -110,7 +111,7 @@ fn unknown_regions(known: &Names, tasks: &[TaskSpec]) -> Option<Fault<'static>>
 pub(crate) fn unknown_name(
     alloc: Global,
     parts: &Parts,
-) -> Result<Option<Fault<'static>>, AllocError>
+) -> Result<Option<PlacedCause<'static>>, AllocError>
     ensures { IfOk result (λ found. option_map refusal_of found ≡ unknown_name (parts_of parts.now)) }
 {
     let tasks = parts.tasks.as_slice();

@@ -1,8 +1,6 @@
 -- What an instruction that has a code is: it fits, and its list is a byte.
-use Rattle.std.specs.Prelude.{◌≡◌, ◌<◌, ℕ, ◌*◌, ◌/◌, ◌+◌, ◌^◌, Some, None}
-use Rattle.std.proofs.Common.{arith, ap, subst}
-use Rattle.std.proofs.lemmas.Nat.{mod_below}
-use Rattle.thumb_insn.specs.Fields.{field}
+use Rattle.std.specs.Prelude.{◌≡◌, ◌<◌, ℕ, ◌*◌, ◌+◌, Some, None}
+use Rattle.std.proofs.Common.{ap, subst}
 use Rattle.thumb_insn.specs.declared.Insn.{Insn}
 use Rattle.thumb_insn.specs.declared.Code.TheVariants.{One, Two}
 use Rattle.thumb_insn.specs.Table.{rows, wide_rows, narrow_of, wide_of}

@@ -1,7 +1,7 @@
 -- Which instruction a shape is, and that it is accepted.
 use Rattle.std.proofs.Common.{◌≡◌, ℕ, length, not, ◌&&◌, ◌+◌, ◌*◌, ◌/◌, ◌<◌, ◌≤◌, List, ◌∷◌, refl, arith, Bool, true, false, nat_le, nat_lt, ◌||◌, Some, None, Ok}
 use Rattle.std.specs.Prelude.{ℤ, pos, negsuc, ◌-ℤ◌}
-use Rattle.std.proofs.lemmas.Bool.{not-true, leb-true, or_parts, and_parts}
+use Rattle.std.proofs.lemmas.Bool.{not-true, leb-true, and_parts}
 use Rattle.std.proofs.lemmas.Bool.Decides.{nat_tests}
 use Rattle.std.specs.List.{list_all}
 use Rattle.thumb_insn.specs.declared.Reg.{Reg}

@@ -1,5 +1,5 @@
 -- A source is assembled to as many bytes as its lines take.
-use Rattle.std.proofs.Common.{◌≡◌, ℕ, ◌+◌, ◌*◌, List, [], ◌∷◌, length, length-append, mul-zero, mul-suc, add_comm, refl, ap, ◌∙◌, sym, subst, Bool, true, false, Option, Some, None, Result, Ok, Err, ℤ}
+use Rattle.std.proofs.Common.{◌≡◌, ℕ, ◌+◌, ◌*◌, List, [], ◌∷◌, length, length-append, mul-zero, mul-suc, add_comm, refl, ap, ◌∙◌, sym, subst, Bool, true, false, Option, Some, None, Result, Ok, Err}
 use Rattle.std.proofs.lemmas.Bool.{or_parts}
 use Rattle.std.specs.Prelude.{is_some}
 use Rattle.std.specs.List.{list_any}
@@ -13,11 +13,11 @@ use Rattle.thumb_asm.specs.Syntax.{Shape, Fixed, Filled, Within, Aimed, Near, Mi
 use Rattle.thumb_asm.specs.Sizes.{shape_size, statement_of, natural_part, padding}
 use Rattle.thumb_asm.specs.Meaning.{Env, Names, env_of, value, value_bytes, data_bytes, insn_at, Means, Spells, Lays}
 use Rattle.thumb_asm.specs.Assembly.{Assembles}
-use Rattle.thumb_asm.specs.Causes.{when, is_unknown, shape_cause, second_group, second_in, at_line, size_by, line_size, labels_from, first_in, first_cause}
+use Rattle.thumb_asm.specs.Causes.{is_unknown, shape_cause, second_group, second_in, at_line, size_by, line_size, labels_from, first_in, first_cause}
 use Rattle.thumb_asm.proofs.Values.{repeat_length, known_length}
 use Rattle.thumb_asm.specs.Passes.{size_from}
 use Rattle.asm_laws.proofs.Steady.{Steady, IsSteady, steady_statement}
-use Rattle.asm_laws.proofs.Lengths.{Alike, CodesOf, number_length, data_length, coded_length, shape_long, insn_long}
+use Rattle.asm_laws.proofs.Lengths.{Alike, CodesOf, data_length, coded_length, shape_long, insn_long}
 use Rattle.asm_laws.proofs.Single.{same_entries, alike_label, alike_env}
 use Rattle.thumb_asm.proofs.Placing.{not_when}
 

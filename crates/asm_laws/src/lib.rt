@@ -8,7 +8,7 @@
 
 mod image;
 
-ghost use Rattle.std.specs.Prelude.{◌≡◌, ℕ};
+ghost use Rattle.std.specs.Prelude.{ℕ};
 ghost use Rattle.thumb_insn.specs.Range.{IsCoded};
 ghost use Rattle.thumb_insn.specs.declared.Insn.{Insn as Instruction};
 ghost use Rattle.asm_laws.specs.Reading.{HasTarget, IsRead, IsSpelled, IsAccepted, IsAssembled};

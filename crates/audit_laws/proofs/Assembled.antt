@@ -7,15 +7,15 @@ use Rattle.std.proofs.lemmas.List.Elements.{Contains-push_cases, Contains-append
 use Rattle.kernel_abi.specs.declared.Note.{Note}
 use Rattle.text_lines.specs.Text.{with_first}
 use Rattle.trace_text.specs.Text.{line_of}
-use Rattle.trace_audit.specs.declared.reading.Line.{Line}
-use Rattle.trace_audit.specs.declared.reading.Line.TheVariants as line
+use Rattle.trace_audit.specs.declared.reading.TraceLine.{TraceLine}
+use Rattle.trace_audit.specs.declared.reading.TraceLine.TheVariants as line
 use Rattle.trace_audit.specs.declared.reading.Saying.{Saying}
 use Rattle.trace_audit.specs.declared.reading.Saying.TheVariants as saying
-use Rattle.trace_audit.specs.declared.reading.Wait.{Wait}
+use Rattle.trace_audit.specs.declared.reading.FinalWait.{FinalWait}
 use Rattle.trace_audit.specs.Meaning.{read}
 use Rattle.trace_audit.specs.Rules.{said, is_end, IsOffered, IsTaken, IsClosed, IsGoodSaying, IsGoodWait, IsGoodTelling, IsGoodLine, AreGood, IsGood, turn_after, has_ended}
 use Rattle.trace_audit.specs.Texts.{lines_of}
-use Rattle.trace_audit.specs.Verdicts.{is_printable, read_lines}
+use Rattle.trace_audit.specs.Judgements.{is_printable, read_lines}
 use Rattle.audit_laws.specs.Told.{told_by, IsLine}
 use Rattle.audit_laws.proofs.Fitting.{AreFitNotes}
 use Rattle.audit_laws.specs.Whole.{notes_told, AreGoodSayings, AreLines, joined, IsLastLine, AreLastLines}
@@ -50,20 +50,20 @@ cut_line (c ∷ cs) rest h =
     cut_more c (cs ++ 10 ∷ rest) (no_lf c two.0) ∙ ap (with_first c) (cut_line cs rest two.1)
 
 -- one line and what follows
-read_line : (bytes rest : List ℕ) (l : Line) → IsLine bytes l → read_lines (bytes ++ rest) ≡ l ∷ read_lines rest
+read_line : (bytes rest : List ℕ) (l : TraceLine) → IsLine bytes l → read_lines (bytes ++ rest) ≡ l ∷ read_lines rest
 read_line bytes rest l is =
     ap (λ b. read_lines (b ++ rest)) is.spelled
     ∙ ap read_lines (append_assoc is.text (10 ∷ []) rest)
     ∙ ap (map read) (cut_line is.text rest is.printable)
     ∙ ap (λ x. x ∷ read_lines rest) is.reads
 
-read_joined : (texts : List (List ℕ)) (ls : List Line) → AreLines texts ls → read_lines (joined texts) ≡ ls
+read_joined : (texts : List (List ℕ)) (ls : List TraceLine) → AreLines texts ls → read_lines (joined texts) ≡ ls
 read_joined [] [] h = ap (map read) cut_nothing
 read_joined [] (l ∷ ls) h = absurd h
 read_joined (t ∷ texts) [] h = absurd h
 read_joined (t ∷ texts) (l ∷ ls) h = read_line t (joined texts) l h.0 ∙ ap (λ xs. l ∷ xs) (read_joined texts ls h.1)
 
-tells : ℕ × Note → Line
+tells : ℕ × Note → TraceLine
 tells n = line.Tells n.0 (told_by n.1)
 
 read_notes : (last : ℕ) (notes : List (ℕ × Note)) (rest : List ℕ) → AreFitNotes last notes → read_lines (notes_text notes ++ rest) ≡ map tells notes ++ read_lines rest
@@ -125,7 +125,7 @@ still_taken before k h = elim (Contains-push_cases before saying.Nothing (saying
 still_closed : (before : List Saying) (k : ℕ) → IsClosed (before ++ saying.Nothing ∷ []) k → IsClosed before k
 still_closed before k (answer, h) = elim (Contains-push_cases before saying.Nothing (saying.Closes k answer) h) [ inl old ↦ (answer, old) | inr e ↦ absurd cc ]
 
-wait_aside : (before : List Saying) (i : ℕ) (w : Wait) → IsGoodWait before i w → IsGoodWait (before ++ saying.Nothing ∷ []) i w
+wait_aside : (before : List Saying) (i : ℕ) (w : FinalWait) → IsGoodWait before i w → IsGoodWait (before ++ saying.Nothing ∷ []) i w
 wait_aside before i w h = record {
   offered = λ k. (
     λ e. let a = (h.offered k).0 e in (Contains-append_left before (saying.Nothing ∷ []) (saying.Offers k i) a.0, λ c. a.1 (still_closed before k c), λ t. a.2 (still_taken before k t)),
@@ -138,9 +138,9 @@ wait_aside before i w h = record {
 }
 
 Waits : List Saying → List Saying → Type 0
-Waits told before = (i : ℕ) (w : Wait) → IsGoodWait told i w → IsGoodWait before i w
+Waits told before = (i : ℕ) (w : FinalWait) → IsGoodWait told i w → IsGoodWait before i w
 
-waits_on : (told : List Saying) (before : List Line) (l : Line) → said l ≡ saying.Nothing → Waits told (map said before) → Waits told (map said (before ++ l ∷ []))
+waits_on : (told : List Saying) (before : List TraceLine) (l : TraceLine) → said l ≡ saying.Nothing → Waits told (map said before) → Waits told (map said (before ++ l ∷ []))
 unfolding Waits
 waits_on told before l e h i w g = subst (λ ss. IsGoodWait ss i w) (sym (map_push said before l ∙ ap (λ s. map said before ++ s ∷ []) e)) (wait_aside (map said before) i w (h i w g))
 
@@ -148,22 +148,22 @@ or_more : (b x y : Bool) → (x ≡ true → y ≡ true) → (b || x) ≡ true �
 or_more true x y h e = refl
 or_more false x y h e = h e
 
-any_push : (before : List Line) (l : Line) → has_ended before ≡ true → has_ended (before ++ l ∷ []) ≡ true
+any_push : (before : List TraceLine) (l : TraceLine) → has_ended before ≡ true → has_ended (before ++ l ∷ []) ≡ true
 any_push [] l h = absurd (false≢true h)
 any_push (x ∷ before) l h = or_more (is_end x) (has_ended before) (has_ended (before ++ l ∷ [])) (λ e. any_push before l e) h
 
-any_here : (before : List Line) → has_ended (before ++ line.Ends ∷ []) ≡ true
+any_here : (before : List TraceLine) → has_ended (before ++ line.Ends ∷ []) ≡ true
 any_here [] = refl
 any_here (x ∷ before) = or_right (is_end x) (has_ended (before ++ line.Ends ∷ [])) (any_here before)
 
-last_nothing : (told : List Saying) (l : Line) → IsLastLine told l → said l ≡ saying.Nothing
+last_nothing : (told : List Saying) (l : TraceLine) → IsLastLine told l → said l ≡ saying.Nothing
 last_nothing told (line.Tells turn s) h = absurd h
 last_nothing told line.Ends h = absurd h
 last_nothing told (line.Waits task w) h = refl
 last_nothing told line.Shows h = refl
 last_nothing told line.Strange h = absurd h
 
-last_good : (told : List Saying) (before : List Line) (l : Line) → has_ended before ≡ true → Waits told (map said before) → IsLastLine told l → IsGoodLine before l
+last_good : (told : List Saying) (before : List TraceLine) (l : TraceLine) → has_ended before ≡ true → Waits told (map said before) → IsLastLine told l → IsGoodLine before l
 unfolding Waits
 last_good told before (line.Tells turn s) ended h is = absurd is
 last_good told before line.Ends ended h is = absurd is
@@ -171,7 +171,7 @@ last_good told before (line.Waits task w) ended h is = (ended, h task w is)
 last_good told before line.Shows ended h is = ended
 last_good told before line.Strange ended h is = absurd is
 
-good_last : (told : List Saying) (before rest : List Line) → AreGood before → has_ended before ≡ true → Waits told (map said before) → AreLastLines told rest → IsGood (before ++ rest)
+good_last : (told : List Saying) (before rest : List TraceLine) → AreGood before → has_ended before ≡ true → Waits told (map said before) → AreLastLines told rest → IsGood (before ++ rest)
 good_last told before [] good ended h are = subst IsGood (sym (append-nil before)) (record { each = good; ended = ended })
 good_last told before (l ∷ rest) good ended h are =
     subst IsGood (append_assoc before (l ∷ []) rest)
@@ -183,7 +183,7 @@ good_last told before (l ∷ rest) good ended h are =
 
 -- ## the whole
 
-good_whole : (notes : List (ℕ × Note)) (rest : List Line) → AreFitNotes 0 notes → AreGoodSayings (notes_told notes) → AreLastLines (notes_told notes) rest → IsGood (map tells notes ++ line.Ends ∷ rest)
+good_whole : (notes : List (ℕ × Note)) (rest : List TraceLine) → AreFitNotes 0 notes → AreGoodSayings (notes_told notes) → AreLastLines (notes_told notes) rest → IsGood (map tells notes ++ line.Ends ∷ rest)
 unfolding Waits
 good_whole notes rest fit says are =
     subst IsGood (append_assoc (map tells notes) (line.Ends ∷ []) rest)
@@ -193,7 +193,7 @@ good_whole notes rest fit says are =
     (waits_on (notes_told notes) (map tells notes) line.Ends refl (λ i w g. subst (λ ss. IsGoodWait ss i w) (sym (said_notes notes)) g))
     are)
 
-pub text_good : (notes : List (ℕ × Note)) (texts : List (List ℕ)) (rest : List Line) → AreFitNotes 0 notes → AreGoodSayings (notes_told notes) → AreLines texts (line.Ends ∷ rest) → AreLastLines (notes_told notes) rest → IsGood (read_lines (notes_text notes ++ joined texts))
+pub text_good : (notes : List (ℕ × Note)) (texts : List (List ℕ)) (rest : List TraceLine) → AreFitNotes 0 notes → AreGoodSayings (notes_told notes) → AreLines texts (line.Ends ∷ rest) → AreLastLines (notes_told notes) rest → IsGood (read_lines (notes_text notes ++ joined texts))
 text_good notes texts rest fit says lines are =
     subst IsGood (sym (read_notes 0 notes (joined texts) fit ∙ ap (λ ls. map tells notes ++ ls) (read_joined texts (line.Ends ∷ rest) lines)))
     (good_whole notes rest fit says are)

@@ -6,10 +6,10 @@ use Rattle.kernel_abi.specs.declared.Health.TheVariants.{Well, Stopped, Faulted}
 use Rattle.kernel_abi.specs.declared.Timer.{Timer}
 use Rattle.trace_text.specs.Text.{hex, low_words, high_words}
 use Rattle.trace_audit.specs.declared.forms.Field.TheVariants as field
-use Rattle.trace_audit.specs.declared.reading.Line.{Line}
-use Rattle.trace_audit.specs.declared.reading.Line.TheVariants as line
-use Rattle.trace_audit.specs.declared.reading.Wait.{Wait}
-use Rattle.trace_audit.specs.declared.reading.Wait.TheVariants as wait
+use Rattle.trace_audit.specs.declared.reading.TraceLine.{TraceLine}
+use Rattle.trace_audit.specs.declared.reading.TraceLine.TheVariants as line
+use Rattle.trace_audit.specs.declared.reading.FinalWait.{FinalWait}
+use Rattle.trace_audit.specs.declared.reading.FinalWait.TheVariants as wait
 use Rattle.trace_audit.specs.Fields.{is_of, is_hex, behind}
 use Rattle.trace_audit.specs.Meaning.{read, wait_of}
 use Rattle.audit_laws.proofs.Spelling.{is_in_word, IsWord, AreWords, spaced, all_joined, words_printable}
@@ -22,7 +22,7 @@ use Rattle.trace_text.specs.Lines.{health_text, timer_text, task_line}
 use Rattle.audit_laws.proofs.Hexes.{hex_fits, registers_spaced, spaced_joined}
 use Rattle.audit_laws.proofs.Spelled.{so_many, flags, flags_word}
 
-of_name : (name : List ℕ) (ws : List (List ℕ)) (bytes : List ℕ) (l : Line) → IsWord name → AreWords ws → bytes ≡ (name ++ spaced ws) ++ 10 ∷ [] → read (name ++ spaced ws) ≡ l → IsLine bytes l
+of_name : (name : List ℕ) (ws : List (List ℕ)) (bytes : List ℕ) (l : TraceLine) → IsWord name → AreWords ws → bytes ≡ (name ++ spaced ws) ++ 10 ∷ [] → read (name ++ spaced ws) ≡ l → IsLine bytes l
 of_name name ws bytes l is are e r = record { text = name ++ spaced ws; spelled = e; printable = words_printable name ws is are; reads = r }
 
 -- ## the end
@@ -54,7 +54,7 @@ timer_word (Some t) fit =
     subst (λ w. IsWord w × (is_of field.Timer w ≡ true)) (sym (append_assoc (decimal t.deadline) (codes ":") (hex t.bits)))
     (all_joined is_in_word (decimal t.deadline) (58 ∷ hex t.bits) (decimal_word t.deadline fit) (hex_word 8 (hex t.bits) (hex_fits t.bits)), of_timer t.deadline (hex t.bits) fit (hex_fits t.bits))
 
-record Waits (text : List ℕ) (w : Wait) : Type 0 where
+record Waits (text : List ℕ) (w : FinalWait) : Type 0 where
   word : IsWord text
   fits : is_of field.Wait text ≡ true
   says : wait_of text ≡ w
@@ -67,7 +67,7 @@ listens : Waits (codes "listen") wait.Other
 unfolding is_of behind wait_of
 listens = record { word = refl; fits = refl; says = refl }
 
-wait_word : (text : List ℕ) (w : Wait) → IsWaitText text w → Waits text w
+wait_word : (text : List ℕ) (w : FinalWait) → IsWaitText text w → Waits text w
 wait_word text wait.Other (inl e) = subst (λ t. Waits t wait.Other) (sym e) rests
 wait_word text wait.Other (inr e) = subst (λ t. Waits t wait.Other) (sym e) listens
 wait_word text (wait.Offered k) h = subst (λ t. Waits t (wait.Offered k)) (sym h.0) (record { word = all_joined is_in_word (codes "offered:") (decimal k) refl (short k h.1); fits = of_wait_offered k h.1; says = wait_offered k h.1 })
@@ -76,7 +76,7 @@ wait_word text (wait.Taken k) h = subst (λ t. Waits t (wait.Taken k)) (sym h.0)
 task_spelled : (i generation : ℕ) (health w x timer : List ℕ) → codes "task " ++ decimal i ++ codes " " ++ decimal generation ++ codes " " ++ health ++ codes " " ++ w ++ (32 ∷ x) ++ codes " " ++ timer ++ codes "\n" ≡ (codes "task" ++ spaced (decimal i ∷ decimal generation ∷ health ∷ w ∷ x ∷ timer ∷ [])) ++ 10 ∷ []
 task_spelled i generation health w x timer = simp (append_assoc, append-nil)
 
-pub task_read : (i generation : ℕ) (health : Health) (text : List ℕ) (w : Wait) (posted : ℕ) (timer : Option Timer) → i < 2 ^ 32 → generation < 2 ^ 32 → IsFitHealth health → IsWaitText text w → IsFitTimer timer → IsLine (task_line i generation health text posted timer) (line.Waits i w)
+pub task_read : (i generation : ℕ) (health : Health) (text : List ℕ) (w : FinalWait) (posted : ℕ) (timer : Option Timer) → i < 2 ^ 32 → generation < 2 ^ 32 → IsFitHealth health → IsWaitText text w → IsFitTimer timer → IsLine (task_line i generation health text posted timer) (line.Waits i w)
 unfolding task_line
 task_read i generation health text w posted timer a b fit waits fits =
     let h = health_word health fit in

@@ -26,7 +26,7 @@ use Rattle.thumb_insn.specs.declared.Barrier.TheVariants as barrier
 use Rattle.thumb_insn.specs.declared.Insn.{Insn}
 use Rattle.thumb_insn.specs.declared.Insn.TheVariants.{ShiftImm, AddsReg, SubsReg, AddsImm3, SubsImm3, MovsImm, CmpImm, AddsImm8, SubsImm8, Data, AddHigh, CmpHigh, MovHigh, Bx, Blx, LdrLiteral, StoreReg, LoadReg, StoreImm, LoadImm, StoreSp, LoadSp, Adr, AddSp, RaiseSp, LowerSp, Change, Push, Pop, Cpsie, Cpsid, Bkpt, Hint, Stm, Ldm, BranchIf, Svc, Branch, Bl, Fence, Mrs, Msr}
 use Rattle.trace_audit.specs.Fields.{is_low_hex}
-use Rattle.trace_audit.specs.Verdicts.{is_printable}
+use Rattle.trace_audit.specs.Judgements.{is_printable}
 use Rattle.thumb_insn.specs.declared.Decoded.{Decoded}
 use Rattle.thumb_insn.specs.declared.Decoded.TheVariants as decoded
 use Rattle.trace_text.specs.Text.{decoded_text}

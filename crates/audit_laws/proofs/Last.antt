@@ -6,11 +6,11 @@ use Rattle.std.specs.List.{list_all}
 use Rattle.std.proofs.lemmas.Bool.Decides.{nat_tests}
 use Rattle.std.proofs.lemmas.Fmt.{decimal_nonempty}
 use Rattle.trace_audit.specs.declared.forms.Field.TheVariants as field
-use Rattle.trace_audit.specs.declared.forms.Kind.TheVariants as kind
-use Rattle.trace_audit.specs.declared.reading.Line.TheVariants as line
-use Rattle.trace_audit.specs.declared.reading.Wait.TheVariants as wait
+use Rattle.trace_audit.specs.declared.forms.LineKind.TheVariants as kind
+use Rattle.trace_audit.specs.declared.reading.TraceLine.TheVariants as line
+use Rattle.trace_audit.specs.declared.reading.FinalWait.TheVariants as wait
 use Rattle.trace_audit.specs.Texts.{plain_number, most_number, most_time}
-use Rattle.trace_audit.specs.Fields.{Form, form, is_number, is_low_hex, is_hex, is_any_of, behind, number_in, is_number_behind, is_timer, is_of, are_of, form_named, last_forms, turn_forms, end_form}
+use Rattle.trace_audit.specs.Fields.{LineForm, form, is_number, is_low_hex, is_hex, is_any_of, behind, number_in, is_number_behind, is_timer, is_of, are_of, form_named, last_forms, turn_forms, end_form}
 use Rattle.trace_audit.specs.Meaning.{read, fits, fitting, form_of, told, turn_line, wait_by, wait_of, shown_by, shown, row_of, or_else, last_line, end_line}
 use Rattle.audit_laws.proofs.Decimals.{number_back}
 use Rattle.audit_laws.proofs.Spelling.{IsWord, spaced, words_back}
@@ -20,7 +20,7 @@ use Rattle.audit_laws.proofs.Reading.{decimal_word, small, short, number_of_word
 
 end_words_back : (ws : List (List ℕ)) → (are_of end_form.fields false ws && true) ≡ true → by_words (codes "end" ∷ ws) ≡ line.Ends
 unfolding end_line
-end_words_back ws h = ap (λ b. unwrap_or (or_else (option_map (λ (f : Form). line.Ends) (cond b (Some end_form) None)) (or_else (turn_line (codes "end" ∷ ws)) (last_line (codes "end" ∷ ws)))) line.Strange) h
+end_words_back ws h = ap (λ b. unwrap_or (or_else (option_map (λ (f : LineForm). line.Ends) (cond b (Some end_form) None)) (or_else (turn_line (codes "end" ∷ ws)) (last_line (codes "end" ∷ ws)))) line.Strange) h
 
 pub end_back : (turns now : ℕ) (how : List ℕ) → turns < 2 ^ 32 → now < 2 ^ 64 → IsWord how → is_of field.End how ≡ true → read (codes "end" ++ spaced (how ∷ decimal turns ∷ decimal now ∷ [])) ≡ line.Ends
 end_back turns now how a b w o =
@@ -36,13 +36,13 @@ unfolding turn_line
 no_turn name [] h = refl
 no_turn name (w ∷ ws) h = ap (λ o. told o ws (form_of turn_forms w ws)) h
 
-named_back : (name : List ℕ) (ws : List (List ℕ)) (f : Form) → plain_number most_number name ≡ None → end_line (name ∷ ws) ≡ None → last_line (name ∷ ws) ≡ Some (shown_by f.kind ws) → by_words (name ∷ ws) ≡ shown_by f.kind ws
+named_back : (name : List ℕ) (ws : List (List ℕ)) (f : LineForm) → plain_number most_number name ≡ None → end_line (name ∷ ws) ≡ None → last_line (name ∷ ws) ≡ Some (shown_by f.kind ws) → by_words (name ∷ ws) ≡ shown_by f.kind ws
 named_back name ws f number end last =
     ap (λ o. unwrap_or (or_else o (or_else (turn_line (name ∷ ws)) (last_line (name ∷ ws)))) line.Strange) end
     ∙ ap (λ o. unwrap_or (or_else o (last_line (name ∷ ws))) line.Strange) (no_turn name ws number)
     ∙ ap (λ o. unwrap_or o line.Strange) last
 
-in_last : (name : List ℕ) (ws : List (List ℕ)) (f : Form) → form_named name last_forms ≡ Some f → fits f ws ≡ true → last_line (name ∷ ws) ≡ Some (shown_by f.kind ws)
+in_last : (name : List ℕ) (ws : List (List ℕ)) (f : LineForm) → form_named name last_forms ≡ Some f → fits f ws ≡ true → last_line (name ∷ ws) ≡ Some (shown_by f.kind ws)
 unfolding last_line
 in_last name ws f named fit = ap (λ o. or_else (shown ws (fitting ws o)) (row_of (name ∷ ws))) named ∙ ap (λ b. or_else (shown ws (cond b (Some f) None)) (row_of (name ∷ ws))) fit
 
@@ -143,11 +143,11 @@ apart_lengths (x ∷ xs) (y ∷ ys) h = and_false (eqb x y) (bytes_eq xs ys) (ap
     and_false false b e = refl
 
 -- each name is shorter
-abbrev are_short : ℕ → List Form → Bool
+abbrev are_short : ℕ → List LineForm → Bool
 are_short n [] = true
 are_short n (f ∷ fs) = ltb (length f.name) n && are_short n fs
 
-none_named : (w : List ℕ) (fs : List Form) → are_short (length w) fs ≡ true → form_named w fs ≡ None
+none_named : (w : List ℕ) (fs : List LineForm) → are_short (length w) fs ≡ true → form_named w fs ≡ None
 none_named w [] h = refl
 none_named w (f ∷ fs) h =
     let p = and_parts (ltb (length f.name) (length w)) (are_short (length w) fs) h in
@@ -168,7 +168,7 @@ told_none (Some t) ws = refl
 row_words : (a bytes : List ℕ) → form_named a (end_form ∷ []) ≡ None → form_named bytes turn_forms ≡ None → form_named a last_forms ≡ None → are_of (field.Word ∷ field.Row ∷ []) false (a ∷ bytes ∷ []) ≡ true → by_words (a ∷ bytes ∷ []) ≡ line.Shows
 unfolding end_line turn_line last_line
 row_words a bytes e t l r =
-    ap (λ o. unwrap_or (or_else (option_map (λ (f : Form). line.Ends) (fitting (bytes ∷ []) o)) (or_else (told (plain_number most_number a) [] (fitting [] (form_named bytes turn_forms))) (or_else (shown (bytes ∷ []) (fitting (bytes ∷ []) (form_named a last_forms))) (row_of (a ∷ bytes ∷ []))))) line.Strange) e
+    ap (λ o. unwrap_or (or_else (option_map (λ (f : LineForm). line.Ends) (fitting (bytes ∷ []) o)) (or_else (told (plain_number most_number a) [] (fitting [] (form_named bytes turn_forms))) (or_else (shown (bytes ∷ []) (fitting (bytes ∷ []) (form_named a last_forms))) (row_of (a ∷ bytes ∷ []))))) line.Strange) e
     ∙ ap (λ o. unwrap_or (or_else (told (plain_number most_number a) [] (fitting [] o)) (or_else (shown (bytes ∷ []) (fitting (bytes ∷ []) (form_named a last_forms))) (row_of (a ∷ bytes ∷ [])))) line.Strange) t
     ∙ ap (λ o. unwrap_or (or_else o (or_else (shown (bytes ∷ []) (fitting (bytes ∷ []) (form_named a last_forms))) (row_of (a ∷ bytes ∷ [])))) line.Strange) (told_none (plain_number most_number a) [])
     ∙ ap (λ o. unwrap_or (or_else (shown (bytes ∷ []) (fitting (bytes ∷ []) o)) (row_of (a ∷ bytes ∷ []))) line.Strange) l

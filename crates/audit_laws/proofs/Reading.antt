@@ -1,16 +1,16 @@
 -- The words of each form are read as what they say.
-use Rattle.std.proofs.Common.{◌≡◌, ℕ, suc, zero, ◌-◌, ◌^◌, ◌<◌, ◌⊎◌, inl, inr, Bool, true, false, cond, eqb, ◌&&◌, ◌||◌, List, [], ◌∷◌, ◌++◌, length, Some, None, refl, ap, ◌∙◌, arith}
+use Rattle.std.proofs.Common.{◌≡◌, ℕ, suc, zero, ◌-◌, ◌^◌, ◌<◌, ◌⊎◌, inl, inr, true, false, cond, eqb, ◌&&◌, List, [], ◌∷◌, ◌++◌, length, Some, None, refl, ap, ◌∙◌, arith}
 use Rattle.std.specs.Prelude.{decimal, codes, bytes_eq, is_some, unwrap_or, option_map}
 use Rattle.std.specs.List.{list_all}
-use Rattle.std.proofs.lemmas.Bool.{false≢true, and_parts, or_left, or_right}
+use Rattle.std.proofs.lemmas.Bool.{and_parts, or_left, or_right}
 use Rattle.std.proofs.lemmas.Bool.Decides.{nat_tests}
 use Rattle.text_lines.specs.Text.{is_digit}
 use Rattle.trace_audit.specs.declared.forms.Field.{Field}
 use Rattle.trace_audit.specs.declared.forms.Field.TheVariants as field
-use Rattle.trace_audit.specs.declared.reading.Line.{Line}
-use Rattle.trace_audit.specs.declared.reading.Line.TheVariants as line
+use Rattle.trace_audit.specs.declared.reading.TraceLine.{TraceLine}
+use Rattle.trace_audit.specs.declared.reading.TraceLine.TheVariants as line
 use Rattle.trace_audit.specs.Texts.{words_of, plain_number, most_number}
-use Rattle.trace_audit.specs.Fields.{Form, is_number, is_low_hex, is_hex, is_any_of, is_of, are_of, has_text, form_named, turn_forms, end_form}
+use Rattle.trace_audit.specs.Fields.{LineForm, is_number, is_low_hex, is_hex, is_any_of, is_of, are_of, has_text, form_named, turn_forms, end_form}
 use Rattle.trace_audit.specs.Meaning.{saying_of, fits, fitting, form_of, told, turn_line, or_else, last_line, end_line, read}
 use Rattle.audit_laws.proofs.Decimals.{number_back, all_digits}
 use Rattle.audit_laws.proofs.Spelling.{is_in_word, IsWord, AreWords, spaced, words_back, all_weaker}
@@ -120,7 +120,7 @@ hex_words (suc n) (w ∷ ws) more h k = (hex_word 8 w h.0, hex_words n ws more h
 
 -- ## lines of a turn
 
-abbrev pub by_words : List (List ℕ) → Line
+abbrev pub by_words : List (List ℕ) → TraceLine
 by_words words = unwrap_or (or_else (end_line words) (or_else (turn_line words) (last_line words))) line.Strange
 
 pub read_words : (text : List ℕ) (words : List (List ℕ)) → words_of text ≡ words → read text ≡ by_words words
@@ -137,19 +137,19 @@ not_named (d ∷ w) c cs h lt = let first : eqb d c ≡ false = apart d c (and_p
 
 no_end : (t : ℕ) (words : List (List ℕ)) → t < 2 ^ 64 → end_line (decimal t ∷ words) ≡ None
 unfolding end_line
-no_end t words h = ap (λ b. option_map (λ (f : Form). line.Ends) (fitting words (cond b (Some end_form) None))) (not_named (decimal t) 101 (110 ∷ 100 ∷ []) (all_digits t h) (omega arith))
+no_end t words h = ap (λ b. option_map (λ (f : LineForm). line.Ends) (fitting words (cond b (Some end_form) None))) (not_named (decimal t) 101 (110 ∷ 100 ∷ []) (all_digits t h) (omega arith))
 
-in_turn : (t : ℕ) (name : List ℕ) (words : List (List ℕ)) (f : Form) → t < 2 ^ 32 → form_named name turn_forms ≡ Some f → fits f words ≡ true → turn_line (decimal t ∷ name ∷ words) ≡ Some (line.Tells t (saying_of f.kind words))
+in_turn : (t : ℕ) (name : List ℕ) (words : List (List ℕ)) (f : LineForm) → t < 2 ^ 32 → form_named name turn_forms ≡ Some f → fits f words ≡ true → turn_line (decimal t ∷ name ∷ words) ≡ Some (line.Tells t (saying_of f.kind words))
 unfolding turn_line
 in_turn t name words f h named fit =
     ap (λ o. told o words (form_of turn_forms name words)) (number_back t most_number (small t h) (omega arith))
     ∙ ap (λ o. told (Some t) words (fitting words o)) named ∙ ap (λ b. told (Some t) words (cond b (Some f) None)) fit
 
-pub turn_read : (t : ℕ) (name : List ℕ) (words : List (List ℕ)) (f : Form) → t < 2 ^ 32 → form_named name turn_forms ≡ Some f → fits f words ≡ true → by_words (decimal t ∷ name ∷ words) ≡ line.Tells t (saying_of f.kind words)
+pub turn_read : (t : ℕ) (name : List ℕ) (words : List (List ℕ)) (f : LineForm) → t < 2 ^ 32 → form_named name turn_forms ≡ Some f → fits f words ≡ true → by_words (decimal t ∷ name ∷ words) ≡ line.Tells t (saying_of f.kind words)
 turn_read t name words f h named fit =
     ap (λ o. unwrap_or (or_else o (or_else (turn_line (decimal t ∷ name ∷ words)) (last_line (decimal t ∷ name ∷ words)))) line.Strange) (no_end t (name ∷ words) (small t h))
     ∙ ap (λ o. unwrap_or (or_else o (last_line (decimal t ∷ name ∷ words))) line.Strange) (in_turn t name words f h named fit)
 
 -- the words of a form behind a turn
-pub spelled_read : (t : ℕ) (name : List ℕ) (words : List (List ℕ)) (f : Form) → t < 2 ^ 32 → IsWord name → AreWords words → form_named name turn_forms ≡ Some f → fits f words ≡ true → read (decimal t ++ spaced (name ∷ words)) ≡ line.Tells t (saying_of f.kind words)
+pub spelled_read : (t : ℕ) (name : List ℕ) (words : List (List ℕ)) (f : LineForm) → t < 2 ^ 32 → IsWord name → AreWords words → form_named name turn_forms ≡ Some f → fits f words ≡ true → read (decimal t ++ spaced (name ∷ words)) ≡ line.Tells t (saying_of f.kind words)
 spelled_read t name words f h word are named fit = read_words _ (decimal t ∷ name ∷ words) (words_back (decimal t) (name ∷ words) (decimal_word t (small t h)) (word, are)) ∙ turn_read t name words f h named fit

@@ -21,8 +21,8 @@ use Rattle.kernel_abi.specs.declared.Note.{Note}
 use Rattle.kernel_abi.specs.declared.Note.TheVariants as note
 use Rattle.kernel_abi.specs.declared.Timer.{Timer}
 use Rattle.trace_text.specs.Text.{hex, byte_hex, spaced_hex, bit, handled_name, fed_name, ending_name, listened_name, borrow_name, code_hex, code_decoded, decoded_text, line_of, tick_line, irq_line, post_line, syscall_line, ret_line, close_line, fault_line, listen_line, take_line, offer_line, borrow_line, restart_line, in_line, out_line, irq_status_line, find_line, insn_line, idle_line, low_line, high_line, low_words, high_words}
-use Rattle.trace_audit.specs.declared.reading.Wait.{Wait}
-use Rattle.trace_audit.specs.declared.reading.Wait.TheVariants as wait
+use Rattle.trace_audit.specs.declared.reading.FinalWait.{FinalWait}
+use Rattle.trace_audit.specs.declared.reading.FinalWait.TheVariants as wait
 use Rattle.audit_laws.proofs.Last.{hex_length}
 use Rattle.trace_text.specs.Fit.{IsFitFrom, IsFitNote, IsFitTimer}
 use Rattle.audit_laws.specs.Ends.{IsHow, end_line, IsFitHealth, IsWaitText}
@@ -219,12 +219,12 @@ timer_length : (t : Option Timer) → IsFitTimer t → length (timer_text t) ≤
 timer_length None fit = omega arith
 timer_length (Some t) fit = plus (decimal t.deadline ++ codes ":") (hex t.bits) 21 8 (plus (decimal t.deadline) (codes ":") 20 1 (twenty t.deadline fit) (lit (codes ":"))) (eight t.bits)
 
-wait_length : (text : List ℕ) (w : Wait) → IsWaitText text w → length text ≤ 18
+wait_length : (text : List ℕ) (w : FinalWait) → IsWaitText text w → length text ≤ 18
 wait_length text wait.Other (inl e) = subst (λ x. length x ≤ 18) (sym e) (omega arith)
 wait_length text wait.Other (inr e) = subst (λ x. length x ≤ 18) (sym e) (omega arith)
 wait_length text (wait.Offered k) h = subst (λ x. length x ≤ 18) (sym h.0) (plus (codes "offered:") (decimal k) 8 10 (lit (codes "offered:")) (ten k h.1))
 wait_length text (wait.Taken k) h = let q : length (codes "taken:" ++ decimal k) ≤ 16 = plus (codes "taken:") (decimal k) 6 10 (lit (codes "taken:")) (ten k h.1) in subst (λ x. length x ≤ 18) (sym h.0) (omega arith)
 
-pub task_short : (i generation : ℕ) (health : Health) (text : List ℕ) (w : Wait) (posted : ℕ) (timer : Option Timer) → i < 2 ^ 32 → generation < 2 ^ 32 → IsFitHealth health → IsWaitText text w → IsFitTimer timer → length (task_line i generation health text posted timer) ≤ 160
+pub task_short : (i generation : ℕ) (health : Health) (text : List ℕ) (w : FinalWait) (posted : ℕ) (timer : Option Timer) → i < 2 ^ 32 → generation < 2 ^ 32 → IsFitHealth health → IsWaitText text w → IsFitTimer timer → length (task_line i generation health text posted timer) ≤ 160
 unfolding task_line
 task_short i generation health text w posted timer a b fit waits fits = under (task_line i generation health text posted timer) 104 (plus (codes "task " ++ decimal i ++ codes " " ++ decimal generation ++ codes " " ++ health_text health ++ codes " " ++ text ++ spaced_hex posted ++ codes " " ++ timer_text timer) (codes "\n") 103 1 (plus (codes "task " ++ decimal i ++ codes " " ++ decimal generation ++ codes " " ++ health_text health ++ codes " " ++ text ++ spaced_hex posted ++ codes " ") (timer_text timer) 74 29 (plus (codes "task " ++ decimal i ++ codes " " ++ decimal generation ++ codes " " ++ health_text health ++ codes " " ++ text ++ spaced_hex posted) (codes " ") 73 1 (plus (codes "task " ++ decimal i ++ codes " " ++ decimal generation ++ codes " " ++ health_text health ++ codes " " ++ text) (spaced_hex posted) 64 9 (plus (codes "task " ++ decimal i ++ codes " " ++ decimal generation ++ codes " " ++ health_text health ++ codes " ") (text) 46 18 (plus (codes "task " ++ decimal i ++ codes " " ++ decimal generation ++ codes " " ++ health_text health) (codes " ") 45 1 (plus (codes "task " ++ decimal i ++ codes " " ++ decimal generation ++ codes " ") (health_text health) 27 18 (plus (codes "task " ++ decimal i ++ codes " " ++ decimal generation) (codes " ") 26 1 (plus (codes "task " ++ decimal i ++ codes " ") (decimal generation) 16 10 (plus (codes "task " ++ decimal i) (codes " ") 15 1 (plus (codes "task ") (decimal i) 5 10 (lit (codes "task ")) (ten i a)) (lit (codes " "))) (ten generation b)) (lit (codes " "))) (health_length health fit)) (lit (codes " "))) (wait_length text w waits)) (nine posted)) (lit (codes " "))) (timer_length timer fits)) (lit (codes "\n"))) (omega arith)

@@ -17,10 +17,10 @@ use Rattle.kernel_abi.specs.declared.Note.{Note}
 use Rattle.kernel_abi.specs.declared.Note.TheVariants as note
 use Rattle.trace_text.specs.Text.{hex, half_hex, byte_hex, bit, handled_name, fed_name, ending_name, listened_name, borrow_name, code_hex, code_decoded, decoded_text, tick_line, irq_line, post_line, syscall_line, ret_line, close_line, fault_line, listen_line, take_line, offer_line, borrow_line, restart_line, in_line, out_line, irq_status_line, find_line, insn_line, idle_line, low_line, high_line}
 use Rattle.trace_audit.specs.declared.forms.Field.TheVariants as field
-use Rattle.trace_audit.specs.declared.reading.Line.{Line}
+use Rattle.trace_audit.specs.declared.reading.TraceLine.{TraceLine}
 use Rattle.trace_audit.specs.Fields.{is_hex, is_bit, are_bits, is_of}
 use Rattle.trace_audit.specs.Meaning.{read, is_answer as answers}
-use Rattle.trace_audit.specs.Verdicts.{is_printable}
+use Rattle.trace_audit.specs.Judgements.{is_printable}
 use Rattle.audit_laws.proofs.Spelling.{is_in_word, IsWord, AreWords, spaced, all_joined, words_printable}
 use Rattle.audit_laws.proofs.Reading.{AreHex, decimal_word, short, hex_word, hex_words, of_code, of_listened}
 use Rattle.audit_laws.proofs.Lines.{tick_back, irq_back, post_back, call_back, ret_back, fault_back, listen_back, restart_back, in_back, out_back, irq_status_back, find_back, idle_back, low_back, high_back, offer_back, take_back, close_back, lend_back, info_back, insn_back}
@@ -30,7 +30,7 @@ use Rattle.audit_laws.proofs.Instructions.{decoded_is_text}
 use Rattle.audit_laws.proofs.Hexes.{hex_fits, half_fits, byte_fits, hexes, registers_spaced, spaced_joined}
 
 -- a line of words
-of_words : (t : ℕ) (ws : List (List ℕ)) (bytes : List ℕ) (l : Line) → t < 2 ^ 32 → AreWords ws → bytes ≡ (decimal t ++ spaced ws) ++ 10 ∷ [] → read (decimal t ++ spaced ws) ≡ l → IsLine bytes l
+of_words : (t : ℕ) (ws : List (List ℕ)) (bytes : List ℕ) (l : TraceLine) → t < 2 ^ 32 → AreWords ws → bytes ≡ (decimal t ++ spaced ws) ++ 10 ∷ [] → read (decimal t ++ spaced ws) ≡ l → IsLine bytes l
 of_words t ws bytes l h are e r = record { text = decimal t ++ spaced ws; spelled = e; printable = words_printable (decimal t) ws (short t h) are; reads = r }
 
 tick_spelled : (t now : ℕ) → tick_line t now ≡ (decimal t ++ spaced (codes "tick" ∷ decimal now ∷ [])) ++ 10 ∷ []

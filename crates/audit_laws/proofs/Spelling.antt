@@ -5,7 +5,7 @@ use Rattle.std.specs.List.{list_all}
 use Rattle.std.proofs.lemmas.Bool.Decides.{nat_tests}
 use Rattle.text_lines.specs.Text.{with_first, is_between}
 use Rattle.trace_audit.specs.Texts.{pieces_of, words_of}
-use Rattle.trace_audit.specs.Verdicts.{is_printable}
+use Rattle.trace_audit.specs.Judgements.{is_printable}
 
 -- a byte of a word: printable, and no space
 abbrev pub is_in_word : ℕ → Bool

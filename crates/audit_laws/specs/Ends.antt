@@ -1,11 +1,11 @@
 -- The lines after the notes, as board_run/specs/Text writes them.
-use Rattle.std.specs.Prelude.{ℕ, ◌<◌, ◌^◌, ◌≡◌, ◌⊎◌, List, ◌++◌, codes, decimal}
+use Rattle.std.specs.Prelude.{ℕ, ◌≡◌, ◌⊎◌, List, ◌++◌, codes, decimal}
 use Rattle.kernel_abi.specs.declared.Health.{Health}
 use Rattle.kernel_abi.specs.declared.Health.TheVariants.{Well, Stopped, Faulted}
 use Rattle.trace_text.specs.Text.{hex}
-use Rattle.trace_audit.specs.declared.reading.Wait.{Wait}
-use Rattle.trace_audit.specs.declared.reading.Wait.TheVariants as wait
-use Rattle.trace_text.specs.Fit.{IsFit, IsFitTimer}
+use Rattle.trace_audit.specs.declared.reading.FinalWait.{FinalWait}
+use Rattle.trace_audit.specs.declared.reading.FinalWait.TheVariants as wait
+use Rattle.trace_text.specs.Fit.{IsFit}
 
 -- how the turns ended
 abbrev pub IsHow : List ℕ → Type 0
@@ -21,7 +21,7 @@ IsFitHealth Stopped = Unit {0}
 IsFitHealth (Faulted fault) = IsFit fault.number
 
 -- a text of what a task waits for, and what it is read as
-abbrev pub IsWaitText : List ℕ → Wait → Type 0
+abbrev pub IsWaitText : List ℕ → FinalWait → Type 0
 IsWaitText text wait.Other = (text ≡ codes "-") ⊎ (text ≡ codes "listen")
 IsWaitText text (wait.Offered k) = (text ≡ codes "offered:" ++ decimal k) × IsFit k
 IsWaitText text (wait.Taken k) = (text ≡ codes "taken:" ++ decimal k) × IsFit k

@@ -10,13 +10,13 @@ use Rattle.thumb_insn.specs.declared.Decoded.{Decoded}
 use Rattle.thumb_insn.specs.declared.Decoded.TheVariants as decoded
 use Rattle.trace_text.specs.Fit.{IsFit}
 use Rattle.trace_text.specs.Text.{line_of, code_decoded}
-use Rattle.trace_audit.specs.declared.reading.Line.{Line}
-use Rattle.trace_audit.specs.declared.reading.Line.TheVariants as line
+use Rattle.trace_audit.specs.declared.reading.TraceLine.{TraceLine}
+use Rattle.trace_audit.specs.declared.reading.TraceLine.TheVariants as line
 use Rattle.trace_audit.specs.declared.reading.Saying.{Saying}
 use Rattle.trace_audit.specs.declared.reading.Saying.TheVariants as saying
 use Rattle.trace_audit.specs.Meaning.{read}
 use Rattle.std.specs.List.{list_all}
-use Rattle.trace_audit.specs.Verdicts.{is_printable}
+use Rattle.trace_audit.specs.Judgements.{is_printable}
 
 -- ## what the numbers of a note do not tell
 
@@ -89,7 +89,7 @@ told_by (note.High registers n z c v) = saying.Nothing
 -- ## one line
 
 -- the bytes are one line with its LF, and it says this
-pub record IsLine (bytes : List ℕ) (l : Line) : Type 0 where
+pub record IsLine (bytes : List ℕ) (l : TraceLine) : Type 0 where
   pub text : List ℕ
   pub spelled : bytes ≡ text ++ 10 ∷ []
   pub printable : list_all is_printable text ≡ true  -- so no LF stands in it

@@ -2,9 +2,8 @@
 use Rattle.std.specs.Prelude.{ℕ, ◌≤◌, ◌≡◌, List, [], ◌∷◌, ◌++◌, length, map}
 use Rattle.std.specs.List.{flat_map}
 use Rattle.kernel_abi.specs.declared.Note.{Note}
-use Rattle.trace_text.specs.Text.{line_of}
-use Rattle.trace_audit.specs.declared.reading.Line.{Line}
-use Rattle.trace_audit.specs.declared.reading.Line.TheVariants as line
+use Rattle.trace_audit.specs.declared.reading.TraceLine.{TraceLine}
+use Rattle.trace_audit.specs.declared.reading.TraceLine.TheVariants as line
 use Rattle.trace_audit.specs.declared.reading.Saying.{Saying}
 use Rattle.trace_audit.specs.Rules.{IsGoodSaying, IsGoodWait}
 use Rattle.audit_laws.specs.Told.{IsRight, told_by, IsLine}
@@ -27,7 +26,7 @@ abbrev pub AreGoodSayings : List Saying → Type 0
 AreGoodSayings all = (before : List Saying) (s : Saying) (after : List Saying) → all ≡ before ++ s ∷ after → IsGoodSaying before s
 
 -- each text is one line, which says this
-abbrev pub AreLines : List (List ℕ) → List Line → Type 0
+abbrev pub AreLines : List (List ℕ) → List TraceLine → Type 0
 AreLines [] [] = Unit {0}
 AreLines [] (l ∷ ls) = ⊥
 AreLines (t ∷ texts) [] = ⊥
@@ -42,13 +41,13 @@ abbrev pub joined : List (List ℕ) → List ℕ
 joined texts = flat_map (λ t. t) texts
 
 -- a line after the end shows something, or what a task waits for, as was said
-abbrev pub IsLastLine : List Saying → Line → Type 0
+abbrev pub IsLastLine : List Saying → TraceLine → Type 0
 IsLastLine told (line.Tells turn s) = ⊥
 IsLastLine told line.Ends = ⊥
 IsLastLine told (line.Waits task w) = IsGoodWait told task w
 IsLastLine told line.Shows = Unit {0}
 IsLastLine told line.Strange = ⊥
 
-abbrev pub AreLastLines : List Saying → List Line → Type 0
+abbrev pub AreLastLines : List Saying → List TraceLine → Type 0
 AreLastLines told [] = Unit {0}
 AreLastLines told (l ∷ ls) = IsLastLine told l × AreLastLines told ls

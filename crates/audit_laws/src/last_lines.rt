@@ -3,8 +3,8 @@ ghost use Rattle.std.specs.Prelude.{ℕ, ◌<◌, ◌^◌, ◌≡◌, Bool, true
 ghost use Rattle.kernel_abi.specs.declared.Health.{Health};
 ghost use Rattle.kernel_abi.specs.declared.Timer.{Timer};
 ghost use Rattle.trace_text.specs.Text.{low_words, high_words};
-ghost use Rattle.trace_audit.specs.declared.reading.Line.TheVariants as line;
-ghost use Rattle.trace_audit.specs.declared.reading.Wait.{Wait};
+ghost use Rattle.trace_audit.specs.declared.reading.TraceLine.TheVariants as line;
+ghost use Rattle.trace_audit.specs.declared.reading.FinalWait.{FinalWait};
 ghost use Rattle.trace_audit.specs.Fields.{is_hex};
 ghost use Rattle.trace_text.specs.Fit.{IsFitTimer};
 ghost use Rattle.audit_laws.specs.Told.{IsLine};
@@ -15,7 +15,7 @@ ghost use Rattle.trace_text.specs.Lines.{task_line};
 /// the turns, what a task waits for, or its registers, a region and bytes, which show something.
 pub fn last_lines_are_read()
     ensures ends { (how : List ℕ) (turns now : ℕ) → IsHow how → turns < 2 ^ 32 → now < 2 ^ 64 → IsLine (end_line how turns now) line.Ends }
-    ensures tasks { (i generation : ℕ) (health : Health) (text : List ℕ) (waits : Wait) (posted : ℕ) (timer : Option Timer)
+    ensures tasks { (i generation : ℕ) (health : Health) (text : List ℕ) (waits : FinalWait) (posted : ℕ) (timer : Option Timer)
         → i < 2 ^ 32 → generation < 2 ^ 32 → IsFitHealth health → IsWaitText text waits → IsFitTimer timer
         → IsLine (task_line i generation health text posted timer) (line.Waits i waits) }
     ensures lows { (registers : List ℕ) → length registers ≡ 8 → IsLine (low_words registers) line.Shows }

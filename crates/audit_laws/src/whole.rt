@@ -1,11 +1,11 @@
 //! The text of a run.
 ghost use Rattle.std.specs.Prelude.{ℕ, ◌++◌, List, ◌∷◌};
 ghost use Rattle.kernel_abi.specs.declared.Note.{Note};
-ghost use Rattle.trace_audit.specs.declared.reading.Line.{Line};
-ghost use Rattle.trace_audit.specs.declared.reading.Line.TheVariants as line;
+ghost use Rattle.trace_audit.specs.declared.reading.TraceLine.{TraceLine};
+ghost use Rattle.trace_audit.specs.declared.reading.TraceLine.TheVariants as line;
 ghost use Rattle.trace_audit.specs.Rules.{IsGood};
 ghost use Rattle.trace_audit.specs.Texts.{lines_of};
-ghost use Rattle.trace_audit.specs.Verdicts.{HasNoCause, read_lines};
+ghost use Rattle.trace_audit.specs.Judgements.{HasNoCause, read_lines};
 ghost use Rattle.trace_text.specs.Fit.{AreFit};
 ghost use Rattle.audit_laws.specs.Whole.{notes_told, joined, AreInOrder, AreRight, AreGoodSayings, AreLines, AreShort, AreLastLines};
 ghost use Rattle.trace_text.specs.Lines.{notes_text};
@@ -13,10 +13,10 @@ ghost use Rattle.trace_text.specs.Lines.{notes_text};
 /// A text is good of notes that are in range and right, in turns that do not fall, which say what is good of calls; then a line of the end; then lines
 /// which show something, or tell what a task waits for as the notes say. No line of it has a cause, where none is too long.
 pub fn texts_of_good_notes_are_good()
-    ensures good { (notes : List (ℕ × Note)) (texts : List (List ℕ)) (rest : List Line)
+    ensures good { (notes : List (ℕ × Note)) (texts : List (List ℕ)) (rest : List TraceLine)
         → AreInOrder 0 notes → AreFit notes → AreRight notes → AreGoodSayings (notes_told notes) → AreLines texts (line.Ends ∷ rest) → AreLastLines (notes_told notes) rest
         → IsGood (read_lines (notes_text notes ++ joined texts)) }
-    ensures fine { (notes : List (ℕ × Note)) (texts : List (List ℕ)) (lines : List Line)
+    ensures fine { (notes : List (ℕ × Note)) (texts : List (List ℕ)) (lines : List TraceLine)
         → AreInOrder 0 notes → AreFit notes → AreRight notes → AreLines texts lines → AreShort texts
         → HasNoCause (lines_of (notes_text notes ++ joined texts)) }
 {}

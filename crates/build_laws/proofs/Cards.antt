@@ -14,11 +14,9 @@ use Rattle.thumb_asm.specs.Passes.{size_from}
 use Rattle.std.proofs.lemmas.Bool.{agree_below, agree_below_at, leb-true, and_parts}
 use Rattle.std.proofs.lemmas.List.FromFn.{get_or-map-range_with_len}
 use Rattle.std.specs.List.{range_with_len}
-use Rattle.std.proofs.lemmas.Bool.Decides.{nat_tests}
 use Rattle.std.proofs.Common.{subst, nat_le, ◌<◌, ◌*◌, arith, get_or}
 use Rattle.text_lines.specs.Text.{lines_of, with_first}
 use Rattle.sample_gen.specs.Sources.{text_of}
-use Rattle.std.proofs.Common.{nat_eq}
 use Rattle.build_laws.proofs.Free.{IsFree, HasFreeLabels}
 use Rattle.asm_laws.proofs.Whole.{no_feed, no_return}
 

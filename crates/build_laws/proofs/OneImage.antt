@@ -1,6 +1,6 @@
 -- An application and its sources are built to at most one image.
 use Rattle.std.proofs.Common.{◌≡◌, ◌∙◌, ℕ, ◌+◌, ◌-◌, ◌≤◌, ◌<◌, List, length, get_or, refl, sym, ap, arith}
-use Rattle.std.proofs.lemmas.List.{ext_get_or, get_or-map, length-map}
+use Rattle.std.proofs.lemmas.List.{ext_get_or}
 use Rattle.app_toml.specs.Apps.{AppData}
 use Rattle.image_format.specs.Picture.{Picture}
 use Rattle.mem_plan.specs.Placing.{placed}
@@ -9,7 +9,7 @@ use Rattle.text_lines.specs.Text.{lines_of}
 use Rattle.thumb_asm.specs.Assembly.{Assembles}
 use Rattle.thumb_asm.specs.Meaning.{Env}
 use Rattle.image_build.specs.Built.{Built, HasProgram, flash_byte, given, picture_built, source_at}
-use Rattle.image_build.specs.Layout.{flash_base, flash_needed, flash_sizes, flash_wanted, no_task, task_at}
+use Rattle.image_build.specs.Layout.{flash_base, flash_needed, flash_sizes, task_at}
 use Rattle.build_laws.proofs.Filling.{filled}
 use Rattle.image_build.proofs.Planning.{flash_size, flash_count}
 

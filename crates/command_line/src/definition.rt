@@ -1,7 +1,6 @@
 //! What `clap` is told: the program, a function for each command and for each kind of argument.
 ghost use Rattle.std.specs.Prelude.{◌≡◌, IfOk, false, codes};
 ghost use Rattle.clap.specs.Words.{app_of, rule_of};
-ghost use Rattle.clap.specs.Simple.{new_rule};
 ghost use Rattle.clap.specs.declared.builder.command.Command.TheViews.{out-Command as fields_of};
 ghost use Rattle.command_line.specs.Adding.{AddsForm};
 ghost use Rattle.command_line.specs.CommandLine.{bare_app, hubris_app, most_seed, most_steps, positional_rule, number_parser, number_rule, turn_rule, steps_rule, option_rule, flag_rule, app_of_form, build_form, run, running_form, run_form, go_form, list_form, sample_form, migrate_form, audit_form, save_form, resume_form, debug_form, cover_form, sweep_form, timeline_form, live_form, picture_form, lcov_form, help_form};

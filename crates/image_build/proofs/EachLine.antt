@@ -7,7 +7,7 @@ use Rattle.app_toml.specs.Apps.{AppData, InterruptData}
 use Rattle.app_toml.specs.Relations.{Relations}
 use Rattle.image_format.specs.Picture.{LinePicture, line_record}
 use Rattle.image_format.specs.Steps.{line_fault, lines_from}
-use Rattle.image_format.specs.declared.records.Form.TheVariants.{Second}
+use Rattle.image_format.specs.declared.records.ImageForm.TheVariants.{Second}
 use Rattle.image_build.specs.Building.{IsOwned}
 use Rattle.image_build.specs.Built.{line_built, lines_at}
 use Rattle.image_build.proofs.Finding.{task_below}

@@ -1,5 +1,5 @@
 -- The names of the tasks that are built: each a name, and those of a task different; how many bytes they take.
-use Rattle.std.proofs.Common.{◌≡◌, ◌∙◌, ℕ, suc, Bool, true, false, ◌+◌, ◌*◌, ◌≤◌, ◌<◌, ◌&&◌, List, [], ◌∷◌, ◌++◌, length, get_or, map, Global, String, string_bytes, drop, drop-cons, nat_le, nat_lt, length-append, append_assoc, refl, sym, ap, subst, arith}
+use Rattle.std.proofs.Common.{◌≡◌, ◌∙◌, ℕ, suc, ◌+◌, ◌*◌, ◌≤◌, ◌<◌, List, [], ◌∷◌, ◌++◌, length, get_or, map, Global, String, string_bytes, drop, drop-cons, nat_le, nat_lt, length-append, append_assoc, refl, sym, ap, subst, arith}
 use Rattle.std.specs.List.{flat_map}
 use Rattle.std.specs.Prelude.{All}
 use Rattle.std.proofs.lemmas.Bool.{leb-true, and_parts}

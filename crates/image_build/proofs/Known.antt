@@ -1,11 +1,10 @@
 -- What an accepted description says of its parts.
-use Rattle.std.proofs.Common.{◌≡◌, ℕ, zero, suc, Bool, true, false, not, ◌+◌, ◌≤◌, ◌<◌, ◌||◌, ◌==◌, List, [], ◌∷◌, codes, Option, Some, None, length, get_or, nat_lt, refl, arith}
+use Rattle.std.proofs.Common.{◌≡◌, ℕ, zero, suc, true, not, ◌+◌, ◌≤◌, ◌<◌, ◌||◌, ◌==◌, List, [], ◌∷◌, codes, Option, None, length, get_or, nat_lt, arith}
 use Rattle.std.proofs.lemmas.Bool.{ltb-false, not-false}
-use Rattle.std.proofs.lemmas.Bool.Decides.{nat_tests}
 use Rattle.app_toml.specs.Accepted.{IsAccepted}
 use Rattle.app_toml.specs.Apps.{AppData, InterruptData, TaskData}
 use Rattle.app_toml.specs.Crossed.{count_fault, has_device, has_region, has_task, is_among, line_fault, name_twice, notification_count, notifications_of, region_count, start_fault, task_count, task_site, unknown_bit, unknown_entry, unknown_fault_bit, unknown_name, unknown_owner, unknown_region}
-use Rattle.app_toml.specs.Places.{Refusal, Site, first_fault, or_else, refuse_if}
+use Rattle.app_toml.specs.Places.{Refusal, first_fault, refuse_if}
 use Rattle.image_build.specs.Building.{IsKnown, IsOwned}
 use Rattle.image_build.specs.Layout.{no_task, task_at}
 use Rattle.app_toml.proofs.Passed.{both_none, not_refused}

@@ -1,5 +1,5 @@
 -- The symbols of a source: its own ones over those that all sources share.
-use Rattle.std.proofs.Common.{◌≡◌, ◌∙◌, ℕ, Bool, true, false, List, [], ◌∷◌, ◌++◌, Option, Some, cond, bytes_eq, refl, sym, ap}
+use Rattle.std.proofs.Common.{◌≡◌, ◌∙◌, ℕ, List, [], ◌∷◌, ◌++◌, Some, cond, bytes_eq, refl, sym, ap}
 use Rattle.std.proofs.Math.Path.{fun_ext}
 use Rattle.app_toml.specs.Apps.{AppData}
 use Rattle.thumb_asm.specs.Chars.{entry_at}

@@ -10,7 +10,7 @@ use Rattle.image_format.specs.Records.{records_fault}
 use Rattle.image_format.specs.Regions.{entries_fault, regions_fault}
 use Rattle.image_format.specs.Steps.{count_fault, field_fault, lines_fault, lines_from, lines_place, tasks_fault}
 use Rattle.image_format.proofs.Named.{names_pass}
-use Rattle.image_format.specs.declared.records.Form.TheVariants.{Second}
+use Rattle.image_format.specs.declared.records.ImageForm.TheVariants.{Second}
 use Rattle.image_format.specs.declared.records.Header.{Header}
 use Rattle.image_format.specs.declared.records.LineRecord.{LineRecord}
 use Rattle.image_format.specs.declared.records.RegionRecord.{RegionRecord}

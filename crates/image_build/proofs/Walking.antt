@@ -1,17 +1,14 @@
 -- When the steps over an image's records refuse nothing.
-use Rattle.std.proofs.Common.{◌≡◌, ◌∙◌, ℕ, zero, suc, Bool, true, false, not, ◌+◌, ◌*◌, ◌%◌, ◌≤◌, ◌<◌, ◌||◌, ◌&&◌, ◌==◌, List, [], ◌∷◌, ◌++◌, Option, None, length, take, drop, get_or, map, length-append, refl, sym, ap, subst, arith, inl, inr}
+use Rattle.std.proofs.Common.{◌≡◌, ◌∙◌, ℕ, zero, suc, Bool, true, false, not, ◌+◌, ◌*◌, ◌%◌, ◌≤◌, ◌<◌, ◌||◌, ◌&&◌, ◌==◌, List, [], ◌∷◌, ◌++◌, Option, None, length, take, drop, get_or, map, length-append, refl, sym, subst, arith, inl, inr}
 use Rattle.std.specs.List.{list_any}
 use Rattle.std.specs.Prelude.{⊤, All}
-use Rattle.std.proofs.Math.Seq.{drop-append_seam, take-append_seam}
 use Rattle.std.proofs.lemmas.Bool.{and_left, and_right, cases_eq, eq-eqb, le-ltb, lt-leb, ne_eqb, or_from, not_from_true}
-use Rattle.std.proofs.lemmas.List.{length-map, map-append}
 use Rattle.std.proofs.lemmas.List.Folds.{list_any-append}
 use Rattle.std.proofs.lemmas.List.Sums.{sum_by-cons}
-use Rattle.region_check.specs.declared.Region.{Region}
 use Rattle.image_format.specs.Picture.{LinePicture, TaskPicture, all_regions, line_record, region_record, task_record}
 use Rattle.image_format.specs.Regions.{clashes, cuts, entries_from, entry_fault, has_area, has_rights, has_shape, meets, own_fault, region_fault, regions_from, runs_at}
 use Rattle.image_format.specs.Steps.{Refusal, count_fault, counted, line_fault, or_else, second_field_fault, task_fault, tasks_from}
-use Rattle.image_format.specs.declared.records.Form.TheVariants.{Second}
+use Rattle.image_format.specs.declared.records.ImageForm.TheVariants.{Second}
 use Rattle.image_format.specs.declared.records.Header.{Header}
 use Rattle.image_format.specs.declared.records.RegionRecord.{RegionRecord}
 use Rattle.image_format.specs.declared.records.TaskRecord.{TaskRecord}

@@ -3,7 +3,7 @@
 ghost use Rattle.std.specs.Prelude.{◌≡◌, ◌<◌, ℕ, List, length, map, IfOk, IfErr};
 ghost use Rattle.app_toml.specs.Held.{app_of};
 ghost use Rattle.image_format.specs.Images.{picture};
-ghost use Rattle.image_format.specs.declared.records.Form.TheVariants.{Second};
+ghost use Rattle.image_format.specs.declared.records.ImageForm.TheVariants.{Second};
 ghost use Rattle.image_format.specs.Picture.{Sound, all_names, all_regions, header_of, line_record, region_record, task_record};
 ghost use Rattle.image_build.specs.Building.{IsAccepted, IsLaid, Refuses};
 ghost use Rattle.image_build.specs.Built.{Built, bit_of, lines_built, picture_built, tasks_from};
@@ -19,7 +19,7 @@ use crate::reading::task;
 use crate::spelled::all_names;
 use crate::tasks::{region_records, task_records};
 use app_toml::App;
-use image_format::{Form, Header, Image, LineRecord, RegionRecord, TaskRecord};
+use image_format::{Header, Image, ImageForm, LineRecord, RegionRecord, TaskRecord};
 use std::alloc::Global;
 
 /// The bit that is posted to the supervisor at a fault.
@@ -49,7 +49,7 @@ fn header_of(
     app.facts();
     app.relations();
     Header {
-        form: Form::Second,
+        form: ImageForm::Second,
         tasks: tasks.len() as u16,
         lines: lines.len() as u16,
         regions: regions.len() as u16,

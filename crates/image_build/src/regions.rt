@@ -1,8 +1,7 @@
 //! The regions of a task.
 
-ghost use Rattle.std.specs.Prelude.{◌≡◌, ◌<◌, ◌++◌, ◌∷◌, [], length, map, string_bytes, All, OnOk};
+ghost use Rattle.std.specs.Prelude.{◌≡◌, ◌<◌, ◌++◌, length, map, string_bytes, All, OnOk};
 ghost use Rattle.app_toml.specs.Held.{app_of};
-ghost use Rattle.app_toml.specs.Sites.{task_of};
 ghost use Rattle.image_format.specs.Picture.{region_record};
 ghost use Rattle.image_build.specs.Building.{IsKnown, IsLaid};
 ghost use Rattle.image_build.specs.Layout.{named, task_at, task_regions};

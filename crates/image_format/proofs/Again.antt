@@ -3,8 +3,8 @@ use Rattle.std.proofs.Common.{◌≡◌, ◌∙◌, ◌+◌, ◌*◌, ◌/◌, �
 use Rattle.std.specs.List.{flat_map}
 use Rattle.std.proofs.lemmas.Bool.{le-ltb}
 use Rattle.std.proofs.lemmas.List.{drop-drop}
-use Rattle.image_format.specs.declared.records.Form.{Form}
-use Rattle.image_format.specs.declared.records.Form.TheVariants.{First, Second}
+use Rattle.image_format.specs.declared.records.ImageForm.{ImageForm}
+use Rattle.image_format.specs.declared.records.ImageForm.TheVariants.{First, Second}
 use Rattle.image_format.specs.declared.records.Header.{Header}
 use Rattle.image_format.specs.declared.records.TaskRecord.{TaskRecord}
 use Rattle.image_format.specs.declared.records.RegionRecord.{RegionRecord}
@@ -31,7 +31,7 @@ same_region a b c x y z e f g = rw (e, f, g) refl
 region_again : (r : RegionRecord) (rest : List ℕ) → region_at (region_bytes r ++ rest) ≡ r
 region_again r rest = same_region _ _ _ _ _ _ (num_again r.base) (num_again r.size) (num_again r.rights)
 
-line_again : (form : Form) (l : LineRecord) (rest : List ℕ) → line_at form (line_bytes form l ++ rest) ≡ l
+line_again : (form : ImageForm) (l : LineRecord) (rest : List ℕ) → line_at form (line_bytes form l ++ rest) ≡ l
 line_again First l rest = ap₂ (λ (z b : ℕ). record l { zero = z; bits = b }) (half_again l.zero) (num_again l.bits)
 line_again Second l rest = ap₂ (λ (t b : ℕ). record l { task = t; bits = b }) (half_again l.task) (num_again l.bits)
 
@@ -43,7 +43,7 @@ regions_again : (rs : List RegionRecord) (rest : List ℕ) → regions_at (lengt
 regions_again [] rest = refl
 regions_again (r ∷ rs) rest = ap₂ (λ x xs. x ∷ xs) (region_again r (flat_map region_bytes rs ++ rest)) (regions_again rs rest)
 
-lines_again : (form : Form) (ls : List LineRecord) (rest : List ℕ) → lines_at form (length ls) (flat_map (line_bytes form) ls ++ rest) ≡ ls
+lines_again : (form : ImageForm) (ls : List LineRecord) (rest : List ℕ) → lines_at form (length ls) (flat_map (line_bytes form) ls ++ rest) ≡ ls
 lines_again form [] rest = refl
 lines_again First (l ∷ ls) rest = ap₂ (λ x xs. x ∷ xs) (line_again First l (flat_map (line_bytes First) ls ++ rest)) (lines_again First ls rest)
 lines_again Second (l ∷ ls) rest = ap₂ (λ x xs. x ∷ xs) (line_again Second l (flat_map (line_bytes Second) ls ++ rest)) (lines_again Second ls rest)
@@ -56,24 +56,24 @@ regions_length : (rs : List RegionRecord) → length (flat_map region_bytes rs) 
 regions_length [] = refl
 regions_length (r ∷ rs) = omega (arith, regions_length rs)
 
-lines_length : (form : Form) (ls : List LineRecord) → length (flat_map (line_bytes form) ls) ≡ 8 * length ls
+lines_length : (form : ImageForm) (ls : List LineRecord) → length (flat_map (line_bytes form) ls) ≡ 8 * length ls
 lines_length form [] = refl
 lines_length First (l ∷ ls) = omega (arith, lines_length First ls)
 lines_length Second (l ∷ ls) = omega (arith, lines_length Second ls)
 
 -- ---- headers
 
-header_length : (form : Form) (h : Header) → length (header_bytes_in form h) ≡ header_size form
+header_length : (form : ImageForm) (h : Header) → length (header_bytes_in form h) ≡ header_size form
 unfolding header_bytes_in
 header_length First h = refl
 header_length Second h = refl
 
-same_header : (g : Form) (a b c d e f n m a' b' c' d' e' f' n' m' : ℕ) → a ≡ a' → b ≡ b' → c ≡ c' → d ≡ d' → e ≡ e' → f ≡ f' → n ≡ n' → m ≡ m'
+same_header : (g : ImageForm) (a b c d e f n m a' b' c' d' e' f' n' m' : ℕ) → a ≡ a' → b ≡ b' → c ≡ c' → d ≡ d' → e ≡ e' → f ≡ f' → n ≡ n' → m ≡ m'
     → ◌≡◌ {A = Header} (record { form = g; tasks = a; lines = b; regions = c; zero = d; flash = e; ram = f; bits = n; names = m }) (record { form = g; tasks = a'; lines = b'; regions = c'; zero = d'; flash = e'; ram = f'; bits = n'; names = m' })
 same_header g a b c d e f n m a' b' c' d' e' f' n' m' i j k l o p q r = rw (i, j, k, l, o, p, q, r) refl
 
-with_form : (h : Header) (g : Form) → h.form ≡ g → ◌≡◌ {A = Header} (record h { form = g }) h
-with_form h g is = ap (λ (x : Form). record h { form = x }) (sym is)
+with_form : (h : Header) (g : ImageForm) → h.form ≡ g → ◌≡◌ {A = Header} (record h { form = g }) h
+with_form h g is = ap (λ (x : ImageForm). record h { form = x }) (sym is)
 
 second_again : (h : Header) (rest : List ℕ) → h.form ≡ Second → header_at Second (header_bytes_in Second h ++ rest) ≡ h
 unfolding header_bytes_in
@@ -93,19 +93,19 @@ IsPlain h = h.form ≡ First → (h.zero ≡ 0) × (h.names ≡ 0)
 pub plain_second : (h : Header) → h.form ≡ Second → IsPlain h
 plain_second h is e = let both : First ≡ Second = sym e ∙ is in cc
 
-header_again_in : (f : Form) (h : Header) (rest : List ℕ) → h.form ≡ f → IsPlain h → header_at f (header_bytes_in f h ++ rest) ≡ h
+header_again_in : (f : ImageForm) (h : Header) (rest : List ℕ) → h.form ≡ f → IsPlain h → header_at f (header_bytes_in f h ++ rest) ≡ h
 header_again_in First h rest is plain = let p = plain is in first_again h rest is p.0 p.1
 header_again_in Second h rest is plain = second_again h rest is
 
 pub header_again : (h : Header) (rest : List ℕ) → IsPlain h → header_at h.form (header_bytes h ++ rest) ≡ h
 header_again h rest plain = header_again_in h.form h rest refl plain
 
-begins : (f : Form) (h : Header) (rest : List ℕ) → num (header_bytes_in f h ++ rest) 0 ≡ letters f
+begins : (f : ImageForm) (h : Header) (rest : List ℕ) → num (header_bytes_in f h ++ rest) 0 ≡ letters f
 unfolding header_bytes_in
 begins First h rest = refl
 begins Second h rest = refl
 
-same_letters : (f : Form) (bytes : List ℕ) → num bytes 0 ≡ letters f → form_at bytes ≡ Some f
+same_letters : (f : ImageForm) (bytes : List ℕ) → num bytes 0 ≡ letters f → form_at bytes ≡ Some f
 same_letters First bytes e = let is : (num bytes 0 == 826884680) ≡ true = ap (λ (n : ℕ). n == 826884680) e in rw is refl
 same_letters Second bytes e =
     let not_first : (num bytes 0 == 826884680) ≡ false = ap (λ (n : ℕ). n == 826884680) e in
@@ -188,11 +188,11 @@ passes bytes r magic head long parts fields records =
     let first : header_or_fault bytes ≡ header_in (form_at bytes) bytes = rw enough refl in
     let inside : header_in (Some h.form) bytes ≡ unless (field_fault (header_at h.form bytes)) (sized (header_at h.form bytes) n) = rw whole refl in
     let fits : sized h n ≡ Ok h = rw (not_short, not_long) refl in
-    let header : header_or_fault bytes ≡ Ok h = first ∙ ap (λ (f : Option Form). header_in f bytes) (same_letters h.form bytes magic) ∙ inside
+    let header : header_or_fault bytes ≡ Ok h = first ∙ ap (λ (f : Option ImageForm). header_in f bytes) (same_letters h.form bytes magic) ∙ inside
     ∙ ap (λ (g : Header). unless (field_fault g) (sized g n)) head ∙ ap (λ (f : Option Refusal). unless f (sized h n)) fields ∙ fits in
     ap (λ (x : Result Header Refusal). followed x bytes) header ∙ ap checked parts ∙ ap (λ (f : Option Refusal). unless f (Ok r)) records
   where
-    at_least_20 : (f : Form) → 20 ≤ header_size f
+    at_least_20 : (f : ImageForm) → 20 ≤ header_size f
     at_least_20 First = omega arith
     at_least_20 Second = omega arith
 

@@ -6,8 +6,8 @@ use Rattle.std.proofs.lemmas.Bool.{cases_lt, eqb-true, le-leb, leb-true, lt-ltb,
 use Rattle.std.proofs.lemmas.Bool.Decides.{nat_tests}
 use Rattle.std.proofs.lemmas.Nat.{mod-mul-add}
 use Rattle.std.proofs.lemmas.List.{append-nil, get_or-map, get_or_past, length-map, take-append-drop}
-use Rattle.image_format.specs.declared.records.Form.{Form}
-use Rattle.image_format.specs.declared.records.Form.TheVariants.{First, Second}
+use Rattle.image_format.specs.declared.records.ImageForm.{ImageForm}
+use Rattle.image_format.specs.declared.records.ImageForm.TheVariants.{First, Second}
 use Rattle.image_format.specs.declared.records.Header.{Header}
 use Rattle.image_format.specs.declared.records.TaskRecord.{TaskRecord}
 use Rattle.image_format.specs.declared.records.RegionRecord.{RegionRecord}
@@ -223,7 +223,7 @@ has_regions r a =
 
 -- ---- tasks
 
-task_steps : (form : Form) (index place : ℕ) (ts : List TaskRecord) (i : ℕ) → i < length ts → tasks_from form index place ts ≡ None → IsTask form (index + i) (get_or ts i blank)
+task_steps : (form : ImageForm) (index place : ℕ) (ts : List TaskRecord) (i : ℕ) → i < length ts → tasks_from form index place ts ≡ None → IsTask form (index + i) (get_or ts i blank)
 task_steps form index place [] i lt e = absurd (omega (arith, lt))
 task_steps form index place (t ∷ ts) zero lt e =
     let a = both_none (task_fault form index t place) (tasks_from form (index + 1) (place + 12) ts) e in
@@ -342,7 +342,7 @@ has_tasks r a =
 blank_line : LineRecord
 blank_line = record { line = 0; task = 0; zero = 0; bits = 0 }
 
-line_steps : (form : Form) (least tasks place : ℕ) (ls : List LineRecord) (k : ℕ) → k < length ls → lines_from form least tasks place ls ≡ None → IsLine form least tasks (get_or ls k blank_line)
+line_steps : (form : ImageForm) (least tasks place : ℕ) (ls : List LineRecord) (k : ℕ) → k < length ls → lines_from form least tasks place ls ≡ None → IsLine form least tasks (get_or ls k blank_line)
 line_steps form least tasks place [] k lt e = absurd (omega (arith, lt))
 line_steps form least tasks place (l ∷ ls) zero lt e =
     is_line form least tasks l place (both_none (line_fault form least tasks l place) (lines_from form (l.line + 1) tasks (place + 8) ls) e).0
@@ -352,7 +352,7 @@ line_steps form least tasks place (l ∷ ls) (suc k) lt e =
     let next = line_steps form (l.line + 1) tasks (place + 8) ls k (omega (arith, lt)) a.1 in
     record { most = next.most; least_line = omega (arith, here.least_line, next.least_line); owner = next.owner; zero_half = next.zero_half; bits = next.bits }
 
-line_order : (form : Form) (least tasks place : ℕ) (ls : List LineRecord) (k m : ℕ) → k < m → m < length ls → lines_from form least tasks place ls ≡ None
+line_order : (form : ImageForm) (least tasks place : ℕ) (ls : List LineRecord) (k m : ℕ) → k < m → m < length ls → lines_from form least tasks place ls ≡ None
     → (get_or ls k blank_line).line < (get_or ls m blank_line).line
 line_order form least tasks place [] k m lt in_list e = absurd (omega (arith, in_list))
 line_order form least tasks place (l ∷ ls) k zero lt in_list e = absurd (omega (arith, lt))
@@ -363,7 +363,7 @@ line_order form least tasks place (l ∷ ls) zero (suc m) lt in_list e =
 line_order form least tasks place (l ∷ ls) (suc k) (suc m) lt in_list e =
     line_order form (l.line + 1) tasks (place + 8) ls k m (omega (arith, lt)) (omega (arith, in_list)) (both_none (line_fault form least tasks l place) (lines_from form (l.line + 1) tasks (place + 8) ls) e).1
 
-line_63 : (form : Form) → highest_line form < 64
+line_63 : (form : ImageForm) → highest_line form < 64
 line_63 First = omega arith
 line_63 Second = omega arith
 
@@ -394,7 +394,7 @@ has_lines r a = record {
 
 -- ---- names
 
-most_32 : (form : Form) → most_names form ≤ 32
+most_32 : (form : ImageForm) → most_names form ≤ 32
 most_32 First = omega arith
 most_32 Second = omega arith
 

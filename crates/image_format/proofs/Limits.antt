@@ -2,8 +2,8 @@
 use Rattle.std.proofs.Common.{◌≡◌, ◌*◌, ◌≤◌, ◌<◌, ℕ, List, Option, cond, None, Some, arith, Bool, true, false, not, ◌||◌, ◌==◌, refl, nat_lt}
 use Rattle.std.proofs.lemmas.Bool.{eqb-true, le-ltb, ltb-false, or_parts, or_from}
 use Rattle.std.proofs.lemmas.Bool.Decides.{nat_tests}
-use Rattle.image_format.specs.declared.records.Form.{Form}
-use Rattle.image_format.specs.declared.records.Form.TheVariants.{First, Second}
+use Rattle.image_format.specs.declared.records.ImageForm.{ImageForm}
+use Rattle.image_format.specs.declared.records.ImageForm.TheVariants.{First, Second}
 use Rattle.image_format.specs.declared.records.Header.{Header}
 use Rattle.image_format.specs.declared.records.TaskRecord.{TaskRecord}
 use Rattle.image_format.specs.Records.{header_at, total}
@@ -32,7 +32,7 @@ zero_is : (n : ℕ) → n ≡ 0 → not (n == 0) ≡ false
 zero_is n e = rw e refl
 
 -- the limits of a form
-pub record Limits (f : Form) (h : Header) : Type 0 where
+pub record Limits (f : ImageForm) (h : Header) : Type 0 where
   pub some_task : 1 ≤ h.tasks
   pub tasks : h.tasks ≤ most_tasks f
   pub lines : h.lines ≤ most_lines f
@@ -44,7 +44,7 @@ pub record Limits (f : Form) (h : Header) : Type 0 where
   pub bits : 0 < h.bits
   pub second : f ≡ Second → (h.zero ≡ 0) × (h.names ≤ 409600)
 
-pub limits_in : (f : Form) (h : Header) → field_fault_in f h ≡ None → Limits f h
+pub limits_in : (f : ImageForm) (h : Header) → field_fault_in f h ≡ None → Limits f h
 limits_in First h e =
     let a = row_none (nat_lt h.tasks 1 || nat_lt 32 h.tasks) _ _ e in
     let b = row_none (nat_lt 32 h.lines) _ _ a.1 in
@@ -97,7 +97,7 @@ unfolding field_fault
 limits h e = limits_in h.form h e
 
 -- a header within the limits of a form is not refused in it
-pub taken_in : (f : Form) (h : Header) → Limits f h → field_fault_in f h ≡ None
+pub taken_in : (f : ImageForm) (h : Header) → Limits f h → field_fault_in f h ≡ None
 taken_in First h l =
     row_pass (nat_lt h.tasks 1 || nat_lt 32 h.tasks) _ _ (or_from (nat_lt h.tasks 1) (nat_lt 32 h.tasks) (le-ltb h.tasks 1 l.some_task) (le-ltb 32 h.tasks l.tasks))
     (row_pass (nat_lt 32 h.lines) _ _ (le-ltb 32 h.lines l.lines)
@@ -124,15 +124,15 @@ taken h l = taken_in h.form h l
 
 -- ---- of both forms
 
-size_28 : (f : Form) → header_size f ≤ 28
+size_28 : (f : ImageForm) → header_size f ≤ 28
 size_28 First = omega arith
 size_28 Second = omega arith
 
-pub tasks_512 : (f : Form) → most_tasks f ≤ 512
+pub tasks_512 : (f : ImageForm) → most_tasks f ≤ 512
 tasks_512 First = omega arith
 tasks_512 Second = omega arith
 
-pub lines_64 : (f : Form) → most_lines f ≤ 64
+pub lines_64 : (f : ImageForm) → most_lines f ≤ 64
 lines_64 First = omega arith
 lines_64 Second = omega arith
 
@@ -158,7 +158,7 @@ early_names h e = omega (arith, size_28 h.form, few_tasks h e, few_regions h e, 
 pub few_names : (h : Header) → field_fault h ≡ None → h.form ≡ Second → h.names ≤ 409600
 few_names h e s = ((limits h e).second s).1
 
-pub plain_names : (h : Header) (f : Form) → h.form ≡ f → field_fault h ≡ None → (h.form ≡ First → h.names ≡ 0) → h.names ≤ 409600
+pub plain_names : (h : Header) (f : ImageForm) → h.form ≡ f → field_fault h ≡ None → (h.form ≡ First → h.names ≡ 0) → h.names ≤ 409600
 plain_names h First is e none = omega (arith, none is)
 plain_names h Second is e none = few_names h e is
 
@@ -169,12 +169,12 @@ short_total h e none = let l = limits h e in omega (arith, early_names h e, plai
 pub no_zero : (h : Header) → field_fault h ≡ None → (h.form ≡ First → h.zero ≡ 0) → h.zero ≡ 0
 no_zero h e first = by h.form refl
   where
-    by : (f : Form) → h.form ≡ f → h.zero ≡ 0
+    by : (f : ImageForm) → h.form ≡ f → h.zero ≡ 0
     by First is = first is
     by Second is = ((limits h e).second is).0
 
 -- what the first form has not is 0
-pub plain_header : (f : Form) (bytes : List ℕ) → (header_at f bytes).form ≡ First → ((header_at f bytes).zero ≡ 0) × ((header_at f bytes).names ≡ 0)
+pub plain_header : (f : ImageForm) (bytes : List ℕ) → (header_at f bytes).form ≡ First → ((header_at f bytes).zero ≡ 0) × ((header_at f bytes).names ≡ 0)
 plain_header First bytes e = (refl, refl)
 plain_header Second bytes e = cc
 

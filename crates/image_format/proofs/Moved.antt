@@ -3,8 +3,8 @@ use Rattle.std.proofs.Common.{◌≡◌, ◌+◌, ◌*◌, ◌%◌, ◌≤◌, �
 use Rattle.std.proofs.lemmas.Bool.{or_parts, or_from, ltb-false, le-ltb}
 use Rattle.std.specs.Prelude.{Contains}
 use Rattle.std.specs.List.{list_any}
-use Rattle.image_format.specs.declared.records.Form.{Form}
-use Rattle.image_format.specs.declared.records.Form.TheVariants.{First, Second}
+use Rattle.image_format.specs.declared.records.ImageForm.{ImageForm}
+use Rattle.image_format.specs.declared.records.ImageForm.TheVariants.{First, Second}
 use Rattle.image_format.specs.declared.records.Header.{Header}
 use Rattle.image_format.specs.declared.records.TaskRecord.{TaskRecord}
 use Rattle.image_format.specs.declared.records.RegionRecord.{RegionRecord}
@@ -19,20 +19,20 @@ use Rattle.image_format.proofs.Named.{names_moved}
 use Rattle.image_format.proofs.Passed.{Passed, both_none, none_both, passed_steps, steps_passed}
 
 -- the header, and the records, in the form
-abbrev pub header_in_form : Form → Header → Header
+abbrev pub header_in_form : ImageForm → Header → Header
 header_in_form f h = record h { form = f }
 
-abbrev pub in_form : Form → Records → Records
+abbrev pub in_form : ImageForm → Records → Records
 in_form f r = record r { header = header_in_form f r.header }
 
 -- ---- tasks
 
 -- no task has more names than the form allows
-abbrev pub AreFew : Form → List TaskRecord → Type 0
+abbrev pub AreFew : ImageForm → List TaskRecord → Type 0
 AreFew f [] = Unit {0}
 AreFew f (t ∷ ts) = (nat_lt (most_names f) t.names ≡ false) × AreFew f ts
 
-task_moved : (f g : Form) (index : ℕ) (t : TaskRecord) (place other : ℕ) → nat_lt (most_names g) t.names ≡ false → task_fault f index t place ≡ None → task_fault g index t other ≡ None
+task_moved : (f g : ImageForm) (index : ℕ) (t : TaskRecord) (place other : ℕ) → nat_lt (most_names g) t.names ≡ false → task_fault f index t place ≡ None → task_fault g index t other ≡ None
 task_moved f g index t place other few e =
     let a = row_none ((index == 0 && not (t.priority == 0)) || (not (index == 0) && t.priority == 0)) _ _ e in
     let b = row_none (nat_lt 1 t.flags || (index == 0 && not (t.flags == 1))) _ _ a.1 in
@@ -45,19 +45,19 @@ task_moved f g index t place other few e =
     (row_pass (nat_lt (most_names g) t.names) _ _ few
     (row_pass (not (t.sp % 4 == 0)) _ _ s.0 refl))))
 
-tasks_moved : (f g : Form) (index place other : ℕ) (ts : List TaskRecord) → AreFew g ts → tasks_from f index place ts ≡ None → tasks_from g index other ts ≡ None
+tasks_moved : (f g : ImageForm) (index place other : ℕ) (ts : List TaskRecord) → AreFew g ts → tasks_from f index place ts ≡ None → tasks_from g index other ts ≡ None
 tasks_moved f g index place other [] few e = refl
 tasks_moved f g index place other (t ∷ ts) few e =
     let a = both_none (task_fault f index t place) (tasks_from f (index + 1) (place + 12) ts) e in
     none_both (task_fault g index t other) (tasks_from g (index + 1) (other + 12) ts) (task_moved f g index t place other few.0 a.0)
     (tasks_moved f g (index + 1) (place + 12) (other + 12) ts few.1 a.1)
 
-more_names : (f : Form) (n : ℕ) → nat_lt (most_names f) n ≡ false → nat_lt 32 n ≡ false
+more_names : (f : ImageForm) (n : ℕ) → nat_lt (most_names f) n ≡ false → nat_lt 32 n ≡ false
 more_names First n e = let le = ltb-false 0 n e in le-ltb 32 n (omega (arith, le))
 more_names Second n e = e
 
 -- what a form allows, the second does
-few_second : (f : Form) (index place : ℕ) (ts : List TaskRecord) → tasks_from f index place ts ≡ None → AreFew Second ts
+few_second : (f : ImageForm) (index place : ℕ) (ts : List TaskRecord) → tasks_from f index place ts ≡ None → AreFew Second ts
 few_second f index place [] e = tt
 few_second f index place (t ∷ ts) e =
     let a = both_none (task_fault f index t place) (tasks_from f (index + 1) (place + 12) ts) e in
@@ -82,7 +82,7 @@ count_moved false r s e = cc
 
 -- ---- regions and entries
 
-region_moved : (f : Form) (h : Header) (overlaps : Bool) (r : RegionRecord) (place other : ℕ) → region_fault h overlaps r place ≡ None → region_fault (header_in_form f h) overlaps r other ≡ None
+region_moved : (f : ImageForm) (h : Header) (overlaps : Bool) (r : RegionRecord) (place other : ℕ) → region_fault h overlaps r place ≡ None → region_fault (header_in_form f h) overlaps r other ≡ None
 region_moved f h overlaps r place other e =
     let a = row_none (not (has_rights r)) _ _ e in
     let b = row_none (not (has_shape r)) _ _ a.1 in
@@ -90,14 +90,14 @@ region_moved f h overlaps r place other e =
     let d = row_none overlaps _ _ c.1 in
     row_pass (not (has_rights r)) _ _ a.0 (row_pass (not (has_shape r)) _ _ b.0 (row_pass (not (has_area (header_in_form f h) r)) _ _ c.0 (row_pass overlaps _ _ d.0 refl)))
 
-own_moved : (f : Form) (h : Header) (others own : List RegionRecord) (place other : ℕ) (rs : List RegionRecord) → own_fault h others own place rs ≡ None → own_fault (header_in_form f h) others own other rs ≡ None
+own_moved : (f : ImageForm) (h : Header) (others own : List RegionRecord) (place other : ℕ) (rs : List RegionRecord) → own_fault h others own place rs ≡ None → own_fault (header_in_form f h) others own other rs ≡ None
 own_moved f h others own place other [] e = refl
 own_moved f h others own place other (r ∷ rs) e =
     let a = both_none (region_fault h (clashes others own r) r place) (own_fault h others (own ++ r ∷ []) (place + 12) rs) e in
     none_both (region_fault (header_in_form f h) (clashes others own r) r other) (own_fault (header_in_form f h) others (own ++ r ∷ []) (other + 12) rs)
     (region_moved f h (clashes others own r) r place other a.0) (own_moved f h others (own ++ r ∷ []) (place + 12) (other + 12) rs a.1)
 
-regions_moved : (f : Form) (h : Header) (others : List RegionRecord) (place other : ℕ) (ts : List TaskRecord) (rs : List RegionRecord)
+regions_moved : (f : ImageForm) (h : Header) (others : List RegionRecord) (place other : ℕ) (ts : List TaskRecord) (rs : List RegionRecord)
     → regions_from h others place ts rs ≡ None → regions_from (header_in_form f h) others other ts rs ≡ None
 regions_moved f h others place other [] rs e = refl
 regions_moved f h others place other (t ∷ ts) rs e =
@@ -127,7 +127,7 @@ pub record IsOwned (least tasks : ℕ) (l : LineRecord) : Type 0 where
   pub zero_half : not (l.zero == 0) ≡ false
   pub bits : (l.bits == 0) ≡ false
 
-pub line_rows : (f : Form) (least tasks : ℕ) (l : LineRecord) (place : ℕ) → line_fault f least tasks l place ≡ None → (nat_lt (highest_line f) l.line ≡ false) × IsOwned least tasks l
+pub line_rows : (f : ImageForm) (least tasks : ℕ) (l : LineRecord) (place : ℕ) → line_fault f least tasks l place ≡ None → (nat_lt (highest_line f) l.line ≡ false) × IsOwned least tasks l
 line_rows First least tasks l place e =
     let a = row_none (nat_lt 31 l.line || nat_lt l.line least) _ _ e in
     let b = row_none (nat_le tasks l.task) _ _ a.1 in
@@ -143,7 +143,7 @@ line_rows Second least tasks l place e =
     let line = or_parts (nat_lt 63 l.line) (nat_lt l.line least) a.0 in
     (line.0, record { low = line.1; owner = c.0; zero_half = b.0; bits = d.0 })
 
-rows_line : (f : Form) (least tasks : ℕ) (l : LineRecord) (place : ℕ) → nat_lt (highest_line f) l.line ≡ false → IsOwned least tasks l → line_fault f least tasks l place ≡ None
+rows_line : (f : ImageForm) (least tasks : ℕ) (l : LineRecord) (place : ℕ) → nat_lt (highest_line f) l.line ≡ false → IsOwned least tasks l → line_fault f least tasks l place ≡ None
 rows_line First least tasks l place high o =
     row_pass (nat_lt 31 l.line || nat_lt l.line least) _ _ (or_from (nat_lt 31 l.line) (nat_lt l.line least) high o.low)
     (row_pass (nat_le tasks l.task) _ _ o.owner (row_pass (not (l.zero == 0)) _ _ o.zero_half (row_pass (l.bits == 0) _ _ o.bits refl)))
@@ -152,22 +152,22 @@ rows_line Second least tasks l place high o =
     (row_pass (not (l.zero == 0)) _ _ o.zero_half (row_pass (nat_le tasks l.task) _ _ o.owner (row_pass (l.bits == 0) _ _ o.bits refl)))
 
 -- no line is ltb-false the highest of the form
-abbrev pub AreLow : Form → List LineRecord → Type 0
+abbrev pub AreLow : ImageForm → List LineRecord → Type 0
 AreLow f [] = Unit {0}
 AreLow f (l ∷ ls) = (nat_lt (highest_line f) l.line ≡ false) × AreLow f ls
 
-lines_moved : (f g : Form) (least tasks place other : ℕ) (ls : List LineRecord) → AreLow g ls → lines_from f least tasks place ls ≡ None → lines_from g least tasks other ls ≡ None
+lines_moved : (f g : ImageForm) (least tasks place other : ℕ) (ls : List LineRecord) → AreLow g ls → lines_from f least tasks place ls ≡ None → lines_from g least tasks other ls ≡ None
 lines_moved f g least tasks place other [] low e = refl
 lines_moved f g least tasks place other (l ∷ ls) low e =
     let a = both_none (line_fault f least tasks l place) (lines_from f (l.line + 1) tasks (place + 8) ls) e in
     none_both (line_fault g least tasks l other) (lines_from g (l.line + 1) tasks (other + 8) ls) (rows_line g least tasks l other low.0 (line_rows f least tasks l place a.0).1)
     (lines_moved f g (l.line + 1) tasks (place + 8) (other + 8) ls low.1 a.1)
 
-higher : (f : Form) (n : ℕ) → nat_lt (highest_line f) n ≡ false → nat_lt 63 n ≡ false
+higher : (f : ImageForm) (n : ℕ) → nat_lt (highest_line f) n ≡ false → nat_lt 63 n ≡ false
 higher First n e = let le = ltb-false 31 n e in le-ltb 63 n (omega (arith, le))
 higher Second n e = e
 
-low_second : (f : Form) (least tasks place : ℕ) (ls : List LineRecord) → lines_from f least tasks place ls ≡ None → AreLow Second ls
+low_second : (f : ImageForm) (least tasks place : ℕ) (ls : List LineRecord) → lines_from f least tasks place ls ≡ None → AreLow Second ls
 low_second f least tasks place [] e = tt
 low_second f least tasks place (l ∷ ls) e =
     let a = both_none (line_fault f least tasks l place) (lines_from f (l.line + 1) tasks (place + 8) ls) e in
@@ -179,7 +179,7 @@ low_first (l ∷ ls) h = (le-ltb 31 l.line (h l (0, omega arith, refl)), low_fir
 
 -- ---- the whole
 
-passed_moved : (f : Form) (r : Records) → AreFew f r.tasks → AreLow f r.lines → Passed r → Passed (in_form f r)
+passed_moved : (f : ImageForm) (r : Records) → AreFew f r.tasks → AreLow f r.lines → Passed r → Passed (in_form f r)
 passed_moved f r few low p =
     let h = r.header in
     let g = header_in_form f h in
@@ -192,7 +192,7 @@ passed_moved f r few low p =
       names = names_moved (names_place h + length r.names) (names_place g + length r.names) r.tasks r.names p.names;
     }
 
-accepted_moved : (f : Form) (r : Records) → Limits f (header_in_form f r.header) → AreFew f r.tasks → AreLow f r.lines → Accepted r → Accepted (in_form f r)
+accepted_moved : (f : ImageForm) (r : Records) → Limits f (header_in_form f r.header) → AreFew f r.tasks → AreLow f r.lines → Accepted r → Accepted (in_form f r)
 accepted_moved f r l few low a = record {
   tasks = a.tasks;
   regions = a.regions;

@@ -6,8 +6,8 @@ use Rattle.std.proofs.lemmas.Bool.{eqb-true, ltb-false, not-false, or_cases, leb
 use Rattle.std.proofs.lemmas.Bool.Decides.{nat_tests}
 use Rattle.std.proofs.lemmas.List.{length-map, length-take, map-append, take-append-drop}
 use Rattle.std.proofs.lemmas.List.Sums.{sum_by-cons}
-use Rattle.image_format.specs.declared.records.Form.{Form}
-use Rattle.image_format.specs.declared.records.Form.TheVariants.{Second}
+use Rattle.image_format.specs.declared.records.ImageForm.{ImageForm}
+use Rattle.image_format.specs.declared.records.ImageForm.TheVariants.{Second}
 use Rattle.image_format.specs.declared.records.Header.{Header}
 use Rattle.image_format.specs.declared.records.TaskRecord.{TaskRecord}
 use Rattle.image_format.specs.declared.records.RegionRecord.{RegionRecord}
@@ -32,7 +32,7 @@ equals n m e = eqb-true n m (not-false (n == m) e)
 
 -- ---- what the step says of a task
 
-pub record IsTask (form : Form) (index : ℕ) (t : TaskRecord) : Type 0 where
+pub record IsTask (form : ImageForm) (index : ℕ) (t : TaskRecord) : Type 0 where
   pub supervisor : index ≡ 0 → t.priority ≡ 0
   pub others : 0 < index → 0 < t.priority
   pub flags : t.flags ≤ 1
@@ -42,7 +42,7 @@ pub record IsTask (form : Form) (index : ℕ) (t : TaskRecord) : Type 0 where
   pub most_names : t.names ≤ most_names form
   pub stack : t.sp % 4 ≡ 0
 
-pub is_task : (form : Form) (index : ℕ) (t : TaskRecord) (place : ℕ) → task_fault form index t place ≡ None → IsTask form index t
+pub is_task : (form : ImageForm) (index : ℕ) (t : TaskRecord) (place : ℕ) → task_fault form index t place ≡ None → IsTask form index t
 is_task form index t place e =
     let a = row_none ((index == 0 && not (t.priority == 0)) || (not (index == 0) && t.priority == 0)) _ _ e in
     let b = row_none (nat_lt 1 t.flags || (index == 0 && not (t.flags == 1))) _ _ a.1 in
@@ -182,10 +182,10 @@ pub names_length : (n : ℕ) (bytes : List ℕ) → length (names_of n bytes) �
 names_length zero bytes = refl
 names_length (suc n) bytes = omega (arith, names_length n (after_name bytes))
 
-task_again : (form : Form) (index : ℕ) (t : TaskRecord) (own : List RegionRecord) (ns : List ℕ) → IsTask form index t → length own ≡ t.regions → task_record (task_of t own (names_of t.names ns)) ≡ t
+task_again : (form : ImageForm) (index : ℕ) (t : TaskRecord) (own : List RegionRecord) (ns : List ℕ) → IsTask form index t → length own ≡ t.regions → task_record (task_of t own (names_of t.names ns)) ≡ t
 task_again form index t own ns g e = same_task t _ _ _ (flag_again t.flags g.flags) (length-map own region_of ∙ e) (names_length t.names ns)
 
-tasks_again : (form : Form) (index place : ℕ) (ts : List TaskRecord) (rs : List RegionRecord) (ns : List ℕ) → counted ts ≡ length rs → tasks_from form index place ts ≡ None
+tasks_again : (form : ImageForm) (index place : ℕ) (ts : List TaskRecord) (rs : List RegionRecord) (ns : List ℕ) → counted ts ≡ length rs → tasks_from form index place ts ≡ None
     → map task_record (tasks_of ts rs ns) ≡ ts
 tasks_again form index place [] rs ns n e = refl
 tasks_again form index place (t ∷ ts) rs ns n e =
@@ -196,14 +196,14 @@ tasks_again form index place (t ∷ ts) rs ns n e =
 
 -- ---- interrupts
 
-pub record IsLine (form : Form) (least tasks : ℕ) (l : LineRecord) : Type 0 where
+pub record IsLine (form : ImageForm) (least tasks : ℕ) (l : LineRecord) : Type 0 where
   pub most : l.line ≤ highest_line form
   pub least_line : least ≤ l.line
   pub owner : l.task < tasks
   pub zero_half : l.zero ≡ 0
   pub bits : 0 < l.bits
 
-pub is_line : (form : Form) (least tasks : ℕ) (l : LineRecord) (place : ℕ) → line_fault form least tasks l place ≡ None → IsLine form least tasks l
+pub is_line : (form : ImageForm) (least tasks : ℕ) (l : LineRecord) (place : ℕ) → line_fault form least tasks l place ≡ None → IsLine form least tasks l
 is_line form least tasks l place e =
     let rows = line_rows form least tasks l place e in
     record {
@@ -217,14 +217,14 @@ is_line form least tasks l place e =
 line_again : (l : LineRecord) → l.zero ≡ 0 → line_record (line_of l) ≡ l
 line_again l e = ap (λ (n : ℕ). record l { zero = n }) (sym e)
 
-lines_again : (form : Form) (least tasks place : ℕ) (ls : List LineRecord) → lines_from form least tasks place ls ≡ None → map line_record (map line_of ls) ≡ ls
+lines_again : (form : ImageForm) (least tasks place : ℕ) (ls : List LineRecord) → lines_from form least tasks place ls ≡ None → map line_record (map line_of ls) ≡ ls
 lines_again form least tasks place [] e = refl
 lines_again form least tasks place (l ∷ ls) e =
     let a = both_none (line_fault form least tasks l place) (lines_from form (l.line + 1) tasks (place + 8) ls) e in
     ap₂ (λ x xs. x ∷ xs) (line_again l (is_line form least tasks l place a.0).zero_half) (lines_again form (l.line + 1) tasks (place + 8) ls a.1)
 
 -- no interrupt has another zero than 0
-pub no_zeros : (form : Form) (least tasks place : ℕ) (ls : List LineRecord) → lines_from form least tasks place ls ≡ None → All (λ l. l.zero ≡ 0) ls
+pub no_zeros : (form : ImageForm) (least tasks place : ℕ) (ls : List LineRecord) → lines_from form least tasks place ls ≡ None → All (λ l. l.zero ≡ 0) ls
 no_zeros form least tasks place [] e k d lt = absurd (omega (arith, lt))
 no_zeros form least tasks place (l ∷ ls) e zero d lt =
     (is_line form least tasks l place (both_none (line_fault form least tasks l place) (lines_from form (l.line + 1) tasks (place + 8) ls) e).0).zero_half
@@ -266,7 +266,7 @@ shape_again r a nothing =
 pub second_again : (r : Records) → r.header.form ≡ Second → Accepted r → records_of Second (picture_of r) ≡ r
 second_again r is a =
     let nothing = ((limits r.header a.fields).second is).0 in
-    ap (λ (f : Form). records_of f (picture_of r)) (sym is) ∙ shape_again r a nothing
+    ap (λ (f : ImageForm). records_of f (picture_of r)) (sym is) ∙ shape_again r a nothing
 
 pub sound_picture : (r : Records) → r.header.form ≡ Second → Accepted r → Sound (picture_of r)
 sound_picture r is a = subst Accepted (sym (second_again r is a)) a
@@ -322,7 +322,7 @@ tasks_back (t ∷ ts) =
     ap₂ (λ x xs. x ∷ xs) (same_picture t _ _ _ (bit_again t.started) (ap (map region_of) (front t.regions (all_regions ts)) ∙ regions_back t.regions) (names_back t.names (all_names ts)))
     (ap₂ (tasks_of (map task_record ts)) (behind t.regions (all_regions ts)) (names_after t.names (all_names ts)) ∙ tasks_back ts)
 
-pub picture_again : (form : Form) (p : Picture) → picture_of (records_of form p) ≡ p
+pub picture_again : (form : ImageForm) (p : Picture) → picture_of (records_of form p) ≡ p
 picture_again form p = same_parts (tasks_back p.tasks) (lines_back p.lines)
   where
     same_parts : {ts : List TaskPicture} {ls : List LinePicture} → ts ≡ p.tasks → ls ≡ p.lines → ◌≡◌ {A = Picture} (record p { tasks = ts; lines = ls }) p

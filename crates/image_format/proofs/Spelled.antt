@@ -3,8 +3,8 @@ use Rattle.std.proofs.Common.{◌≡◌, ◌∙◌, ◌+◌, ◌*◌, ◌/◌, �
 use Rattle.std.proofs.lemmas.Bool.{eqb-true, ltb-false}
 use Rattle.std.specs.List.{flat_map}
 use Rattle.std.proofs.lemmas.List.{drop-drop, get_or-drop, drop_more, length-take, take-append-drop}
-use Rattle.image_format.specs.declared.records.Form.{Form}
-use Rattle.image_format.specs.declared.records.Form.TheVariants.{First, Second}
+use Rattle.image_format.specs.declared.records.ImageForm.{ImageForm}
+use Rattle.image_format.specs.declared.records.ImageForm.TheVariants.{First, Second}
 use Rattle.image_format.specs.declared.records.Header.{Header}
 use Rattle.image_format.specs.Accepted.{Accepted}
 use Rattle.image_format.specs.Picture.{AreBytes}
@@ -67,7 +67,7 @@ half_spelled bytes k le b =
     one ∙ ap (λ (xs : List ℕ). get_or bytes k 0 ∷ xs) (two ∙ ap (λ (n : ℕ). get_or bytes (k + 1) 0 ∷ drop n bytes) to_two)
     ∙ ap (λ (xs : List ℕ). xs ++ drop (k + 2) bytes) (sym (halves_again _ _ (b k) (b (k + 1))))
 
-line_spelled : (form : Form) (bytes : List ℕ) → 8 ≤ length bytes → AreBytes bytes → bytes ≡ line_bytes form (line_at form bytes) ++ drop 8 bytes
+line_spelled : (form : ImageForm) (bytes : List ℕ) → 8 ≤ length bytes → AreBytes bytes → bytes ≡ line_bytes form (line_at form bytes) ++ drop 8 bytes
 line_spelled First bytes le b =
     four bytes 0 (omega (arith, le)) ∙ ap (λ (xs : List ℕ). get_or bytes 0 0 ∷ get_or bytes 1 0 ∷ (xs ++ drop 4 bytes)) (sym (halves_again (get_or bytes 2 0) (get_or bytes 3 0) (b 2) (b 3)))
     ∙ ap (λ (xs : List ℕ). (get_or bytes 0 0 ∷ get_or bytes 1 0 ∷ half_bytes (half bytes 2)) ++ xs) (num_spelled bytes 4 (omega (arith, le)) b)
@@ -75,10 +75,10 @@ line_spelled Second bytes le b =
     four bytes 0 (omega (arith, le)) ∙ ap (λ (xs : List ℕ). get_or bytes 0 0 ∷ get_or bytes 1 0 ∷ (xs ++ drop 4 bytes)) (sym (halves_again (get_or bytes 2 0) (get_or bytes 3 0) (b 2) (b 3)))
     ∙ ap (λ (xs : List ℕ). (get_or bytes 0 0 ∷ get_or bytes 1 0 ∷ half_bytes (half bytes 2)) ++ xs) (num_spelled bytes 4 (omega (arith, le)) b)
 
-letters_spelled : (f : Form) (bytes : List ℕ) → 4 ≤ length bytes → AreBytes bytes → num bytes 0 ≡ letters f → bytes ≡ num_bytes (letters f) ++ drop 4 bytes
+letters_spelled : (f : ImageForm) (bytes : List ℕ) → 4 ≤ length bytes → AreBytes bytes → num bytes 0 ≡ letters f → bytes ≡ num_bytes (letters f) ++ drop 4 bytes
 letters_spelled f bytes le b magic = num_spelled bytes 0 (omega (arith, le)) b ∙ ap (λ (n : ℕ). num_bytes n ++ drop 4 bytes) magic
 
-header_spelled : (f : Form) (bytes : List ℕ) → header_size f ≤ length bytes → AreBytes bytes → num bytes 0 ≡ letters f
+header_spelled : (f : ImageForm) (bytes : List ℕ) → header_size f ≤ length bytes → AreBytes bytes → num bytes 0 ≡ letters f
     → bytes ≡ header_bytes (header_at f bytes) ++ drop (header_size (header_at f bytes).form) bytes
 unfolding header_bytes_in
 header_spelled First bytes le b magic =
@@ -125,7 +125,7 @@ regions_spelled (suc n) bytes le b =
 eight_more : (n : ℕ) (bytes : List ℕ) → drop (8 * n) (drop 8 bytes) ≡ drop (8 * suc n) bytes
 eight_more n bytes = let e : 8 + 8 * n ≡ 8 * suc n = omega arith in drop-drop (8 * n) 8 bytes ∙ ap (λ (k : ℕ). drop k bytes) e
 
-lines_spelled : (form : Form) (n : ℕ) (bytes : List ℕ) → 8 * n ≤ length bytes → AreBytes bytes → bytes ≡ flat_map (line_bytes form) (lines_at form n bytes) ++ drop (8 * n) bytes
+lines_spelled : (form : ImageForm) (n : ℕ) (bytes : List ℕ) → 8 * n ≤ length bytes → AreBytes bytes → bytes ≡ flat_map (line_bytes form) (lines_at form n bytes) ++ drop (8 * n) bytes
 lines_spelled form zero bytes le b = refl
 lines_spelled First (suc n) bytes le b =
     let more : List ℕ = flat_map (line_bytes First) (lines_at First n (drop 8 bytes)) in
@@ -170,10 +170,10 @@ passed (Some fault) x p e = cc
 same_ok : {T : Type 0} (p q : T) → ◌≡◌ {A = Result T Refusal} (Ok p) (Ok q) → p ≡ q
 same_ok p q e = cc
 
-same_form : (f g : Form) → ◌≡◌ {A = Option Form} (Some f) (Some g) → f ≡ g
+same_form : (f g : ImageForm) → ◌≡◌ {A = Option ImageForm} (Some f) (Some g) → f ≡ g
 same_form f g e = cc
 
-letters_of : (n : ℕ) (f : Form) → cond (n == 826884680) (Some First) (cond (n == 843661896) (Some Second) None) ≡ Some f → n ≡ letters f
+letters_of : (n : ℕ) (f : ImageForm) → cond (n == 826884680) (Some First) (cond (n == 843661896) (Some Second) None) ≡ Some f → n ≡ letters f
 letters_of n f e = by (n == 826884680) (n == 843661896) refl refl e
   where
     by : (a b : Bool) → (n == 826884680) ≡ a → (n == 843661896) ≡ b → cond a (Some First) (cond b (Some Second) None) ≡ Some f → n ≡ letters f
@@ -183,14 +183,14 @@ letters_of n f e = by (n == 826884680) (n == 843661896) refl refl e
 
 -- what a header that is taken says of the bytes
 record Begins (bytes : List ℕ) (h : Header) : Type 0 where
-  form : Form
+  form : ImageForm
   header : header_at form bytes ≡ h
   magic : num bytes 0 ≡ letters form
   long : length bytes ≡ total h
   whole : header_size form ≤ length bytes
   fields : field_fault h ≡ None
 
-begins_in : (f : Form) (bytes : List ℕ) (h : Header) → num bytes 0 ≡ letters f → header_in (Some f) bytes ≡ Ok h → Begins bytes h
+begins_in : (f : ImageForm) (bytes : List ℕ) (h : Header) → num bytes 0 ≡ letters f → header_in (Some f) bytes ≡ Ok h → Begins bytes h
 begins_in f bytes h magic e =
     let g = header_at f bytes in
     let n = length bytes in
@@ -205,7 +205,7 @@ begins_in f bytes h magic e =
 begins : (bytes : List ℕ) (h : Header) → header_or_fault bytes ≡ Ok h → Begins bytes h
 begins bytes h e = by_form (form_at bytes) refl (taken (nat_lt (length bytes) 20) _ _ h e).1
   where
-    by_form : (x : Option Form) → form_at bytes ≡ x → header_in x bytes ≡ Ok h → Begins bytes h
+    by_form : (x : Option ImageForm) → form_at bytes ≡ x → header_in x bytes ≡ Ok h → Begins bytes h
     by_form (Some f) is ok = begins_in f bytes h (letters_of (num bytes 0) f is) ok
     by_form None is ok = cc
 
@@ -218,7 +218,7 @@ regions_count : (n : ℕ) (bytes : List ℕ) → length (regions_at n bytes) ≡
 regions_count zero bytes = refl
 regions_count (suc n) bytes = omega (arith, regions_count n (drop 12 bytes))
 
-lines_count : (form : Form) (n : ℕ) (bytes : List ℕ) → length (lines_at form n bytes) ≡ n
+lines_count : (form : ImageForm) (n : ℕ) (bytes : List ℕ) → length (lines_at form n bytes) ≡ n
 lines_count form zero bytes = refl
 lines_count form (suc n) bytes = omega (arith, lines_count form n (drop 8 bytes))
 

@@ -3,8 +3,8 @@ use Rattle.std.proofs.Common.{◌≡◌, ◌∙◌, ◌≤◌, ◌<◌, ◌+◌,
 use Rattle.std.specs.Prelude.{Contains, slice_index}
 use Rattle.std.specs.List.{flat_map}
 use Rattle.std.proofs.lemmas.List.{length-map}
-use Rattle.image_format.specs.declared.records.Form.{Form}
-use Rattle.image_format.specs.declared.records.Form.TheVariants.{First, Second}
+use Rattle.image_format.specs.declared.records.ImageForm.{ImageForm}
+use Rattle.image_format.specs.declared.records.ImageForm.TheVariants.{First, Second}
 use Rattle.image_format.specs.declared.records.Header.{Header}
 use Rattle.image_format.specs.declared.records.LineRecord.{LineRecord}
 use Rattle.image_format.specs.declared.records.RegionRecord.{RegionRecord}
@@ -45,11 +45,11 @@ unnamed_at index place (u ∷ ts) rs ns (suc k) t e lt is =
 spells_first : (bytes : List ℕ) (r : Records) → r.header.form ≡ First → bytes ≡ bytes_of r → Accepted r → IsPlain r.header → SpellsFirst (picture_of r) bytes
 spells_first bytes r is spelled a plain =
     let h = r.header in
-    let l : Limits First h = subst (λ (f : Form). Limits f h) is (limits h a.fields) in
+    let l : Limits First h = subst (λ (f : ImageForm). Limits f h) is (limits h a.fields) in
     let s = passed_steps r a.records in
-    let tasks : tasks_from First 0 20 r.tasks ≡ None = subst (λ (f : Form). tasks_from f 0 (header_size f) r.tasks ≡ None) is s.tasks in
-    let lines : lines_from First 0 h.tasks (lines_place h) r.lines ≡ None = subst (λ (f : Form). lines_from f 0 h.tasks (lines_place h) r.lines ≡ None) is s.lines in
-    let again : records_of First (picture_of r) ≡ r = ap (λ (f : Form). records_of f (picture_of r)) (sym is) ∙ shape_again r a (plain is).0 in
+    let tasks : tasks_from First 0 20 r.tasks ≡ None = subst (λ (f : ImageForm). tasks_from f 0 (header_size f) r.tasks ≡ None) is s.tasks in
+    let lines : lines_from First 0 h.tasks (lines_place h) r.lines ≡ None = subst (λ (f : ImageForm). lines_from f 0 h.tasks (lines_place h) r.lines ≡ None) is s.lines in
+    let again : records_of First (picture_of r) ≡ r = ap (λ (f : ImageForm). records_of f (picture_of r)) (sym is) ∙ shape_again r a (plain is).0 in
     record {
       spelled = spelled ∙ ap bytes_of (sym again);
       few_tasks = omega (arith, l.tasks, a.tasks, tasks_length r.tasks r.regions r.names);
@@ -61,11 +61,11 @@ spells_first bytes r is spelled a plain =
 pub spells : (bytes : List ℕ) (r : Records) → bytes ≡ bytes_of r → Accepted r → IsPlain r.header → Spells (picture_of r) bytes
 spells bytes r spelled a plain = by r.header.form refl
   where
-    by : (f : Form) → r.header.form ≡ f → Spells (picture_of r) bytes
+    by : (f : ImageForm) → r.header.form ≡ f → Spells (picture_of r) bytes
     by First is = inl (spells_first bytes r is spelled a plain)
     by Second is =
         let nothing = ((limits r.header a.fields).second is).0 in
-        let again : records_of Second (picture_of r) ≡ r = ap (λ (f : Form). records_of f (picture_of r)) (sym is) ∙ shape_again r a nothing in
+        let again : records_of Second (picture_of r) ≡ r = ap (λ (f : ImageForm). records_of f (picture_of r)) (sym is) ∙ shape_again r a nothing in
         inr (spelled ∙ ap bytes_of (sym again))
 
 -- ---- an image that is read is sound, and the bytes spell it
@@ -110,7 +110,7 @@ read_only p bytes (inr e) sound =
 
 -- ---- one image
 
-counted_of : (form : Form) (p : Picture) → IsCounted (records_of form p)
+counted_of : (form : ImageForm) (p : Picture) → IsCounted (records_of form p)
 counted_of form p = record {
   tasks = length-map p.tasks task_record;
   regions = length-map (all_regions p.tasks) region_record;
@@ -125,10 +125,10 @@ short_spelling p a =
     omega (arith, bytes_length r (counted_of Second p) a.flash, short_total r.header a.fields (λ e. (second_plain p e).1))
 
 -- the image that bytes of a form are read as, unchecked
-pub read : Form → List ℕ → Picture
+pub read : ImageForm → List ℕ → Picture
 read form bytes = picture_of (records_at (header_at form bytes) bytes)
 
-read_again : (form : Form) (p : Picture) → IsPlain (records_of form p).header → read form (bytes_of (records_of form p)) ≡ p
+read_again : (form : ImageForm) (p : Picture) → IsPlain (records_of form p).header → read form (bytes_of (records_of form p)) ≡ p
 unfolding read
 read_again form p plain =
     let r = records_of form p in
@@ -141,11 +141,11 @@ second_read p = read_again Second p (second_plain p)
 first_read : (p : Picture) (bytes : List ℕ) → SpellsFirst p bytes → read First bytes ≡ p
 first_read p bytes f = ap (read First) f.spelled ∙ read_again First p (first_plain p (no_names p.tasks f.unnamed))
 
-abbrev letter_of : Form → ℕ
+abbrev letter_of : ImageForm → ℕ
 letter_of First = 49
 letter_of Second = 50
 
-fourth : (form : Form) (p : Picture) → slice_index (bytes_of (records_of form p)) 3 ≡ letter_of form
+fourth : (form : ImageForm) (p : Picture) → slice_index (bytes_of (records_of form p)) 3 ≡ letter_of form
 unfolding header_bytes_in
 fourth First p = refl
 fourth Second p = refl

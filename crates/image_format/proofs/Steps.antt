@@ -1,6 +1,6 @@
 -- One step of a loop over records.
 use Rattle.std.proofs.Common.{◌≡◌, ◌∙◌, ◌+◌, ◌-◌, ◌<◌, ℕ, suc, List, [], ◌∷◌, ◌++◌, drop, arith, ap, append_assoc}
-use Rattle.image_format.specs.declared.records.Form.{Form}
+use Rattle.image_format.specs.declared.records.ImageForm.{ImageForm}
 use Rattle.image_format.specs.declared.records.TaskRecord.{TaskRecord}
 use Rattle.image_format.specs.declared.records.RegionRecord.{RegionRecord}
 use Rattle.image_format.specs.declared.records.LineRecord.{LineRecord}
@@ -18,7 +18,7 @@ regions_more front n i bytes lt =
     let e : suc (n - (i + 1)) ≡ n - i = omega (arith, lt) in
     append_assoc front (region_at bytes ∷ []) (regions_at (n - (i + 1)) (drop 12 bytes)) ∙ ap (λ (k : ℕ). front ++ regions_at k bytes) e
 
-pub lines_more : (form : Form) (front : List LineRecord) (n i : ℕ) (bytes : List ℕ) → i < n
+pub lines_more : (form : ImageForm) (front : List LineRecord) (n i : ℕ) (bytes : List ℕ) → i < n
     → (front ++ line_at form bytes ∷ []) ++ lines_at form (n - (i + 1)) (drop 8 bytes) ≡ front ++ lines_at form (n - i) bytes
 lines_more form front n i bytes lt =
     let e : suc (n - (i + 1)) ≡ n - i = omega (arith, lt) in

@@ -3,8 +3,8 @@ use Rattle.std.specs.Prelude.{◌≡◌, ◌≤◌, ◌<◌, ◌⊎◌, Contains
 use Rattle.std.specs.List.{flat_map}
 use Rattle.region_check.specs.declared.Region.{Region}
 use Rattle.region_check.specs.declared.Rights.{Rights}
-use Rattle.image_format.specs.declared.records.Form.{Form}
-use Rattle.image_format.specs.declared.records.Form.TheVariants.{First, Second}
+use Rattle.image_format.specs.declared.records.ImageForm.{ImageForm}
+use Rattle.image_format.specs.declared.records.ImageForm.TheVariants.{First, Second}
 use Rattle.image_format.specs.declared.records.Header.{Header}
 use Rattle.image_format.specs.declared.records.TaskRecord.{TaskRecord}
 use Rattle.image_format.specs.declared.records.RegionRecord.{RegionRecord}
@@ -97,7 +97,7 @@ names_bytes = flat_map name_bytes
 abbrev pub all_names : List TaskPicture → List ℕ
 all_names = flat_map (λ t. names_bytes t.names)
 
-abbrev pub header_of : Form → Picture → Header
+abbrev pub header_of : ImageForm → Picture → Header
 header_of form p = record {
   form = form;
   tasks = length p.tasks;
@@ -110,7 +110,7 @@ header_of form p = record {
   names = length (all_names p.tasks);
 }
 
-abbrev pub records_of : Form → Picture → Records
+abbrev pub records_of : ImageForm → Picture → Records
 records_of form p = record {
   header = header_of form p;
   tasks = map task_record p.tasks;

@@ -2,8 +2,8 @@
 -- Numbers are little-endian.
 use Rattle.std.specs.Prelude.{ℕ, zero, suc, ◌+◌, ◌*◌, ◌/◌, ◌%◌, ◌==◌, List, [], ◌∷◌, ◌++◌, Option, Some, None, Result, Ok, Err, length, drop, take, slice_index, if◌then◌else◌, nat_lt}
 use Rattle.std.specs.List.{flat_map}
-use Rattle.image_format.specs.declared.records.Form.{Form}
-use Rattle.image_format.specs.declared.records.Form.TheVariants.{First, Second}
+use Rattle.image_format.specs.declared.records.ImageForm.{ImageForm}
+use Rattle.image_format.specs.declared.records.ImageForm.TheVariants.{First, Second}
 use Rattle.image_format.specs.declared.records.Header.{Header}
 use Rattle.image_format.specs.declared.records.TaskRecord.{TaskRecord}
 use Rattle.image_format.specs.declared.records.RegionRecord.{RegionRecord}
@@ -30,7 +30,7 @@ abbrev pub num : List ℕ → ℕ → ℕ
 num bytes at = slice_index bytes at + 256 * slice_index bytes (at + 1)
     + 65536 * slice_index bytes (at + 2) + 16777216 * slice_index bytes (at + 3)
 
-abbrev pub header_at : Form → List ℕ → Header
+abbrev pub header_at : ImageForm → List ℕ → Header
 header_at First bytes = record {
   form = First;
   tasks = slice_index bytes 4;
@@ -67,7 +67,7 @@ task_at bytes = record {
 abbrev pub region_at : List ℕ → RegionRecord
 region_at bytes = record { base = num bytes 0; size = num bytes 4; rights = num bytes 8 }
 
-abbrev pub line_at : Form → List ℕ → LineRecord
+abbrev pub line_at : ImageForm → List ℕ → LineRecord
 line_at First bytes = record {
   line = slice_index bytes 0;
   task = slice_index bytes 1;
@@ -90,7 +90,7 @@ abbrev pub regions_at : ℕ → List ℕ → List RegionRecord
 regions_at zero bytes = []
 regions_at (suc n) bytes = region_at bytes ∷ regions_at n (drop 12 bytes)
 
-abbrev pub lines_at : Form → ℕ → List ℕ → List LineRecord
+abbrev pub lines_at : ImageForm → ℕ → List ℕ → List LineRecord
 lines_at form zero bytes = []
 lines_at form (suc n) bytes = line_at form bytes ∷ lines_at form n (drop 8 bytes)
 
@@ -113,12 +113,12 @@ records_at h bytes = record {
 -- ---- the steps in order: the first cause and its place, or the parts
 
 -- the letters `HBI1` and `HBI2`
-abbrev pub letters : Form → ℕ
+abbrev pub letters : ImageForm → ℕ
 letters First = 826884680
 letters Second = 843661896
 
 -- the form of which the bytes begin with the letters
-abbrev pub form_at : List ℕ → Option Form
+abbrev pub form_at : List ℕ → Option ImageForm
 form_at bytes =
     if num bytes 0 == letters First then Some First
     else if num bytes 0 == letters Second then Some Second
@@ -136,7 +136,7 @@ sized h n =
     else Ok h
 
 -- the header of the form, checked alone and against the file's length
-abbrev pub header_in : Option Form → List ℕ → Result Header Refusal
+abbrev pub header_in : Option ImageForm → List ℕ → Result Header Refusal
 header_in None bytes = Err (2, 0)
 header_in (Some form) bytes =
     if nat_lt (length bytes) (header_size form) then Err (1, length bytes)
@@ -177,7 +177,7 @@ abbrev pub num_bytes : ℕ → List ℕ
 num_bytes n = n % 256 ∷ n / 256 % 256 ∷ n / 65536 % 256 ∷ n / 16777216 ∷ []
 
 -- the letters and what follows
-unfoldable pub header_bytes_in : Form → Header → List ℕ
+unfoldable pub header_bytes_in : ImageForm → Header → List ℕ
 header_bytes_in First h = (72 ∷ 66 ∷ 73 ∷ 49 ∷ h.tasks ∷ h.lines ∷ []) ++ half_bytes h.regions ++ num_bytes h.flash ++ num_bytes h.ram ++ num_bytes h.bits
 header_bytes_in Second h = (72 ∷ 66 ∷ 73 ∷ 50 ∷ []) ++ half_bytes h.tasks ++ half_bytes h.lines ++ half_bytes h.regions ++ half_bytes h.zero
     ++ num_bytes h.flash ++ num_bytes h.ram ++ num_bytes h.bits ++ num_bytes h.names
@@ -191,7 +191,7 @@ task_bytes t = (t.priority ∷ t.flags ∷ t.regions ∷ t.names ∷ []) ++ num_
 abbrev pub region_bytes : RegionRecord → List ℕ
 region_bytes r = num_bytes r.base ++ num_bytes r.size ++ num_bytes r.rights
 
-abbrev pub line_bytes : Form → LineRecord → List ℕ
+abbrev pub line_bytes : ImageForm → LineRecord → List ℕ
 line_bytes First l = (l.line ∷ l.task ∷ []) ++ half_bytes l.zero ++ num_bytes l.bits
 line_bytes Second l = (l.line ∷ l.zero ∷ []) ++ half_bytes l.task ++ num_bytes l.bits
 

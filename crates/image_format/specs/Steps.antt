@@ -3,32 +3,32 @@
 -- docs/FORMATS.md, Image, has the table of causes.
 use Rattle.std.specs.Prelude.{ℕ, Bool, not, ◌+◌, ◌*◌, ◌%◌, ◌==◌, ◌&&◌, ◌||◌, List, [], ◌∷◌, Option, Some, None, if◌then◌else◌, nat_lt, nat_le}
 use Rattle.std.specs.List.{sum_by}
-use Rattle.image_format.specs.declared.records.Form.{Form}
-use Rattle.image_format.specs.declared.records.Form.TheVariants.{First, Second}
+use Rattle.image_format.specs.declared.records.ImageForm.{ImageForm}
+use Rattle.image_format.specs.declared.records.ImageForm.TheVariants.{First, Second}
 use Rattle.image_format.specs.declared.records.Header.{Header}
 use Rattle.image_format.specs.declared.records.TaskRecord.{TaskRecord}
 use Rattle.image_format.specs.declared.records.LineRecord.{LineRecord}
 
 -- the most tasks of a form, the most interrupts, its highest line, and the most names of a task
-abbrev pub most_tasks : Form → ℕ
+abbrev pub most_tasks : ImageForm → ℕ
 most_tasks First = 32
 most_tasks Second = 512
 
-abbrev pub most_lines : Form → ℕ
+abbrev pub most_lines : ImageForm → ℕ
 most_lines First = 32
 most_lines Second = 64
 
-abbrev pub highest_line : Form → ℕ
+abbrev pub highest_line : ImageForm → ℕ
 highest_line First = 31
 highest_line Second = 63
 
-abbrev pub most_names : Form → ℕ
+abbrev pub most_names : ImageForm → ℕ
 most_names First = 0
 most_names Second = 32
 
 -- ---- the places of the parts, which follow one another: header, tasks, regions, interrupts, names, flash
 
-abbrev pub header_size : Form → ℕ
+abbrev pub header_size : ImageForm → ℕ
 header_size First = 20
 header_size Second = 28
 
@@ -75,7 +75,7 @@ second_field_fault h = first ((nat_lt h.tasks 1 || nat_lt (most_tasks Second) h.
     ∷ (h.bits == 0, (3, 20))
     ∷ (nat_lt 409600 h.names, (3, 24)) ∷ [])
 
-abbrev pub field_fault_in : Form → Header → Option Refusal
+abbrev pub field_fault_in : ImageForm → Header → Option Refusal
 field_fault_in First h = first_field_fault h
 field_fault_in Second h = second_field_fault h
 
@@ -84,7 +84,7 @@ field_fault h = field_fault_in h.form h
 
 -- ---- each task
 
-abbrev pub task_fault : Form → ℕ → TaskRecord → ℕ → Option Refusal
+abbrev pub task_fault : ImageForm → ℕ → TaskRecord → ℕ → Option Refusal
 task_fault form index t place = first (
     ((index == 0 && not (t.priority == 0)) || (not (index == 0) && t.priority == 0), (5, place))
     ∷ (nat_lt 1 t.flags || (index == 0 && not (t.flags == 1)), (6, place + 1))
@@ -93,7 +93,7 @@ task_fault form index t place = first (
     ∷ (not (t.sp % 4 == 0), (7, place + 8)) ∷ [])
 
 -- from the index-th task on, whose record lies at the place
-abbrev pub tasks_from : Form → ℕ → ℕ → List TaskRecord → Option Refusal
+abbrev pub tasks_from : ImageForm → ℕ → ℕ → List TaskRecord → Option Refusal
 tasks_from form index place [] = None
 tasks_from form index place (t ∷ ts) =
     or_else (task_fault form index t place) (tasks_from form (index + 1) (place + 12) ts)
@@ -107,7 +107,7 @@ abbrev pub counted : List TaskRecord → ℕ
 counted = sum_by (λ t. t.regions)
 
 -- where the header tells it
-abbrev pub count_place : Form → ℕ
+abbrev pub count_place : ImageForm → ℕ
 count_place First = 6
 count_place Second = 8
 
@@ -117,7 +117,7 @@ count_fault h ts = if counted ts == h.regions then None else Some (3, count_plac
 -- ---- each interrupt
 
 -- its line is to be at least so high, and its task is one of so many
-abbrev pub line_fault : Form → ℕ → ℕ → LineRecord → ℕ → Option Refusal
+abbrev pub line_fault : ImageForm → ℕ → ℕ → LineRecord → ℕ → Option Refusal
 line_fault First least tasks l place = first (
     (nat_lt (highest_line First) l.line || nat_lt l.line least, (13, place))
     ∷ (nat_le tasks l.task, (14, place + 1))
@@ -129,7 +129,7 @@ line_fault Second least tasks l place = first (
     ∷ (nat_le tasks l.task, (14, place + 2))
     ∷ (l.bits == 0, (15, place + 4)) ∷ [])
 
-abbrev pub lines_from : Form → ℕ → ℕ → ℕ → List LineRecord → Option Refusal
+abbrev pub lines_from : ImageForm → ℕ → ℕ → ℕ → List LineRecord → Option Refusal
 lines_from form least tasks place [] = None
 lines_from form least tasks place (l ∷ ls) =
     or_else (line_fault form least tasks l place) (lines_from form (l.line + 1) tasks (place + 8) ls)

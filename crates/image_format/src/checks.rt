@@ -1,11 +1,11 @@
 //! The checks of the header, of tasks and of interrupts.
 
 ghost use Rattle.std.specs.Prelude.{◌≡◌, ◌≤◌, ◌<◌, ◌+◌, ◌*◌, ◌^◌, length, None};
-ghost use Rattle.image_format.specs.declared.records.Form.TheVariants.{First, Second};
+ghost use Rattle.image_format.specs.declared.records.ImageForm.TheVariants.{First, Second};
 ghost use Rattle.image_format.specs.Steps.{count_fault, count_place, field_fault, first_field_fault, line_fault, lines_fault, most_names, second_field_fault, task_fault, tasks_fault};
 
 use crate::places::{header_size, lines_place};
-use crate::records::{Form, Header, LineRecord, TaskRecord};
+use crate::records::{Header, ImageForm, LineRecord, TaskRecord};
 
 /// Of a header of the first form.
 fn check_first(h: &Header) -> Option<(u8, u32)>
@@ -60,23 +60,23 @@ pub fn check_fields(h: &Header) -> Option<(u8, u32)>
     ensures { result ≡ field_fault h.now }
 {
     match h.form {
-        Form::First => check_first(h),
-        Form::Second => check_second(h),
+        ImageForm::First => check_first(h),
+        ImageForm::Second => check_second(h),
     }
 }
 
 /// The most names that a task has.
-fn most_names(form: Form) -> u8
+fn most_names(form: ImageForm) -> u8
     ensures { result ≡ most_names form }
 {
     match form {
-        Form::First => 0,
-        Form::Second => 32,
+        ImageForm::First => 0,
+        ImageForm::Second => 32,
     }
 }
 
 /// Of one task's record, which lies at the place.
-fn check_task(form: Form, index: usize, t: &TaskRecord, place: u32) -> Option<(u8, u32)>
+fn check_task(form: ImageForm, index: usize, t: &TaskRecord, place: u32) -> Option<(u8, u32)>
     requires { place + 12 ≤ 2 ^ 32 }
     ensures { result ≡ task_fault form index t.now place }
 {
@@ -116,12 +116,12 @@ pub fn check_tasks(h: &Header, tasks: &[TaskRecord]) -> Option<(u8, u32)>
 }
 
 /// Where the header tells the number of regions.
-fn count_place(form: Form) -> u32
+fn count_place(form: ImageForm) -> u32
     ensures { result ≡ count_place form }
 {
     match form {
-        Form::First => 6,
-        Form::Second => 8,
+        ImageForm::First => 6,
+        ImageForm::Second => 8,
     }
 }
 
@@ -180,13 +180,19 @@ fn check_second_line(least: u16, tasks: u16, l: &LineRecord, place: u32) -> Opti
     }
 }
 
-fn check_line(form: Form, least: u16, tasks: u16, l: &LineRecord, place: u32) -> Option<(u8, u32)>
+fn check_line(
+    form: ImageForm,
+    least: u16,
+    tasks: u16,
+    l: &LineRecord,
+    place: u32,
+) -> Option<(u8, u32)>
     requires { place + 8 ≤ 2 ^ 32 }
     ensures { result ≡ line_fault form least tasks l.now place }
 {
     match form {
-        Form::First => check_first_line(least, tasks, l, place),
-        Form::Second => check_second_line(least, tasks, l, place),
+        ImageForm::First => check_first_line(least, tasks, l, place),
+        ImageForm::Second => check_second_line(least, tasks, l, place),
     }
 }
 

@@ -1,7 +1,7 @@
 //! A sound image.
 
 ghost use Rattle.std.specs.Prelude.{◌≡◌};
-ghost use Rattle.image_format.specs.declared.records.Form.TheVariants.{Second};
+ghost use Rattle.image_format.specs.declared.records.ImageForm.TheVariants.{Second};
 ghost use Rattle.image_format.specs.Accepted.{Accepted};
 
 use crate::records::{Header, LineRecord, RegionRecord, TaskRecord};

@@ -18,5 +18,5 @@ mod writing;
 pub use checks::{check_count, check_fields, check_lines, check_tasks};
 pub use image::Image;
 pub use names::check_names;
-pub use records::{Form, Header, ImageFault, LineRecord, RegionRecord, TaskRecord};
+pub use records::{Header, ImageFault, ImageForm, LineRecord, RegionRecord, TaskRecord};
 pub use regions::{check_entries, check_regions};

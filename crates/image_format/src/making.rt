@@ -1,10 +1,10 @@
 //! An image of its parts.
 
 ghost use Rattle.std.specs.Prelude.{◌≡◌};
-ghost use Rattle.image_format.specs.declared.records.Form.TheVariants.{Second};
+ghost use Rattle.image_format.specs.declared.records.ImageForm.TheVariants.{Second};
 ghost use Rattle.image_format.specs.Accepted.{Accepted};
 ghost use Rattle.image_format.specs.Images.{picture};
-ghost use Rattle.image_format.specs.Picture.{Picture, picture_of, records_of};
+ghost use Rattle.image_format.specs.Picture.{Picture, records_of};
 
 use crate::image::Image;
 use crate::records::{Header, LineRecord, RegionRecord, TaskRecord};

@@ -6,7 +6,7 @@ ghost use Rattle.image_format.specs.Names.{after_name, after_names, first_name, 
 ghost use Rattle.image_format.specs.Steps.{field_fault, tasks_fault};
 
 use crate::places::names_place;
-use crate::records::{Form, Header, TaskRecord};
+use crate::records::{Header, ImageForm, TaskRecord};
 use text_lines::is_name;
 
 /// The first name of some bytes, and what follows it; as much of it as is there.
@@ -139,7 +139,7 @@ pub fn check_names(h: &Header, tasks: &[TaskRecord], names: &[u8]) -> Option<(u8
     ensures { result ≡ names_fault h.now tasks.now names.now }
 {
     match h.form {
-        Form::First => check_left(names),
-        Form::Second => check_all_names(names_place(h) + names.len() as u32, tasks, names),
+        ImageForm::First => check_left(names),
+        ImageForm::Second => check_all_names(names_place(h) + names.len() as u32, tasks, names),
     }
 }

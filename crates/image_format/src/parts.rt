@@ -1,12 +1,12 @@
 //! The parts of an image at their places in the bytes.
 
 ghost use Rattle.std.specs.Prelude.{◌≡◌, ◌≤◌, ◌+◌, ◌*◌, ◌<◌, ◌^◌, length, IfOk};
-ghost use Rattle.image_format.specs.declared.records.Form.TheVariants.{First, Second};
+ghost use Rattle.image_format.specs.declared.records.ImageForm.TheVariants.{First, Second};
 ghost use Rattle.image_format.specs.Records.{half, header_at, line_at, lines_at, num, records_at, region_at, regions_at, task_at, tasks_at, total};
 ghost use Rattle.image_format.specs.Steps.{header_size};
 
 use crate::places::{header_size, lines_place, names_place, regions_place};
-use crate::records::{Form, Header, LineRecord, RegionRecord, TaskRecord};
+use crate::records::{Header, ImageForm, LineRecord, RegionRecord, TaskRecord};
 use std::alloc::{AllocError, Global};
 
 fn u16_at(bytes: &[u8], at: usize) -> u16
@@ -31,7 +31,7 @@ fn first_header(bytes: &[u8]) -> Header
     ensures { result ≡ header_at First bytes.now }
 {
     Header {
-        form: Form::First,
+        form: ImageForm::First,
         tasks: u16::from(bytes[4]),
         lines: u16::from(bytes[5]),
         regions: u16_at(bytes, 6),
@@ -48,7 +48,7 @@ fn second_header(bytes: &[u8]) -> Header
     ensures { result ≡ header_at Second bytes.now }
 {
     Header {
-        form: Form::Second,
+        form: ImageForm::Second,
         tasks: u16_at(bytes, 4),
         lines: u16_at(bytes, 6),
         regions: u16_at(bytes, 8),
@@ -60,13 +60,13 @@ fn second_header(bytes: &[u8]) -> Header
     }
 }
 
-pub(crate) fn header_at(form: Form, bytes: &[u8]) -> Header
+pub(crate) fn header_at(form: ImageForm, bytes: &[u8]) -> Header
     requires { header_size form ≤ length bytes.now }
     ensures { result ≡ header_at form bytes.now }
 {
     match form {
-        Form::First => first_header(bytes),
-        Form::Second => second_header(bytes),
+        ImageForm::First => first_header(bytes),
+        ImageForm::Second => second_header(bytes),
     }
 }
 
@@ -119,13 +119,13 @@ fn second_line(bytes: &[u8]) -> LineRecord
     }
 }
 
-fn line_at(form: Form, bytes: &[u8]) -> LineRecord
+fn line_at(form: ImageForm, bytes: &[u8]) -> LineRecord
     requires { 8 ≤ length bytes.now }
     ensures { result ≡ line_at form bytes.now }
 {
     match form {
-        Form::First => first_line(bytes),
-        Form::Second => second_line(bytes),
+        ImageForm::First => first_line(bytes),
+        ImageForm::Second => second_line(bytes),
     }
 }
 
@@ -163,7 +163,7 @@ fn regions_of(alloc: Global, n: usize, bytes: &[u8]) -> Result<Vec<RegionRecord>
 
 fn lines_of(
     alloc: Global,
-    form: Form,
+    form: ImageForm,
     n: usize,
     bytes: &[u8],
 ) -> Result<Vec<LineRecord>, AllocError>

@@ -3,16 +3,16 @@
 ghost use Rattle.std.specs.Prelude.{◌≡◌, ◌≤◌};
 ghost use Rattle.image_format.specs.Steps.{header_size, lines_place, names_place, regions_place};
 
-use crate::records::{Form, Header};
+use crate::records::{Header, ImageForm};
 
 /// How many bytes the header takes, letters and all.
-pub(crate) fn header_size(form: Form) -> u32
+pub(crate) fn header_size(form: ImageForm) -> u32
     ensures value { result ≡ header_size form }
     ensures most { result ≤ 28 }
 {
     match form {
-        Form::First => 20,
-        Form::Second => 28,
+        ImageForm::First => 20,
+        ImageForm::Second => 28,
     }
 }
 

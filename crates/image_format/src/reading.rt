@@ -1,32 +1,32 @@
 //! Reading.
 
 ghost use Rattle.std.specs.Prelude.{◌≡◌, ◌≤◌, length, IfOk, IfErr, IfSome, Ok, Err, Some, None};
-ghost use Rattle.image_format.specs.declared.records.Form.TheVariants.{First, Second};
+ghost use Rattle.image_format.specs.declared.records.ImageForm.TheVariants.{First, Second};
 ghost use Rattle.image_format.specs.Accepted.{Accepted};
 ghost use Rattle.image_format.specs.Records.{form_at, header_at, header_in, header_or_fault, records_fault, records_or_fault, sized, total};
 ghost use Rattle.image_format.specs.Images.{picture, records_in, stated};
 ghost use Rattle.image_format.specs.Picture.{Picture, Sound, Spells, image_or_fault};
-ghost use Rattle.image_format.specs.Steps.{count_fault, field_fault, header_size, tasks_fault};
+ghost use Rattle.image_format.specs.Steps.{field_fault, header_size};
 
 use crate::checks::{check_count, check_fields, check_lines, check_tasks};
 use crate::image::Image;
 use crate::names::check_names;
 use crate::parts::{Parts, header_at, parts_of, u32_at};
 use crate::places::{header_size, names_place};
-use crate::records::{Form, Header, ImageFault};
+use crate::records::{Header, ImageFault, ImageForm};
 use crate::regions::{check_entries, check_regions};
 use std::alloc::Global;
 
 /// The form of which the bytes begin with the letters.
-fn form_at(bytes: &[u8]) -> Option<Form>
+fn form_at(bytes: &[u8]) -> Option<ImageForm>
     requires { 4 ≤ length bytes.now }
     ensures { result ≡ form_at bytes.now }
 {
     let letters = u32_at(bytes, 0);
     if letters == 826_884_680 {
-        Some(Form::First)
+        Some(ImageForm::First)
     } else if letters == 843_661_896 {
-        Some(Form::Second)
+        Some(ImageForm::Second)
     } else {
         None
     }
@@ -56,7 +56,7 @@ fn sized(header: Header, length: usize) -> Result<Header, (u8, u32)>
 }
 
 /// The header of the form, checked alone and against the file's length.
-fn header_in(form: Form, bytes: &[u8]) -> Result<Header, (u8, u32)>
+fn header_in(form: ImageForm, bytes: &[u8]) -> Result<Header, (u8, u32)>
     ensures exact { result ≡ header_in (Some form) bytes.now }
     ensures long { IfOk result (λ h. total h ≡ length bytes.now) }
     ensures fields { IfOk result (λ h. field_fault h ≡ None) }
@@ -197,7 +197,7 @@ fn kept(parts: Parts) -> Image
     } }
 {
     let mut header = parts.header;
-    header.form = Form::Second;
+    header.form = ImageForm::Second;
     Image {
         header,
         tasks: parts.tasks,

@@ -4,7 +4,7 @@ use thiserror::Error;
 
 /// The form of an image's file, told by its first four bytes.
 #[derive(Clone, Copy, PartialEq, Eq)]
-pub enum Form {
+pub enum ImageForm {
     /// `HBI1`: at most 32 tasks and 32 interrupts, and no names.
     First,
     /// `HBI2`: at most 512 tasks and 64 interrupts, and the names of each task's notifications.
@@ -16,7 +16,7 @@ pub enum Form {
 /// neither the zero nor the bytes of names: both are 0 then.
 #[derive(Clone, Copy)]
 pub struct Header {
-    pub form: Form,
+    pub form: ImageForm,
     pub tasks: u16,
     pub lines: u16,
     pub regions: u16,

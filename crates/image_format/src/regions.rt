@@ -1,6 +1,6 @@
 //! The checks of regions and of entries.
 
-ghost use Rattle.std.specs.Prelude.{◌≡◌, ◌≤◌, ◌+◌, ◌*◌, ◌<◌, ◌^◌, [], true, length, None};
+ghost use Rattle.std.specs.Prelude.{◌≡◌, ◌≤◌, ◌+◌, ◌*◌, ◌<◌, ◌^◌, [], length, None};
 ghost use Rattle.std.specs.List.{list_any};
 ghost use Rattle.image_format.specs.Regions.{clashes, cuts, entries_fault, entry_fault, has_area, has_rights, has_shape, lies_in, meets, own_fault, region_fault, regions_fault, runs_at};
 ghost use Rattle.image_format.specs.Steps.{count_fault, field_fault, tasks_fault};

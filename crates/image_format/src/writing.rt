@@ -3,7 +3,7 @@
 ghost use Rattle.std.specs.Prelude.{◌≡◌, ◌++◌, ◌∷◌, [], All, IfOk, Ok};
 ghost use Rattle.std.specs.Result.{OnOk};
 ghost use Rattle.std.specs.List.{flat_map};
-ghost use Rattle.image_format.specs.declared.records.Form.TheVariants.{Second};
+ghost use Rattle.image_format.specs.declared.records.ImageForm.TheVariants.{Second};
 ghost use Rattle.image_format.specs.Records.{bytes_of, half_bytes, header_bytes_in, line_bytes, num_bytes, region_bytes, task_bytes};
 ghost use Rattle.image_format.specs.Images.{picture, records_in};
 ghost use Rattle.image_format.specs.Picture.{Spells, image_or_fault, spelling};

@@ -4,12 +4,12 @@ use Rattle.outside_io.specs.declared.host.HostFiles.{HostFiles}
 use Rattle.outside_io.specs.declared.host.HostSink.{HostSink}
 
 -- how many reads and how many puts failed, and how many bytes were given
-pub record Counts : Type 0 where
+pub record FileCounts : Type 0 where
   pub read_faults : ℕ
   pub put_faults : ℕ
   pub given : ℕ
 
-abbrev pub counts_of : {R F D : Type 0} → HostFiles R F D → Counts
+abbrev pub counts_of : {R F D : Type 0} → HostFiles R F D → FileCounts
 counts_of {R} {F} {D} f = record { read_faults = f.read_faults; put_faults = f.put_faults; given = f.given }
 
 -- the output that a sink writes to

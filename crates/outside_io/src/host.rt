@@ -1,7 +1,7 @@
 //! Real files and a real output. They show no contents and no failing name.
-ghost use Rattle.std.specs.Prelude.{◌≡◌, ◌≢◌, ℕ, List, None, IfOk, IsSomeAnd, IsTrue, MatchResult, OnErr, OnOk, Some, ◌≤◌, ◌+◌, length};
+ghost use Rattle.std.specs.Prelude.{◌≡◌, None, IfOk, IsSomeAnd, IsTrue, OnErr, Some, ◌≤◌, ◌+◌, length};
 ghost use Rattle.std.specs.Io.KnownBytes.{Keeps};
-ghost use Rattle.outside_io.specs.Outside.{CountsFailure, Gives, HasCause, Puts, Pushes, Reads, WhereSeen, short_name};
+ghost use Rattle.outside_io.specs.Outside.{CountsFailure, Gives, HasCause, Pushes, Reads};
 ghost use Rattle.outside_io.specs.Host.{counts_of, out_of, faults_of};
 ghost use Rattle.outside_io.specs.Open.{IsNamed, StandsAt};
 

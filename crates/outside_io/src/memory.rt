@@ -1,5 +1,5 @@
 //! Files and a sink in memory, which fail at the calls of a list.
-ghost use Rattle.std.specs.Prelude.{◌≡◌, ◌≢◌, ◌≤◌, ◌<◌, ◌+◌, ◌-◌, ◌++◌, ◌||◌, ℕ, [], List, length, take, drop, min, true, false, not, nat_le, vec_len, vec_capacity, Some, None, IfOk, OnOk, OnErr, IsOk, IsNone, IsSome, is_none, is_some, is_ok, is_err, if◌then◌else◌};
+ghost use Rattle.std.specs.Prelude.{◌≡◌, ◌≢◌, ◌≤◌, ◌<◌, ◌+◌, ◌-◌, ◌++◌, ◌||◌, ℕ, [], List, length, take, min, true, false, vec_len, vec_capacity, Some, None, IfOk, OnOk, OnErr, IsOk, is_some, is_ok, is_err, if◌then◌else◌};
 ghost use Rattle.std.specs.Option.{option_map};
 ghost use Rattle.outside_io.specs.Outside.{raised, short_name, Gives, HasCause, Puts, Pushes, Reads, WhereSeen};
 

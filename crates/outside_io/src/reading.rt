@@ -1,4 +1,4 @@
-ghost use Rattle.std.specs.Prelude.{◌≡◌, ◌⊎◌, ℕ, List, Some, ◌+◌, ◌-◌, ◌^◌, ◌<◌, ◌≤◌, length, min, IfOk, OnOk, OnErr, IsErrOf, Err};
+ghost use Rattle.std.specs.Prelude.{◌≡◌, ◌⊎◌, ◌+◌, ◌-◌, ◌^◌, ◌<◌, ◌≤◌, length, IfOk, IsErrOf, Err};
 ghost use Rattle.outside_io.specs.Outside.{WhereSeen, Rose, raised, short_name};
 ghost use Rattle.outside_io.specs.declared.reading.ReadAll.TheVariants.{Failed as ReadFailed, TooLong, Memory};
 

@@ -2,11 +2,12 @@
 use Rattle.std.proofs.Common.{◌≡◌, ◌≢◌, ℕ, suc, zero, ◌+◌, ◌-◌, ◌*◌, ◌/◌, ◌%◌, ◌≤◌, ◌<◌, List, [], ◌∷◌, ◌++◌, length, get_or, Option, Some, None, refl, sym, ap, ◌∙◌, subst, arith, Bool, true, false, nat_lt, ◌==◌, ◌&&◌, div-add-mod'}
 use Rattle.std.proofs.lemmas.Bool.{ltb-true, ltb-false}
 use Rattle.std.specs.List.{All}
+use Rattle.std.specs.List.Sorted.{IsNonDecreasingBy}
 use Rattle.std.proofs.lemmas.Nat.{div_below, mod_below, mod-mul-add, mul-le, div-add-mod'}
 use Rattle.run_script.specs.declared.events.Event.{Event}
 use Rattle.run_script.specs.declared.events.Event.TheVariants.{Tick}
 use Rattle.run_script.specs.Facts.{IsListed}
-use Rattle.run_script.specs.Scripts.{Listed, ScriptData, IsNext, is_of, listed_of, ticks_of}
+use Rattle.run_script.specs.Scripts.{Listed, ScriptData, IsNext, IsFirstListed, is_of, listed_of, ticks_of}
 use Rattle.run_script.specs.Next.{IsNextBy}
 use Rattle.run_script.proofs.Picks.{IsFirst}
 
@@ -67,6 +68,12 @@ no_tick_is p from first some least above = λ t a b. no_tick p t (λ there whole
 
 -- ---- listed events
 
+not_below : (n turn : ℕ) → turn ≤ n → nat_lt n turn ≡ false
+not_below n turn h = grind arith
+
+is_below : (n turn : ℕ) → n < turn → nat_lt n turn ≡ true
+is_below n turn h = grind arith
+
 pub is_other : (n turn : ℕ) → n ≢ turn → (n == turn) ≡ false
 is_other n turn h = grind arith
 
@@ -90,10 +97,35 @@ some_of (l ∷ ls) (suc i) d lt = by_test (is_of (get_or ls i d).0 l)
     (λ holds. λ e. let there : listed_of (get_or ls i d).0 (l ∷ ls) ≡ l.1 ∷ listed_of (get_or ls i d).0 ls = rw holds refl in let same : l.1 ∷ listed_of (get_or ls i d).0 ls ≡ [] = sym there ∙ e in cc)
     (λ fails. λ e. some_of ls i d (omega arith) (sym (skip l ls (get_or ls i d).0 fails) ∙ e))
 
-default_same : (events : List Listed) (i : ℕ) (d e : Listed) → i < length events → (get_or events i d).0 ≡ (get_or events i e).0
+pub default_same : (events : List Listed) (i : ℕ) (d e : Listed) → i < length events → (get_or events i d).0 ≡ (get_or events i e).0
 default_same [] i d e lt = absurd (omega arith)
 default_same (l ∷ ls) zero d e lt = refl
 default_same (l ∷ ls) (suc i) d e lt = default_same ls i d e (omega arith)
+
+-- a place behind which all are of later turns
+pub first_listed_is : (script : ScriptData) (xs : List Listed) (turn at : ℕ) → IsNonDecreasingBy (λ (l : Listed). l.0) script.events → xs ≡ script.events → at ≤ length xs →
+    ((k : ℕ) (d : Listed) → k < at → nat_lt (get_or xs k d).0 turn ≡ true) → (at < length xs → (d : Listed) → turn ≤ (get_or xs at d).0) → IsFirstListed script turn at
+first_listed_is script xs turn at sorted same within before here = record {
+  within = subst (λ (ys : List Listed). at ≤ length ys) same within;
+  before = λ k d lt. subst (λ (ys : List Listed). nat_lt (get_or ys k d).0 turn ≡ true) same (before k d lt);
+  from = λ k d le lt.
+      let there : at < length xs = omega (arith, le, lt, ap (λ (ys : List Listed). length ys) same) in
+      let first : turn ≤ (get_or script.events at d).0 = subst (λ (ys : List Listed). turn ≤ (get_or ys at d).0) same (here there d) in
+      let later : (get_or script.events at d).0 ≤ (get_or script.events k d).0 = sorted at k d le lt in
+      not_below (get_or script.events k d).0 turn (omega (arith, first, later));
+}
+
+-- a place whose neighbours are of an earlier and of a later turn
+pub first_listed_by : (script : ScriptData) (xs : List Listed) (turn at : ℕ) → IsNonDecreasingBy (λ (l : Listed). l.0) script.events → xs ≡ script.events → at ≤ length xs →
+    (0 < at → (d : Listed) → nat_lt (get_or xs (at - 1) d).0 turn ≡ true) → (at < length xs → (d : Listed) → nat_lt (get_or xs at d).0 turn ≡ false) → IsFirstListed script turn at
+first_listed_by script xs turn at sorted same within last here =
+    first_listed_is script xs turn at sorted same within (λ k d lt. below k d lt) (λ there d. ltb-false (get_or xs at d).0 turn (here there d))
+  where
+    below : (k : ℕ) (d : Listed) → k < at → nat_lt (get_or xs k d).0 turn ≡ true
+    below k d lt =
+        let there : at - 1 < length xs = omega (arith, lt, within) in
+        let order : (get_or xs k d).0 ≤ (get_or xs (at - 1) d).0 = subst (λ (ys : List Listed). (get_or ys k d).0 ≤ (get_or ys (at - 1) d).0) (sym same) (sorted k (at - 1) d (omega (arith, lt)) (subst (λ (ys : List Listed). at - 1 < length ys) same there)) in
+        is_below (get_or xs k d).0 turn (omega (arith, order, ltb-true (get_or xs (at - 1) d).0 turn (last (omega (arith, lt)) d)))
 
 pub next_listed_is : (events xs : List Listed) (from first : ℕ) (d : Listed) → xs ≡ events → IsFirst events from first → All IsListed events → first < length xs → IsNextBy (λ turn. listed_of turn events) from (Some (get_or xs first d).0)
 next_listed_is events xs from first d same s all lt0 =

@@ -5,8 +5,8 @@ use Rattle.std.proofs.lemmas.List.{length-map}
 use Rattle.std.proofs.lemmas.List.Elements.{All-append}
 use Rattle.std.proofs.lemmas.List.Sums.{length-filter}
 use Rattle.run_script.specs.declared.events.Event.{Event}
-use Rattle.run_script.specs.declared.events.Event.TheVariants.{Tick, Feed}
-use Rattle.run_script.specs.Facts.{Facts, HasLine, HasDevice, IsListed, IsTurn}
+use Rattle.run_script.specs.declared.events.Event.TheVariants.{Tick}
+use Rattle.run_script.specs.Facts.{Facts, HasLine, HasDevice, IsTurn}
 use Rattle.run_script.specs.Scripts.{Listed, ScriptData, events_of, is_of, listed_of, ticks_of}
 use Rattle.run_script.proofs.Coming.{by_test}
 

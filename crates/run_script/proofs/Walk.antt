@@ -2,7 +2,7 @@
 use Rattle.std.proofs.Common.{◌≡◌, ℕ, ◌+◌, List, [], ◌∷◌, refl, ap, ◌∙◌, sym, Result, Ok, Err, IfSome}
 use Rattle.run_script.specs.declared.events.ScriptFault.{ScriptFault}
 use Rattle.run_script.specs.declared.events.ScriptFault.TheVariants as fault
-use Rattle.run_script.specs.Drafts.{Stops}
+use Rattle.run_script.specs.Drafts.{Refuses}
 use Rattle.run_script.specs.Events.{stated}
 use Rattle.run_script.specs.Statements.{statement_of}
 use Rattle.run_script.specs.Scripts.{ScriptData, Refusal, go_on, with_statement, with_lines}
@@ -20,7 +20,7 @@ goes_on script next number line lines rest e h =
     ap (with_lines script number) e ∙ one_line script number line lines
     ∙ ap (λ (r : Result ScriptData ℕ). go_on number r (λ next. with_lines next (number + 1) lines)) h
 
-pub stops_at : (script : ScriptData) (number : ℕ) (line : List ℕ) (lines rest : List (List ℕ)) (whole : Result ScriptData Refusal) (f : ScriptFault) → whole ≡ with_lines script number rest → rest ≡ line ∷ lines → Stops f number (with_statement script (statement_of line)) → IfSome (stated f) (λ t. whole ≡ Err t)
+pub stops_at : (script : ScriptData) (number : ℕ) (line : List ℕ) (lines rest : List (List ℕ)) (whole : Result ScriptData Refusal) (f : ScriptFault) → whole ≡ with_lines script number rest → rest ≡ line ∷ lines → Refuses f number (with_statement script (statement_of line)) → IfSome (stated f) (λ t. whole ≡ Err t)
 stops_at script number line lines rest whole (fault.Refused cause place) w e h =
     w ∙ ap (with_lines script number) e ∙ one_line script number line lines
     ∙ ap (λ (r : Result ScriptData ℕ). go_on number r (λ next. with_lines next (number + 1) lines)) h.1

@@ -1,6 +1,5 @@
 -- The words of a line, from the left.
-use Rattle.std.proofs.Common.{◌≡◌, ℕ, suc, zero, ◌+◌, ◌<◌, ◌≤◌, List, [], ◌∷◌, ◌++◌, length, get_or, take, drop, refl, ap, ◌∙◌, sym, arith, Bool, true, false, add-one}
-use Rattle.std.proofs.Math.Seq.{drop-cons}
+use Rattle.std.proofs.Common.{◌≡◌, ℕ, suc, zero, ◌+◌, ◌<◌, ◌≤◌, List, [], ◌∷◌, ◌++◌, length, get_or, take, drop, refl, ap, ◌∙◌, sym, arith, Bool, true, false}
 use Rattle.text_lines.specs.Text.{with_first}
 use Rattle.run_script.specs.Words.{HasNoBlank, is_blank, ends_word, words, word_then}
 use Rattle.text_lines.proofs.Digits.{cell}

@@ -16,6 +16,6 @@ pub record Tracks (events : List Listed) (last here : ℕ) : Type 0 where
   pub of_turn : (turn : ℕ) → last ≤ turn → count_by (is_of turn) events ≡ (if turn == last then here else 0)
 
 -- the fault is the cause with the line, or want of memory
-abbrev pub Stops : ScriptFault → ℕ → Result ScriptData ℕ → Type 0
-Stops (fault.Refused cause place) line answer = (place ≡ line) × (answer ≡ Err cause)
-Stops fault.Memory line answer = Unit {0}
+abbrev pub Refuses : ScriptFault → ℕ → Result ScriptData ℕ → Type 0
+Refuses (fault.Refused cause place) line answer = (place ≡ line) × (answer ≡ Err cause)
+Refuses fault.Memory line answer = Unit {0}

@@ -1,6 +1,6 @@
 -- A script: what happens from outside, turn by turn, and the script that a text is.
 -- docs/FORMATS.md, Script, has the grammar and the table of causes.
-use Rattle.std.specs.Prelude.{ℕ, ◌≡◌, ◌≢◌, ◌≤◌, ◌<◌, Bool, ◌+◌, ◌%◌, ◌==◌, ◌&&◌, ◌||◌, nat_lt, nat_le, if◌then◌else◌, List, [], ◌∷◌, ◌++◌, length, map, filter, Option, Some, None, is_some, Result, Ok, Err}
+use Rattle.std.specs.Prelude.{ℕ, ◌≡◌, ◌≢◌, ◌≤◌, ◌<◌, Bool, true, false, ◌+◌, ◌%◌, ◌==◌, ◌&&◌, ◌||◌, nat_lt, nat_le, if◌then◌else◌, List, [], ◌∷◌, ◌++◌, length, map, filter, slice_index_or, Option, Some, None, is_some, Result, Ok, Err}
 use Rattle.std.specs.List.{count_by, list_any}
 use Rattle.text_lines.specs.Text.{lines_of}
 use Rattle.run_script.specs.declared.events.Event.{Event}
@@ -36,6 +36,12 @@ listed_of turn events = map (λ listed. listed.1) (filter (is_of turn) events)
 -- what happens in a turn
 abbrev pub events_of : ScriptData → ℕ → List Event
 events_of script turn = ticks_of script.every turn ++ listed_of turn script.events
+
+-- where the first listed event of this turn or a later one stands, or how many there are
+pub record IsFirstListed (script : ScriptData) (turn at : ℕ) : Type 0 where
+  pub within : at ≤ length script.events
+  pub before : (k : ℕ) (d : Listed) → k < at → nat_lt (slice_index_or script.events k d).0 turn ≡ true
+  pub from : (k : ℕ) (d : Listed) → at ≤ k → k < length script.events → nat_lt (slice_index_or script.events k d).0 turn ≡ false
 
 -- something happens in a turn from this one on
 abbrev pub lasts : ScriptData → ℕ → Bool

@@ -1,7 +1,7 @@
 //! A script that is being read.
 
 ghost use Rattle.std.specs.Prelude.{◌≡◌, OnOk, IfErr, Ok};
-ghost use Rattle.run_script.specs.Drafts.{Stops, Tracks, drafted};
+ghost use Rattle.run_script.specs.Drafts.{Refuses, Tracks, drafted};
 ghost use Rattle.run_script.specs.Scripts.{no_script, with_event, with_period, with_statement};
 
 use crate::events::{Event, ScriptFault};
@@ -40,7 +40,7 @@ fn add_period(draft: &mut Draft, period: u32, line: usize) -> Result<(), ScriptF
     requires { Tracks draft.old.events.items draft.old.last draft.old.here }
     ensures ok { OnOk result (with_period (drafted draft.old) period ≡ Ok (drafted draft.new)) }
     ensures tracks { OnOk result (Tracks draft.new.events.items draft.new.last draft.new.here) }
-    ensures err { IfErr result (λ e. Stops e line (with_period (drafted draft.old) period)) }
+    ensures err { IfErr result (λ e. Refuses e line (with_period (drafted draft.old) period)) }
 {
     if draft.every.is_some() || draft.events.len() > 0 {
         return Err(ScriptFault::Refused { cause: 4, line });
@@ -53,7 +53,7 @@ fn add_event(draft: &mut Draft, turn: u32, event: Event, line: usize) -> Result<
     requires { Tracks draft.old.events.items draft.old.last draft.old.here }
     ensures ok { OnOk result (with_event (drafted draft.old) turn event ≡ Ok (drafted draft.new)) }
     ensures tracks { OnOk result (Tracks draft.new.events.items draft.new.last draft.new.here) }
-    ensures err { IfErr result (λ e. Stops e line (with_event (drafted draft.old) turn event)) }
+    ensures err { IfErr result (λ e. Refuses e line (with_event (drafted draft.old) turn event)) }
 {
     if turn < draft.last {
         return Err(ScriptFault::Refused { cause: 4, line });
@@ -77,7 +77,7 @@ pub(crate) fn take(draft: &mut Draft, statement: Statement, line: usize) -> Resu
     requires { Tracks draft.old.events.items draft.old.last draft.old.here }
     ensures ok { OnOk result (with_statement (drafted draft.old) statement ≡ Ok (drafted draft.new)) }
     ensures tracks { OnOk result (Tracks draft.new.events.items draft.new.last draft.new.here) }
-    ensures err { IfErr result (λ e. Stops e line (with_statement (drafted draft.old) statement)) }
+    ensures err { IfErr result (λ e. Refuses e line (with_statement (drafted draft.old) statement)) }
 {
     match statement {
         Statement::Nothing => Ok(()),

@@ -86,7 +86,7 @@ impl Script {
         if turn >= TURNS || self.events.len() >= MOST {
             return false;
         }
-        if listed_at(self, turn, MOST_OF_TURN as u32 - 1).is_some() {
+        if listed_at(self, first_of(self, turn), turn, MOST_OF_TURN as u32 - 1).is_some() {
             return false;
         }
         let at = first_of(self, turn + 1);

@@ -1,12 +1,12 @@
 //! The events of a script, turn by turn.
 
-ghost use Rattle.std.specs.Prelude.{◌≡◌, ◌≤◌, ◌+◌, ◌<◌, ◌==◌, ◌&&◌, ◌++◌, length, nat_lt, nat_le, IfOk, IfSome, OnSome, slice_get, ℕ, slice_index_or, List, ◌∷◌, [], Some, true, false, if◌then◌else◌};
+ghost use Rattle.std.specs.Prelude.{◌≡◌, ◌≤◌, ◌+◌, ◌-◌, ◌<◌, ◌==◌, ◌&&◌, ◌++◌, length, nat_lt, nat_le, IfOk, IfSome, OnSome, slice_get, ℕ, slice_index_or, List, ◌∷◌, [], Some, true, false, if◌then◌else◌};
 ghost use Rattle.std.specs.List.{list_any};
 ghost use Rattle.std.specs.List.Sorted.{IsNonDecreasingBy};
 ghost use Rattle.run_script.specs.Events.{script_data};
-ghost use Rattle.run_script.specs.Facts.{Facts, HasDevice, HasLine, IsListed, IsPeriod, IsTurn};
+ghost use Rattle.run_script.specs.Facts.{Facts, HasDevice, HasLine, IsPeriod, IsTurn};
 ghost use Rattle.run_script.specs.Next.{IsNextBy};
-ghost use Rattle.run_script.specs.Scripts.{Listed, IsNext, events_of, lasts, listed_of, ticks_of};
+ghost use Rattle.run_script.specs.Scripts.{Listed, IsNext, IsFirstListed, events_of, lasts, listed_of, ticks_of};
 
 use crate::events::Event;
 use crate::script::Script;
@@ -14,11 +14,7 @@ use std::alloc::{AllocError, Global};
 
 /// Where the first listed event of this turn or a later one stands, or how many there are.
 pub(crate) fn first_of(script: &Script, turn: u32) -> usize
-    ensures within { result ≤ length (script_data script.now).events }
-    ensures before { (k : ℕ) (d : Listed) → k < result
-        → nat_lt (slice_index_or (script_data script.now).events k d).0 turn ≡ true }
-    ensures from { (k : ℕ) (d : Listed) → result ≤ k → k < length (script_data script.now).events
-        → nat_lt (slice_index_or (script_data script.now).events k d).0 turn ≡ false }
+    ensures { IsFirstListed (script_data script.now) turn result }
 {
     script
         .events
@@ -26,11 +22,47 @@ pub(crate) fn first_of(script: &Script, turn: u32) -> usize
         .partition_point(|listed| listed.0 < turn)
 }
 
-/// The k-th listed event of a turn.
-pub(crate) fn listed_at(script: &Script, turn: u32, k: u32) -> Option<Event>
+/// Whether what `first_of` tells of a turn is this.
+fn is_first(events: &[(u32, Event)], at: usize, turn: u32) -> bool
+    ensures within { result ≡ true → at ≤ length events.now }
+    ensures before { result ≡ true → 0 < at → (d : Listed) → nat_lt (slice_index_or events.now (at - 1) d).0 turn ≡ true }
+    ensures from { result ≡ true → at < length events.now → (d : Listed) → nat_lt (slice_index_or events.now at d).0 turn ≡ false }
+{
+    at <= events.len()
+        && (at == 0 || events[at - 1].0 < turn)
+        && (at == events.len() || events[at].0 >= turn)
+}
+
+/// As `first_of`, by a guess that mostly is right: it is tested, so a wrong one costs time alone.
+fn first_by(script: &Script, guess: usize, turn: u32) -> usize
+    ensures { IsFirstListed (script_data script.now) turn result }
+{
+    if is_first(script.events.as_slice(), guess, turn) {
+        guess
+    } else {
+        first_of(script, turn)
+    }
+}
+
+/// The same of the next turn, by that of this one.
+fn first_after(script: &Script, first: usize, turn: u32) -> usize
+    requires { IsFirstListed (script_data script.now) turn first }
+    ensures { IsFirstListed (script_data script.now) (turn + 1) result }
+{
+    let events = script.events.as_slice();
+    let mut at = first;
+    'on: while at < events.len() && events[at].0 <= turn {
+        at += 1;
+    }
+    at
+}
+
+/// The k-th listed event of a turn, by the first listed one from that turn on.
+pub(crate) fn listed_at(script: &Script, first: usize, turn: u32, k: u32) -> Option<Event>
+    requires { IsFirstListed (script_data script.now) turn first }
     ensures { result ≡ slice_get (listed_of turn (script_data script.now).events) k }
 {
-    let at = first_of(script, turn) + k as usize;
+    let at = first + k as usize;
     let events = script.events.as_slice();
     if at < events.len() && events[at].0 == turn {
         Some(events[at].1)
@@ -49,18 +81,19 @@ fn has_tick(script: &Script, turn: u32) -> bool
     }
 }
 
-/// The k-th event of a turn.
-fn event_of(script: &Script, turn: u32, k: u32) -> Option<Event>
+/// The k-th event of a turn, by the first listed one from that turn on.
+fn event_of(script: &Script, first: usize, turn: u32, k: u32) -> Option<Event>
+    requires { IsFirstListed (script_data script.now) turn first }
     ensures { result ≡ slice_get (events_of (script_data script.now) turn) k }
 {
     if has_tick(script, turn) {
         if k == 0 {
             Some(Event::Tick)
         } else {
-            listed_at(script, turn, k - 1)
+            listed_at(script, first, turn, k - 1)
         }
     } else {
-        listed_at(script, turn, k)
+        listed_at(script, first, turn, k)
     }
 }
 
@@ -100,11 +133,11 @@ fn next_tick(script: &Script, from: u32) -> Option<u32>
     }
 }
 
-/// The turn of the next listed event from turn `from` on.
-fn next_listed(script: &Script, from: u32) -> Option<u32>
+/// The turn of the next listed event from turn `from` on, which is there.
+fn next_listed(script: &Script, at: usize, from: u32) -> Option<u32>
+    requires { IsFirstListed (script_data script.now) from at }
     ensures { IsNextBy (λ turn. listed_of turn (script_data script.now).events) from result }
 {
-    let at = first_of(script, from);
     let events = script.events.as_slice();
     if at < events.len() {
         Some(events[at].0)
@@ -124,11 +157,12 @@ fn lesser(one: Option<u32>, other: Option<u32>) -> Option<u32>
     }
 }
 
-/// The next turn, from turn `from` on, in which anything happens.
-fn next_of(script: &Script, from: u32) -> Option<u32>
+/// The next turn, from turn `from` on, in which anything happens, by the first listed event from there on.
+fn next_of(script: &Script, first: usize, from: u32) -> Option<u32>
+    requires { IsFirstListed (script_data script.now) from first }
     ensures { IsNext (script_data script.now) from result }
 {
-    lesser(next_tick(script, from), next_listed(script, from))
+    lesser(next_tick(script, from), next_listed(script, first, from))
 }
 
 /// Whether the last event is of turn `from` or later.
@@ -147,6 +181,22 @@ impl Script {
         ensures turn { (turn : ℕ) → IsTurn (events_of (script_data self.now) turn) }
     {}
 
+    /// Where the first listed event of this turn or a later one stands, or how many there are. A guess that is right saves the
+    /// search.
+    pub fn first_listed(&self, guess: usize, turn: u32) -> usize
+        ensures { IsFirstListed (script_data self.now) turn result }
+    {
+        first_by(self, guess, turn)
+    }
+
+    /// The same of the next turn, by that of this one.
+    pub fn first_listed_after(&self, first: usize, turn: u32) -> usize
+        requires { IsFirstListed (script_data self.now) turn first }
+        ensures { IsFirstListed (script_data self.now) (turn + 1) result }
+    {
+        first_after(self, first, turn)
+    }
+
     /// The k-th event of a turn, from 0: the tick where there is one, then the listed events in order;
     /// `None` past the last.
     pub fn event_at(&self, turn: u32, k: u32) -> Option<Event>
@@ -155,7 +205,18 @@ impl Script {
         ensures line { IfSome result HasLine }
         ensures device { IfSome result HasDevice }
     {
-        event_of(self, turn, k)
+        self.event_from(first_of(self, turn), turn, k)
+    }
+
+    /// The same, by the first listed event from that turn on: it is not searched for again.
+    pub fn event_from(&self, first: usize, turn: u32, k: u32) -> Option<Event>
+        requires { IsFirstListed (script_data self.now) turn first }
+        ensures event { result ≡ slice_get (events_of (script_data self.now) turn) k }
+        ensures few { OnSome result (k < 9) }
+        ensures line { IfSome result HasLine }
+        ensures device { IfSome result HasDevice }
+    {
+        event_of(self, first, turn, k)
     }
 
     /// The next turn, from turn `from` on and below 1,000,000,000, in which anything happens; `None`
@@ -163,7 +224,15 @@ impl Script {
     pub fn next(&self, from: u32) -> Option<u32>
         ensures { IsNext (script_data self.now) from result }
     {
-        next_of(self, from)
+        next_of(self, first_of(self, from), from)
+    }
+
+    /// The same, by the first listed event from turn `from` on.
+    pub fn next_from(&self, first: usize, from: u32) -> Option<u32>
+        requires { IsFirstListed (script_data self.now) from first }
+        ensures { IsNext (script_data self.now) from result }
+    {
+        next_of(self, first, from)
     }
 
     /// The same script once more.

@@ -2,7 +2,7 @@
 //! script. specs/Sample.antt is the generator; what it gives is accepted, whatever the seed.
 #![tactic(auto)]
 
-ghost use Rattle.std.specs.Prelude.{◌≡◌, ◌≤◌, ℕ};
+ghost use Rattle.std.specs.Prelude.{◌≤◌, ℕ};
 ghost use Rattle.std.specs.List.{count_by};
 ghost use Rattle.app_toml.specs.Accepted.{IsAccepted};
 ghost use Rattle.run_script.specs.Facts.{Facts};

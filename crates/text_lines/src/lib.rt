@@ -4,7 +4,7 @@
 
 mod names;
 
-ghost use Rattle.std.specs.Prelude.{◌≡◌, ℕ, ◌-◌, ◌<◌, ◌≤◌, ◌+◌, ◌*◌, ◌^◌, length, true, IfSome, IfNone, ◌∷◌, [], slice_index, nat_le, if◌then◌else◌};
+ghost use Rattle.std.specs.Prelude.{◌≡◌, ℕ, ◌-◌, ◌<◌, ◌≤◌, ◌+◌, ◌*◌, length, true, IfSome, IfNone, ◌∷◌, [], slice_index, nat_le, if◌then◌else◌};
 ghost use Rattle.text_lines.specs.Text.{lines_of, is_digit, is_hex, digit, number_of, hex_number_of, without_cr, FirstLineEnds, LastLineEnds, NothingHasNoLine};
 
 pub use names::is_name;

@@ -1,10 +1,10 @@
 -- How the reader cuts texts that have no blank, comma, bracket, quote, colon or semicolon, and those in brackets.
 use Rattle.std.proofs.Common.{◌≡◌, ℕ, List, [], ◌∷◌, ◌++◌, refl, ap, ◌∙◌, sym, arith, Bool, true, false, not, nat_eq, ◌&&◌, ◌||◌, Some, None, append_assoc}
-use Rattle.std.proofs.lemmas.Bool.{not-true, and_parts, and_from, and_right, or_parts}
+use Rattle.std.proofs.lemmas.Bool.{not-true, and_parts, and_from, and_right}
 use Rattle.std.proofs.lemmas.Bool.Decides.{nat_tests}
 use Rattle.std.specs.List.{list_all, list_any}
 use Rattle.text_lines.specs.Text.{with_first}
-use Rattle.thumb_asm.specs.declared.parts.Place.TheVariants.{Outside}
+use Rattle.thumb_asm.specs.declared.parts.Quoting.TheVariants.{Outside}
 use Rattle.thumb_asm.specs.Chars.{is_allowed, is_blank, is_nil, strip_front, strip_end, unless_last, starts_by, until, from_first}
 use Rattle.thumb_asm.specs.Parts.{before, after, pieces}
 use Rattle.thumb_asm.specs.Operands.{closed_by, ◌>>=◌}

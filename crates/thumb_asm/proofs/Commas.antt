@@ -4,8 +4,8 @@ use Rattle.std.proofs.lemmas.Bool.{eq-eqb, ne_eqb}
 use Rattle.std.proofs.Math.Seq.{take-suc, take-length}
 use Rattle.std.proofs.lemmas.List.{append-nil}
 use Rattle.text_lines.specs.Text.{with_first}
-use Rattle.thumb_asm.specs.declared.parts.Place.{Place}
-use Rattle.thumb_asm.specs.declared.parts.Place.TheVariants.{Outside}
+use Rattle.thumb_asm.specs.declared.parts.Quoting.{Quoting}
+use Rattle.thumb_asm.specs.declared.parts.Quoting.TheVariants.{Outside}
 use Rattle.thumb_asm.specs.Parts.{pieces, next_place, next_depth, is_outside}
 use Rattle.thumb_asm.specs.Cuts.{IsComma}
 use Rattle.thumb_asm.specs.Operands.{split_by, stripped_by, memory, ends}
@@ -18,7 +18,7 @@ abbrev pub glued : List ℕ → List (List ℕ) → List (List ℕ)
 glued xs [] = xs ∷ []
 glued xs (l ∷ ls) = (xs ++ l) ∷ ls
 
-pub record Pieced (text : List ℕ) (i : ℕ) (p : Place) (depth : ℕ) : Type 0 where
+pub record Pieced (text : List ℕ) (i : ℕ) (p : Quoting) (depth : ℕ) : Type 0 where
   pub rest : pieces Outside 0 text ≡ glued (take i text) (pieces p depth (drop i text))
   pub few : depth ≤ i
 
@@ -26,7 +26,7 @@ nothing : (ls : List (List ℕ)) (c : ℕ) (text : List ℕ) → glued [] (with_
 nothing [] c text = refl
 nothing (l ∷ ls) c text = refl
 
-never_nil : (p : Place) (d : ℕ) (cs : List ℕ) → glued [] (pieces p d cs) ≡ pieces p d cs
+never_nil : (p : Quoting) (d : ℕ) (cs : List ℕ) → glued [] (pieces p d cs) ≡ pieces p d cs
 unfolding pieces
 never_nil p d [] = refl
 never_nil p d (c ∷ cs) = elim (is_outside p && nat_eq d 0 && nat_eq c 44) as (λ b. glued [] (cond b ([] ∷ pieces Outside 0 cs) (with_first c (pieces (next_place p c) (next_depth p c d) cs))) ≡ cond b ([] ∷ pieces Outside 0 cs) (with_first c (pieces (next_place p c) (next_depth p c d) cs))) [ true ↦ refl | false ↦ nothing (pieces (next_place p c) (next_depth p c d) cs) c cs ]
@@ -38,35 +38,35 @@ glue_first : (xs : List ℕ) (c : ℕ) (ls : List (List ℕ)) → glued xs (with
 glue_first xs c [] = refl
 glue_first xs c (l ∷ ls) = ap (λ t. t ∷ ls) (sym (append_assoc xs (c ∷ []) l))
 
-more : (p : Place) (d c : ℕ) (cs : List ℕ) → (is_outside p && nat_eq d 0 && nat_eq c 44) ≡ false → pieces p d (c ∷ cs) ≡ with_first c (pieces (next_place p c) (next_depth p c d) cs)
+more : (p : Quoting) (d c : ℕ) (cs : List ℕ) → (is_outside p && nat_eq d 0 && nat_eq c 44) ≡ false → pieces p d (c ∷ cs) ≡ with_first c (pieces (next_place p c) (next_depth p c d) cs)
 unfolding pieces
 more p d c cs h = rw h refl
 
-stop : (p : Place) (d c : ℕ) (cs : List ℕ) → (is_outside p && nat_eq d 0 && nat_eq c 44) ≡ true → pieces p d (c ∷ cs) ≡ [] ∷ pieces Outside 0 cs
+stop : (p : Quoting) (d c : ℕ) (cs : List ℕ) → (is_outside p && nat_eq d 0 && nat_eq c 44) ≡ true → pieces p d (c ∷ cs) ≡ [] ∷ pieces Outside 0 cs
 unfolding pieces
 stop p d c cs h = rw h refl
 
-last : (p : Place) (d : ℕ) → pieces p d [] ≡ [] ∷ []
+last : (p : Quoting) (d : ℕ) → pieces p d [] ≡ [] ∷ []
 unfolding pieces
 last p d = refl
 
 take_more : (text : List ℕ) (i : ℕ) → i < length text → take (i + 1) text ≡ take i text ++ (get_or text i 0 ∷ [])
 take_more text i lt = ap (λ n. take n text) (add-one i) ∙ take-suc text i 0 lt
 
-pub piece_step : (text : List ℕ) (i : ℕ) (p : Place) (d : ℕ) → i < length text → (is_outside p && nat_eq d 0 && nat_eq (get_or text i 0) 44) ≡ false → next_depth p (get_or text i 0) d ≤ d + 1 → Pieced text i p d → Pieced text (i + 1) (next_place p (get_or text i 0)) (next_depth p (get_or text i 0) d)
+pub piece_step : (text : List ℕ) (i : ℕ) (p : Quoting) (d : ℕ) → i < length text → (is_outside p && nat_eq d 0 && nat_eq (get_or text i 0) 44) ≡ false → next_depth p (get_or text i 0) d ≤ d + 1 → Pieced text i p d → Pieced text (i + 1) (next_place p (get_or text i 0)) (next_depth p (get_or text i 0) d)
 piece_step text i p d lt h b s = record {
   rest = s.rest ∙ ap (λ t. glued (take i text) (pieces p d t)) (cell text i lt) ∙ ap (glued (take i text)) (more p d (get_or text i 0) (drop (i + 1) text) h) ∙ glue_first (take i text) (get_or text i 0) _ ∙ ap (λ t. glued t (pieces (next_place p (get_or text i 0)) (next_depth p (get_or text i 0) d) (drop (i + 1) text))) (sym (take_more text i lt));
   few = omega (arith, s.few);
 }
 
-pub piece_found : (text : List ℕ) (i : ℕ) (p : Place) (d : ℕ) → i < length text → (is_outside p && nat_eq d 0 && nat_eq (get_or text i 0) 44) ≡ true → Pieced text i p d → IsComma text i
+pub piece_found : (text : List ℕ) (i : ℕ) (p : Quoting) (d : ℕ) → i < length text → (is_outside p && nat_eq d 0 && nat_eq (get_or text i 0) 44) ≡ true → Pieced text i p d → IsComma text i
 piece_found text i p d lt h s = record {
   within = omega arith;
   found = λ k. s.rest ∙ ap (λ t. glued (take i text) (pieces p d t)) (cell text i lt) ∙ ap (glued (take i text)) (stop p d (get_or text i 0) (drop (i + 1) text) h) ∙ ap (λ t. t ∷ pieces Outside 0 (drop (i + 1) text)) (append-nil (take i text));
   none = λ k. absurd (omega arith);
 }
 
-pub piece_none : (text : List ℕ) (i : ℕ) (p : Place) (d : ℕ) → i ≡ length text → Pieced text i p d → IsComma text i
+pub piece_none : (text : List ℕ) (i : ℕ) (p : Quoting) (d : ℕ) → i ≡ length text → Pieced text i p d → IsComma text i
 piece_none text i p d h s = record {
   within = omega arith;
   found = λ k. absurd (omega arith);

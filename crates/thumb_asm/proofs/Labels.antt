@@ -1,5 +1,5 @@
 -- Names in maps and in lists.
-use Rattle.std.proofs.Common.{◌≡◌, ℕ, ◌+◌, ◌<◌, List, [], ◌∷◌, ◌++◌, length, get_or, take, refl, ap, ◌∙◌, sym, arith, subst, Bool, true, false, cond, ◌&&◌, add-one, Option, Some, None, is_some, String, string_bytes, bytes_eq, IfSome, option_map, Bor, Result, Ok, Err, OnOk}
+use Rattle.std.proofs.Common.{◌≡◌, ℕ, ◌+◌, ◌<◌, List, [], ◌∷◌, ◌++◌, length, get_or, take, refl, ap, ◌∙◌, sym, arith, Bool, true, false, cond, add-one, Option, Some, None, is_some, String, string_bytes, bytes_eq, IfSome, option_map, Bor}
 use Rattle.std.proofs.lemmas.Bool.{and_parts}
 use Rattle.std.specs.List.{list_all}
 use Rattle.std.specs.BTreeMap.{BTreeMap, get_by_text}
@@ -17,7 +17,6 @@ use Rattle.thumb_asm.specs.Passes.{names_of, over, with_label, with_symbol, Refu
 use Rattle.thumb_asm.specs.declared.Cause.{Cause}
 use Rattle.thumb_asm.specs.declared.AsmFault.{AsmFault}
 use Rattle.thumb_asm.specs.declared.AsmFault.TheVariants as fault
-use Rattle.std.specs.declared.alloc.AllocError.{AllocError}
 
 word_ascii : (c : ℕ) → is_word c ≡ true → c < 128
 word_ascii c h = grind arith

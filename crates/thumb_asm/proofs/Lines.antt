@@ -4,7 +4,7 @@ use Rattle.std.proofs.lemmas.Bool.{and_parts}
 use Rattle.std.specs.List.{list_all}
 use Rattle.text_lines.specs.Text.{with_first}
 use Rattle.thumb_insn.specs.Text.{joined, line}
-use Rattle.thumb_asm.specs.declared.parts.Place.TheVariants.{Outside}
+use Rattle.thumb_asm.specs.declared.parts.Quoting.TheVariants.{Outside}
 use Rattle.thumb_asm.specs.declared.Mnemonic.{Mnemonic}
 use Rattle.thumb_asm.specs.Chars.{is_nil, strip_front, strip_end, strip, starts_by}
 use Rattle.thumb_asm.specs.Parts.{after, parts, pieces, operand_pieces, with_label}

@@ -1,5 +1,5 @@
 -- The bytes of values.
-use Rattle.std.proofs.Common.{◌≡◌, ℕ, suc, zero, ◌+◌, ◌*◌, ◌/◌, ◌%◌, List, [], ◌∷◌, ◌++◌, length, refl, ap, ◌∙◌, sym, arith, add-one, append_assoc, length-append, Bool, true, false, ◌||◌, nat_eq, Option, Some, None, Result, Ok, Err, OnOk, ℤ, pos, negsuc}
+use Rattle.std.proofs.Common.{◌≡◌, ℕ, suc, zero, ◌+◌, ◌*◌, ◌/◌, ◌%◌, List, [], ◌∷◌, ◌++◌, length, refl, ap, ◌∙◌, sym, arith, add-one, append_assoc, length-append, Bool, true, false, nat_eq, Option, Some, None, Result, Ok, Err, OnOk, ℤ, pos, negsuc}
 use Rattle.std.proofs.lemmas.Bool.{or_parts}
 use Rattle.std.specs.List.{list_any, repeat}
 use Rattle.std.proofs.lemmas.List.{append-nil}

@@ -3,7 +3,7 @@ use Rattle.std.specs.Prelude.{ℕ, ◌+◌, ◌≡◌, ◌≤◌, true, IfSome, 
 use Rattle.thumb_asm.specs.declared.Cause.{Cause}
 use Rattle.thumb_asm.specs.declared.AsmFault.{AsmFault}
 use Rattle.thumb_asm.specs.declared.AsmFault.TheVariants as fault
-use Rattle.thumb_asm.specs.declared.index.Given.{Given}
+use Rattle.thumb_asm.specs.declared.index.GivenSymbols.{GivenSymbols}
 use Rattle.thumb_asm.specs.declared.index.Symbols.{Symbols}
 use Rattle.thumb_asm.specs.declared.Stop.{Stop}
 use Rattle.thumb_asm.specs.declared.Stop.TheVariants as stop
@@ -32,11 +32,11 @@ abbrev pub values_of : Symbols → Env
 values_of s = get_by_text s.values
 
 -- the values of the symbols that a text is given: its own ones count first
-abbrev pub given_in : Given → Env
+abbrev pub given_in : GivenSymbols → Env
 given_in g = over (values_of g.own.now) (values_of g.shared.now)
 
 -- the values of labels, and of symbols that are no labels
-abbrev pub env_in : {A : Type 0} → BTreeMap (String A) ℕ → Given → Env
+abbrev pub env_in : {A : Type 0} → BTreeMap (String A) ℕ → GivenSymbols → Env
 env_in labels symbols = env_of (get_by_text labels) (given_in symbols)
 
 -- a map has these names with their values

@@ -1,10 +1,10 @@
 //! Instructions with their values, and their bytes.
 
-ghost use Rattle.std.specs.Prelude.{◌≡◌, ◌++◌, ◌<◌, ◌+◌, ◌-◌, ◌*◌, ◌/◌, ◌^◌, ℤ, pos, nat_abs, ◌-ℤ◌, OnOk, IfOk, IfErr, Result, Ok, Err, None, Some, Option, length};
+ghost use Rattle.std.specs.Prelude.{◌≡◌, ◌++◌, ◌<◌, ◌+◌, ◌-◌, ◌/◌, OnOk, IfOk, IfErr, Result, Ok, Err, None, Some, Option, length};
 ghost use Rattle.thumb_insn.specs.declared.Insn.{Insn as Instruction};
 ghost use Rattle.thumb_asm.specs.declared.Cause.{Cause as Why};
 ghost use Rattle.thumb_encode.specs.Codes.{insn_size, fit_of};
-ghost use Rattle.thumb_asm.specs.Meaning.{filled, within, aimed, fitting, fit_cause, halfword, code_bytes, Codes};
+ghost use Rattle.thumb_asm.specs.Meaning.{filled, within, aimed, fitting, fit_cause, halfword, code_bytes};
 ghost use Rattle.thumb_asm.specs.Causes.{insn_cause};
 ghost use Rattle.thumb_asm.specs.Passes.{Stops};
 ghost use Rattle.thumb_asm.specs.Outputs.{Coded, Put, Finds};

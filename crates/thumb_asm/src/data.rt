@@ -1,6 +1,6 @@
 //! Values, and zero bytes.
 
-ghost use Rattle.std.specs.Prelude.{◌≡◌, ◌++◌, ◌<◌, ◌≤◌, ◌+◌, ◌-◌, ◌*◌, ◌%◌, ◌^◌, false, ◌∷◌, [], true, length, nat_abs, ℤ, pos, nat_lt, nat_eq, not, OnOk, IfOk, IfErr, IfSome, Option, Some, None, option_map};
+ghost use Rattle.std.specs.Prelude.{◌≡◌, ◌++◌, ◌<◌, ◌+◌, ◌-◌, ◌*◌, ◌%◌, ◌^◌, false, ◌∷◌, [], true, nat_abs, pos, nat_eq, not, OnOk, IfErr, Option, Some, None};
 ghost use Rattle.std.specs.List.{list_any, repeat};
 ghost use Rattle.thumb_encode.specs.Codes.{scale};
 ghost use Rattle.thumb_asm.specs.declared.Cause.{Cause as Why};
@@ -12,7 +12,7 @@ ghost use Rattle.thumb_asm.specs.Passes.{env_in, Stops};
 ghost use Rattle.thumb_asm.specs.Outputs.{Gave};
 
 use super::expr::value;
-use super::index::Names;
+use super::index::KnownNames;
 use super::parts::Pieces;
 use super::{Cause, Stop};
 use thumb_insn::Size;
@@ -41,7 +41,7 @@ pub(crate) fn push_zeros(count: u32, out: &mut Vec<u8>) -> Result<(), Stop>
     Ok(())
 }
 
-fn is_unknown(piece: &[u8], names: &Names<'_>) -> bool
+fn is_unknown(piece: &[u8], names: &KnownNames<'_>) -> bool
     ensures { result ≡ is_unknown (value (env_in names.now.labels.now names.now.symbols.now) piece.now) }
 {
     match value(piece, names) {
@@ -74,7 +74,7 @@ fn is_beyond(size: Size, number: i64) -> bool
     }
 }
 
-fn is_out(size: Size, piece: &[u8], names: &Names<'_>) -> bool
+fn is_out(size: Size, piece: &[u8], names: &KnownNames<'_>) -> bool
     ensures { result ≡ is_beyond (scale size) (value (env_in names.now.labels.now names.now.symbols.now) piece.now) }
 {
     match value(piece, names) {
@@ -83,7 +83,7 @@ fn is_out(size: Size, piece: &[u8], names: &Names<'_>) -> bool
     }
 }
 
-fn has_unknown(pieces: &[u8], names: &Names<'_>) -> bool
+fn has_unknown(pieces: &[u8], names: &KnownNames<'_>) -> bool
     ensures { result ≡ list_any (λ e. is_unknown (value (env_in names.now.labels.now names.now.symbols.now) e)) (operand_pieces pieces.now) }
 {
     let mut left = Pieces::of(pieces);
@@ -95,7 +95,7 @@ fn has_unknown(pieces: &[u8], names: &Names<'_>) -> bool
     false
 }
 
-fn has_beyond(size: Size, pieces: &[u8], names: &Names<'_>) -> bool
+fn has_beyond(size: Size, pieces: &[u8], names: &KnownNames<'_>) -> bool
     ensures { result ≡ list_any (λ e. is_beyond (scale size) (value (env_in names.now.labels.now names.now.symbols.now) e)) (operand_pieces pieces.now) }
 {
     let mut left = Pieces::of(pieces);
@@ -161,7 +161,12 @@ fn push_value(size: Size, number: i64, out: &mut Vec<u8>) -> Result<(), Stop>
 }
 
 /// Puts the value of a piece at the end.
-fn push_piece(size: Size, piece: &[u8], names: &Names<'_>, out: &mut Vec<u8>) -> Result<(), Stop>
+fn push_piece(
+    size: Size,
+    piece: &[u8],
+    names: &KnownNames<'_>,
+    out: &mut Vec<u8>,
+) -> Result<(), Stop>
     requires known { is_unknown (value (env_in names.now.labels.now names.now.symbols.now) piece.now) ≡ false }
     requires within { is_beyond (scale size) (value (env_in names.now.labels.now names.now.symbols.now) piece.now) ≡ false }
     ensures ok { OnOk result (out.new.items ≡ out.old.items ++ value_bytes (scale size) (value (env_in names.now.labels.now names.now.symbols.now) piece.now)) }
@@ -174,7 +179,12 @@ fn push_piece(size: Size, piece: &[u8], names: &Names<'_>, out: &mut Vec<u8>) ->
 }
 
 /// Puts values at the end, which are known and in range.
-fn push_all(size: Size, pieces: &[u8], names: &Names<'_>, out: &mut Vec<u8>) -> Result<(), Stop>
+fn push_all(
+    size: Size,
+    pieces: &[u8],
+    names: &KnownNames<'_>,
+    out: &mut Vec<u8>,
+) -> Result<(), Stop>
     requires known { list_any (λ e. is_unknown (value (env_in names.now.labels.now names.now.symbols.now) e)) (operand_pieces pieces.now) ≡ false }
     requires within { list_any (λ e. is_beyond (scale size) (value (env_in names.now.labels.now names.now.symbols.now) e)) (operand_pieces pieces.now) ≡ false }
     ensures ok { OnOk result (out.new.items ≡ out.old.items ++ data_bytes (env_in names.now.labels.now names.now.symbols.now) (scale size) (operand_pieces pieces.now)) }
@@ -207,7 +217,7 @@ pub(crate) fn emit(
     at: u32,
     size: Size,
     pieces: &[u8],
-    names: &Names<'_>,
+    names: &KnownNames<'_>,
     out: &mut Vec<u8>,
 ) -> Result<(), Stop>
     ensures ok { OnOk result (Gave (env_in names.now.labels.now names.now.symbols.now) at (Data (scale size) (operand_pieces pieces.now)) out.old.items out.new.items) }

@@ -1,14 +1,14 @@
 //! Numbers and expressions.
 
-ghost use Rattle.std.specs.Prelude.{◌≡◌, ◌∷◌, ◌<◌, ◌+◌, ◌^◌, [], take, drop, codes, bytes_eq, Some, None, IfSome, IfNone, MatchOption, option_map, nat_abs, ℤ, ℕ, List, length, pos, true, ◌-ℤ◌, nat_eq, if◌then◌else◌};
-ghost use Rattle.thumb_asm.specs.Chars.{is_name, until, from_first};
+ghost use Rattle.std.specs.Prelude.{◌≡◌, ◌∷◌, ◌<◌, ◌+◌, ◌^◌, [], take, codes, bytes_eq, Some, None, IfSome, MatchOption, option_map, nat_abs, ℕ, List, length, pos, true, ◌-ℤ◌, nat_eq, if◌then◌else◌};
+ghost use Rattle.thumb_asm.specs.Chars.{is_name};
 ghost use Rattle.thumb_asm.specs.Cuts.{IsFirst};
 ghost use Rattle.thumb_asm.specs.Operands.{natural, signed, is_sign, term, added, sum_of, expression};
 ghost use Rattle.thumb_asm.specs.Meaning.{value};
 ghost use Rattle.thumb_asm.specs.Passes.{env_in};
 ghost use Rattle.thumb_asm.specs.Views.{expr_of};
 
-use super::index::{Names, is_same};
+use super::index::{KnownNames, is_same};
 use super::words::{is_name, strip};
 use text_lines::{hex_number, number};
 
@@ -199,7 +199,7 @@ pub(crate) fn expression(piece: &[u8]) -> Option<Expr<'_>>
 
 /// The value of an expression, unless it has an unknown name.
 #[tactic(auto, unfolding(crate::specs::Meaning::value))]
-pub(crate) fn value(piece: &[u8], names: &Names<'_>) -> Option<i64>
+pub(crate) fn value(piece: &[u8], names: &KnownNames<'_>) -> Option<i64>
     ensures value { result ≡ value (env_in names.now.labels.now names.now.symbols.now) piece.now }
     ensures small { IfSome result (λ z. nat_abs z < 2 ^ 34) }
 {

@@ -3,7 +3,6 @@
 ghost use Rattle.std.specs.Prelude.{◌≡◌, List, ℕ, OnOk, IfOk, string_bytes, bytes_eq, true, option_map, IfSome, Option, Some, None, if◌then◌else◌};
 ghost use Rattle.std.specs.BTreeMap.{get_by_text};
 ghost use Rattle.thumb_asm.specs.Chars.{is_name};
-ghost use Rattle.thumb_asm.specs.Meaning.{own_label};
 ghost use Rattle.thumb_asm.specs.Passes.{names_of, symbol_values, env_in, given_in, values_of, Indexes, with_label, with_symbol};
 
 use std::alloc::{AllocError, Global};
@@ -17,16 +16,16 @@ pub struct Symbols {
 
 /// The symbols that a text is given: its own ones, and those that it shares with other texts.
 #[derive(Clone, Copy)]
-pub(crate) struct Given<'a> {
+pub(crate) struct GivenSymbols<'a> {
     pub(crate) own: &'a Symbols,
     pub(crate) shared: &'a Symbols,
 }
 
 /// Labels, and symbols that were given.
 #[derive(Clone, Copy)]
-pub(crate) struct Names<'a> {
+pub(crate) struct KnownNames<'a> {
     pub(crate) labels: &'a BTreeMap<String, u32>,
-    pub(crate) symbols: &'a Given<'a>,
+    pub(crate) symbols: &'a GivenSymbols<'a>,
 }
 
 pub(crate) fn is_same(a: &[u8], b: &[u8]) -> bool
@@ -46,7 +45,7 @@ pub(crate) fn find(index: &BTreeMap<String, u32>, name: &[u8]) -> Option<u32>
     }
 }
 
-impl Given<'_> {
+impl GivenSymbols<'_> {
     /// The value of an own symbol, or else of a shared one.
     pub(crate) fn value(&self, name: &[u8]) -> Option<u32>
         requires { is_name name.now ≡ true }
@@ -59,7 +58,7 @@ impl Given<'_> {
     }
 }
 
-impl Names<'_> {
+impl KnownNames<'_> {
     /// The value of a label, or else of a symbol.
     pub(crate) fn value(&self, name: &[u8]) -> Option<u32>
         requires { is_name name.now ≡ true }

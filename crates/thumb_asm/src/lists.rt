@@ -1,11 +1,11 @@
 //! Lists of registers, as they are written.
 
-ghost use Rattle.std.specs.Prelude.{◌≡◌, ◌∷◌, ◌<◌, ◌+◌, ◌&&◌, ◌||◌, nat_lt, nat_eq, ◌≤◌, if◌then◌else◌, is_some, IfSome, MatchOption, Some, None, [], not};
+ghost use Rattle.std.specs.Prelude.{◌≡◌, ◌∷◌, ◌<◌, ◌+◌, ◌&&◌, ◌||◌, ◌≤◌, if◌then◌else◌, is_some, IfSome, MatchOption, Some, None, []};
 ghost use Rattle.std.specs.List.{list_any};
 ghost use Rattle.thumb_asm.specs.Cuts.{left_length};
 ghost use Rattle.thumb_asm.specs.Operands.{ends, ranges, stripped_by, register_list};
 ghost use Rattle.thumb_asm.specs.Views.{ranges_text};
-ghost use Rattle.thumb_asm.specs.Kinds.{cuts_left, ranges_left, ranges_in};
+ghost use Rattle.thumb_asm.specs.Kinds.{ranges_left, ranges_in};
 ghost use Rattle.thumb_asm.specs.Sizes.{is_in, is_listed, is_double, is_named, any_below, mask_below, mask_of, is_stray, has_stray, falls, is_empty, is_no_list, is_raised_wrong};
 
 use super::operand::split_by;

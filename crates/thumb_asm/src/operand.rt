@@ -1,6 +1,6 @@
 //! The kinds of operands.
 
-ghost use Rattle.std.specs.Prelude.{◌≡◌, ◌∷◌, ◌<◌, ◌+◌, length, take, drop, Some, None, IfSome, MatchOption, option_map, Option, List, ℕ, nat_eq};
+ghost use Rattle.std.specs.Prelude.{◌≡◌, ◌∷◌, ◌<◌, ◌+◌, length, Some, None, option_map, Option, nat_eq};
 ghost use Rattle.std.specs.List.{list_any};
 ghost use Rattle.thumb_asm.specs.Operands.{closed_by, operand, offset, bare, unquoted, Immediate, memory, stripped_by, in_brackets, in_braces, in_quotes};
 ghost use Rattle.thumb_asm.specs.Chars.{strip};

@@ -1,17 +1,16 @@
 //! The two passes.
 
-ghost use Rattle.std.specs.Prelude.{ℕ, Option, ◌≡◌, ◌++◌, ◌<◌, ◌≤◌, ◌+◌, ◌^◌, ◌-◌, [], option_map, length, OnOk, IfOk, IfErr, IfSome, None, Some, true, false, vec_len};
+ghost use Rattle.std.specs.Prelude.{ℕ, Option, ◌≡◌, ◌<◌, ◌≤◌, ◌+◌, ◌^◌, ◌-◌, [], option_map, OnOk, IfOk, IfErr, None, Some};
 ghost use Rattle.std.specs.BTreeMap.{get_by_text};
 ghost use Rattle.text_lines.specs.Text.{lines_of};
 ghost use Rattle.thumb_asm.specs.Parts.{parts};
 ghost use Rattle.thumb_asm.specs.Sizes.{statement_of};
-ghost use Rattle.thumb_asm.specs.Meaning.{env_of, own_label};
 ghost use Rattle.thumb_asm.specs.Assembly.{Assembles};
 ghost use Rattle.thumb_asm.specs.Causes.{first_group, second_group, label_cause, first_in, second_in, first_cause, at_line};
 ghost use Rattle.thumb_asm.specs.declared.Cause.{Cause};
 ghost use Rattle.thumb_asm.specs.Passes.{symbol_values, values_of, given_in, over, env_in, Stops, Refuses, Emitted, HasPlace, HavePlaces, HaveBytes, size_from};
 
-use super::index::{self, Given, Names, Symbols, find};
+use super::index::{self, GivenSymbols, KnownNames, Symbols, find};
 use super::parts::line_of;
 use super::shape::{self, Shape};
 use super::words::{are_allowed, is_name, register};
@@ -37,7 +36,7 @@ struct Survey {
 }
 
 /// Why a label is refused.
-fn check_label(label: Option<&[u8]>, names: &Names<'_>) -> Option<Cause>
+fn check_label(label: Option<&[u8]>, names: &KnownNames<'_>) -> Option<Cause>
     ensures { result ≡ label_cause (given_in names.now.symbols.now) (get_by_text names.now.labels.now) (option_map (λ r. r.now) label.entry) }
 {
     match label {
@@ -58,7 +57,7 @@ fn check_label(label: Option<&[u8]>, names: &Names<'_>) -> Option<Cause>
 
 /// How many bytes a line takes, or why it is refused.
 #[tactic(auto, unfolding(crate::specs::Causes::first_group, crate::specs::Causes::line_size))]
-fn survey_line(line: &[u8], base: u32, used: u32, names: &Names<'_>) -> Result<u32, Cause>
+fn survey_line(line: &[u8], base: u32, used: u32, names: &KnownNames<'_>) -> Result<u32, Cause>
     requires base { base + 1048576 < 2 ^ 32 }
     requires used { used ≤ 1048576 }
     ensures ok { IfOk result (HasPlace (given_in names.now.symbols.now) base (get_by_text names.now.labels.now) used line.now) }
@@ -87,7 +86,7 @@ fn place_lines(
     alloc: Global,
     text: &[u8],
     base: u32,
-    symbols: &Given<'_>,
+    symbols: &GivenSymbols<'_>,
 ) -> Result<Survey, AsmFault>
     requires { base + 1048576 < 2 ^ 32 }
     ensures ok { IfOk result (λ s. HavePlaces (given_in symbols.now) base (lines_of text.now) s.labels s.size) }
@@ -103,7 +102,7 @@ fn place_lines(
             line,
             base,
             used,
-            &Names {
+            &KnownNames {
                 labels: &labels,
                 symbols: &*symbols,
             },
@@ -119,7 +118,7 @@ fn place_lines(
 }
 
 /// The bytes of a line.
-fn emit_line(at: u32, line: &[u8], names: &Names<'_>, out: &mut Vec<u8>) -> Result<(), Stop>
+fn emit_line(at: u32, line: &[u8], names: &KnownNames<'_>, out: &mut Vec<u8>) -> Result<(), Stop>
     ensures ok { OnOk result (Emitted (env_in names.now.labels.now names.now.symbols.now) at line.now out.old.items out.new.items) }
     ensures err { IfErr result (λ e. Stops e (second_group (env_in names.now.labels.now names.now.symbols.now) at (statement_of (parts line.now).statement))) }
 {
@@ -142,7 +141,7 @@ fn fault_at(stop: Stop, line: usize) -> AsmFault
 }
 
 /// The second pass: bytes.
-fn emit(alloc: Global, text: &[u8], base: u32, names: &Names<'_>) -> Result<Vec<u8>, AsmFault>
+fn emit(alloc: Global, text: &[u8], base: u32, names: &KnownNames<'_>) -> Result<Vec<u8>, AsmFault>
     requires base { base + 1048576 < 2 ^ 32 }
     requires size { size_from base (lines_of text.now) ≤ 1048576 }
     ensures ok { IfOk result (λ v. HaveBytes (env_in names.now.labels.now names.now.symbols.now) base (lines_of text.now) v.items) }
@@ -167,7 +166,7 @@ fn assemble_given(
     alloc: Global,
     text: &[u8],
     base: u32,
-    symbols: &Given<'_>,
+    symbols: &GivenSymbols<'_>,
 ) -> Result<Object, AsmFault>
     requires { base + 1048576 < 2 ^ 32 }
     ensures accepted { IfOk result (λ o. first_cause (lines_of text.now) base (given_in symbols.now) ≡ None) }
@@ -180,7 +179,7 @@ fn assemble_given(
             alloc,
             text,
             base,
-            &Names {
+            &KnownNames {
                 labels: &survey.labels,
                 symbols: &*symbols,
             },
@@ -211,7 +210,7 @@ pub fn assemble_with(
 {
     match Symbols::of(alloc, own) {
         Err(_) => Err(AsmFault::Memory),
-        Ok(own) => assemble_given(alloc, text, base, &Given { own: &own, shared }),
+        Ok(own) => assemble_given(alloc, text, base, &GivenSymbols { own: &own, shared }),
     }
 }
 

@@ -17,7 +17,7 @@ use super::checks::checked;
 use super::codes::{aim, emit_found, fill, with_bounded, with_distance, with_value};
 use super::data::{self, push_zeros};
 use super::expr::{signed, value};
-use super::index::Names;
+use super::index::KnownNames;
 use super::lists::{is_listed, mask};
 use super::parts::{count, split_word};
 use super::syntax::{mnemonic, shaped, values};
@@ -204,7 +204,7 @@ pub(crate) fn room_for(found: &Option<Shape<'_>>, base: u32, used: u32) -> Optio
 
 /// The value's instruction, or why there is none.
 #[tactic(auto, unfolding(crate::specs::Meaning::insn_at))]
-fn filled(at: u32, piece: &[u8], insn: Insn, names: &Names<'_>) -> Result<Insn, Cause>
+fn filled(at: u32, piece: &[u8], insn: Insn, names: &KnownNames<'_>) -> Result<Insn, Cause>
     ensures { Finds result (insn_at (env_in names.now.labels.now names.now.symbols.now) at (SpecFilled piece.now (fill insn))) }
 {
     match value(piece, names) {
@@ -221,7 +221,7 @@ fn within(
     top: u32,
     piece: &[u8],
     insn: Insn,
-    names: &Names<'_>,
+    names: &KnownNames<'_>,
 ) -> Result<Insn, Cause>
     ensures { Finds result (insn_at (env_in names.now.labels.now names.now.symbols.now) at (SpecWithin low top piece.now (fill insn))) }
 {
@@ -243,7 +243,7 @@ fn distance(at: u32, target: i64) -> i64
 
 /// The instruction with the distance of a target, or why there is none.
 #[tactic(auto, unfolding(crate::specs::Meaning::insn_at))]
-fn aimed(at: u32, piece: &[u8], insn: Insn, names: &Names<'_>) -> Result<Insn, Cause>
+fn aimed(at: u32, piece: &[u8], insn: Insn, names: &KnownNames<'_>) -> Result<Insn, Cause>
     ensures { Finds result (insn_at (env_in names.now.labels.now names.now.symbols.now) at (SpecAimed piece.now (aim insn))) }
 {
     match value(piece, names) {
@@ -262,7 +262,7 @@ fn aligned_distance(at: u32, target: i64) -> i64
 
 /// The same from the address aligned down.
 #[tactic(auto, unfolding(crate::specs::Meaning::insn_at))]
-fn near(at: u32, piece: &[u8], insn: Insn, names: &Names<'_>) -> Result<Insn, Cause>
+fn near(at: u32, piece: &[u8], insn: Insn, names: &KnownNames<'_>) -> Result<Insn, Cause>
     ensures { Finds result (insn_at (env_in names.now.labels.now names.now.symbols.now) at (SpecNear piece.now (fill insn))) }
 {
     match value(piece, names) {
@@ -300,7 +300,7 @@ fn block_insn(n: Reg, loads: bool, list: u8) -> Insn
 
 /// The instruction of a statement, or why there is none.
 #[tactic(auto, unfolding(crate::specs::Meaning::insn_at))]
-fn insn_at(at: u32, shape: &Shape<'_>, names: &Names<'_>) -> Result<Insn, Cause>
+fn insn_at(at: u32, shape: &Shape<'_>, names: &KnownNames<'_>) -> Result<Insn, Cause>
     requires { HoldsInsn shape.now }
     ensures { Finds result (insn_at (env_in names.now.labels.now names.now.symbols.now) at (shape_of shape.now)) }
 {
@@ -318,7 +318,12 @@ fn insn_at(at: u32, shape: &Shape<'_>, names: &Names<'_>) -> Result<Insn, Cause>
 }
 
 /// Puts the code of a statement's instruction at the end.
-fn emit_code(at: u32, shape: &Shape<'_>, names: &Names<'_>, out: &mut Vec<u8>) -> Result<(), Stop>
+fn emit_code(
+    at: u32,
+    shape: &Shape<'_>,
+    names: &KnownNames<'_>,
+    out: &mut Vec<u8>,
+) -> Result<(), Stop>
     requires { HoldsInsn shape.now }
     ensures ok { OnOk result (Gave (env_in names.now.labels.now names.now.symbols.now) at (shape_of shape.now) out.old.items out.new.items) }
     ensures err { IfErr result (λ e. Stops e (shape_cause (env_in names.now.labels.now names.now.symbols.now) at (shape_of shape.now))) }
@@ -331,7 +336,7 @@ fn emit_code(at: u32, shape: &Shape<'_>, names: &Names<'_>, out: &mut Vec<u8>) -
 pub(crate) fn emit(
     at: u32,
     shape: &Shape<'_>,
-    names: &Names<'_>,
+    names: &KnownNames<'_>,
     out: &mut Vec<u8>,
 ) -> Result<(), Stop>
     requires { has_bad_count (shape_of shape.now) ≡ false }

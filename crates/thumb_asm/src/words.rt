@@ -1,6 +1,6 @@
 //! Characters, blanks, names and registers.
 
-ghost use Rattle.std.specs.Prelude.{◌≡◌, ◌<◌, ◌≤◌, IfSome, length, option_map, map, bytes_eq, nat_eq};
+ghost use Rattle.std.specs.Prelude.{◌≡◌, ◌<◌, IfSome, option_map, map, bytes_eq, nat_eq};
 ghost use Rattle.std.specs.List.{list_all};
 ghost use Rattle.text_lines.specs.Text.{is_between};
 ghost use Rattle.thumb_asm.specs.Chars.{starts_by, is_nil, is_blank, is_letter, is_word, is_allowed, lower, strip_front, strip_end, strip, is_name, entry_at, register};

@@ -1,25 +1,24 @@
 -- One more line in a book.
 use Rattle.std.proofs.Common.{◌≡◌, ℕ, ◌<◌, ◌≤◌, inl, inr, Bool, true, false, eqb, not, ◌&&◌, ◌||◌, List, [], ◌∷◌, ◌++◌, length, map, Option, Some, None, refl, sym, subst, ap, ◌∙◌, arith}
 use Rattle.std.proofs.lemmas.Bool.{false≢true, and_parts, and_from, not-true, eqb-true, eq-eqb}
-use Rattle.std.proofs.lemmas.Bool.Decides.{eqb_tells}
 use Rattle.std.proofs.lemmas.List.Folds.{list_any-append}
 use Rattle.trace_audit.specs.declared.book.Book.{Book}
 use Rattle.trace_audit.specs.declared.book.Open.{Open}
-use Rattle.trace_audit.specs.declared.reading.Line.{Line}
-use Rattle.trace_audit.specs.declared.reading.Line.TheVariants as line
+use Rattle.trace_audit.specs.declared.reading.TraceLine.{TraceLine}
+use Rattle.trace_audit.specs.declared.reading.TraceLine.TheVariants as line
 use Rattle.trace_audit.specs.declared.reading.Saying.{Saying}
 use Rattle.trace_audit.specs.declared.reading.Saying.TheVariants as saying
-use Rattle.trace_audit.specs.declared.reading.Wait.{Wait}
-use Rattle.trace_audit.specs.declared.reading.Wait.TheVariants as wait
+use Rattle.trace_audit.specs.declared.reading.FinalWait.{FinalWait}
+use Rattle.trace_audit.specs.declared.reading.FinalWait.TheVariants as wait
 use Rattle.trace_audit.specs.Rules.{said, is_end, turn_after, has_ended, IsOffered, IsTaken, IsClosed, IsGoodWait, IsGoodLine, AreGood}
-use Rattle.trace_audit.specs.Books.{Calls, Kept, kept_in, calls_with, waits_as, IsTold, HasHeard, Notes, IsRest, IsKept, Adds}
+use Rattle.trace_audit.specs.Books.{CallBook, Kept, kept_in, calls_with, waits_as, IsTold, HasHeard, Notes, IsRest, IsKept, Adds}
 use Rattle.trace_audit.proofs.Telling.{only, none_some, true_false}
 use Rattle.trace_audit.proofs.Hearing.{books_nothing}
 use Rattle.trace_audit.proofs.Pushing.{push_split}
 
 -- ## lists of lines
 
-turn_push : (n : ℕ) (lines : List Line) (l : Line) → turn_after n (lines ++ l ∷ []) ≡ turn_after (turn_after n lines) (l ∷ [])
+turn_push : (n : ℕ) (lines : List TraceLine) (l : TraceLine) → turn_after n (lines ++ l ∷ []) ≡ turn_after (turn_after n lines) (l ∷ [])
 turn_push n [] l = refl
 turn_push n (line.Tells t s ∷ lines) l = turn_push t lines l
 turn_push n (line.Ends ∷ lines) l = turn_push n lines l
@@ -31,19 +30,19 @@ or_none : (b : Bool) → (b || false) ≡ b
 or_none true = refl
 or_none false = refl
 
-ended_push : (lines : List Line) (l : Line) → has_ended (lines ++ l ∷ []) ≡ (has_ended lines || is_end l)
+ended_push : (lines : List TraceLine) (l : TraceLine) → has_ended (lines ++ l ∷ []) ≡ (has_ended lines || is_end l)
 ended_push lines l = list_any-append is_end lines (l ∷ []) ∙ ap (λ b. has_ended lines || b) (or_none (is_end l))
 
-said_push : (lines : List Line) (l : Line) → map said (lines ++ l ∷ []) ≡ map said lines ++ said l ∷ []
+said_push : (lines : List TraceLine) (l : TraceLine) → map said (lines ++ l ∷ []) ≡ map said lines ++ said l ∷ []
 said_push [] l = refl
 said_push (x ∷ lines) l = ap (λ xs. said x ∷ xs) (said_push lines l)
 
-heard_push : (lines : List Line) (l : Line) (b : Kept) → HasHeard (map said lines ++ said l ∷ []) b → HasHeard (map said (lines ++ l ∷ [])) b
+heard_push : (lines : List TraceLine) (l : TraceLine) (b : Kept) → HasHeard (map said lines ++ said l ∷ []) b → HasHeard (map said (lines ++ l ∷ [])) b
 heard_push lines l b h = subst (λ ss. HasHeard ss b) (sym (said_push lines l)) h
 
 -- ## a book of one more line
 
-adds_told : (lines : List Line) (b c : Book) (turn : ℕ) (s : Saying) → IsKept lines b → b.ended ≡ false → b.turn ≤ turn → c.turn ≡ turn → c.ended ≡ b.ended → (good : Bool) → Notes (map said lines) s (kept_in c) good → Adds lines (line.Tells turn s) c good
+adds_told : (lines : List TraceLine) (b c : Book) (turn : ℕ) (s : Saying) → IsKept lines b → b.ended ≡ false → b.turn ≤ turn → c.turn ≡ turn → c.ended ≡ b.ended → (good : Bool) → Notes (map said lines) s (kept_in c) good → Adds lines (line.Tells turn s) c good
 adds_told lines b c turn s h going low now same true k = (
   record { before_end = sym h.ended ∙ going; not_below = subst (λ n. n ≤ turn) h.turn low; saying = k.0 },
   record {
@@ -54,24 +53,24 @@ adds_told lines b c turn s h going low now same true k = (
 )
 adds_told lines b c turn s h going low now same false k = λ g. k g.saying
 
-pub adds_tell : (lines : List Line) (b c : Book) (turn : ℕ) (s : Saying) → IsKept lines b → b.ended ≡ false → b.turn ≤ turn → IsRest (record b { turn = turn }) c → (good : Bool) → Notes (map said lines) s (kept_in c) good → Adds lines (line.Tells turn s) c good
+pub adds_tell : (lines : List TraceLine) (b c : Book) (turn : ℕ) (s : Saying) → IsKept lines b → b.ended ≡ false → b.turn ≤ turn → IsRest (record b { turn = turn }) c → (good : Bool) → Notes (map said lines) s (kept_in c) good → Adds lines (line.Tells turn s) c good
 adds_tell lines b c turn s h going low rest good k = adds_told lines b c turn s h going low rest.turn rest.ended good k
 
-pub tells_late : (lines : List Line) (b : Book) (turn : ℕ) (s : Saying) → IsKept lines b → b.ended ≡ true → ¬ IsGoodLine lines (line.Tells turn s)
+pub tells_late : (lines : List TraceLine) (b : Book) (turn : ℕ) (s : Saying) → IsKept lines b → b.ended ≡ true → ¬ IsGoodLine lines (line.Tells turn s)
 tells_late lines b turn s h e = λ g. false≢true (sym g.before_end ∙ sym h.ended ∙ e)
 
-pub tells_below : (lines : List Line) (b : Book) (turn : ℕ) (s : Saying) → IsKept lines b → turn < b.turn → ¬ IsGoodLine lines (line.Tells turn s)
+pub tells_below : (lines : List TraceLine) (b : Book) (turn : ℕ) (s : Saying) → IsKept lines b → turn < b.turn → ¬ IsGoodLine lines (line.Tells turn s)
 tells_below lines b turn s h lt = λ g. let low : b.turn ≤ turn = subst (λ n. n ≤ turn) (sym h.turn) g.not_below in absurd (omega arith)
 
 -- the same book
-aside : (lines : List Line) (b : Book) (l : Line) → said l ≡ saying.Nothing → is_end l ≡ false → turn_after (turn_after 0 lines) (l ∷ []) ≡ turn_after 0 lines → IsKept lines b → IsKept (lines ++ l ∷ []) b
+aside : (lines : List TraceLine) (b : Book) (l : TraceLine) → said l ≡ saying.Nothing → is_end l ≡ false → turn_after (turn_after 0 lines) (l ∷ []) ≡ turn_after 0 lines → IsKept lines b → IsKept (lines ++ l ∷ []) b
 aside lines b l nothing plain same h = record {
   turn = h.turn ∙ sym (turn_push 0 lines l ∙ same);
   ended = h.ended ∙ sym (ended_push lines l ∙ ap (λ e. has_ended lines || e) plain ∙ or_none (has_ended lines));
   heard = heard_push lines l (kept_in b) (books_nothing (map said lines) (kept_in b) h.heard (said l) nothing).1;
 }
 
-pub adds_end : (lines : List Line) (b : Book) → IsKept lines b → b.ended ≡ false → Adds lines line.Ends (record b { ended = true }) true
+pub adds_end : (lines : List TraceLine) (b : Book) → IsKept lines b → b.ended ≡ false → Adds lines line.Ends (record b { ended = true }) true
 adds_end lines b h going = (
   sym h.ended ∙ going,
   record {
@@ -85,10 +84,10 @@ adds_end lines b h going = (
     or_true true = refl
     or_true false = refl
 
-pub ends_twice : (lines : List Line) (b : Book) → IsKept lines b → b.ended ≡ true → ¬ IsGoodLine lines line.Ends
+pub ends_twice : (lines : List TraceLine) (b : Book) → IsKept lines b → b.ended ≡ true → ¬ IsGoodLine lines line.Ends
 ends_twice lines b h e = λ g. false≢true (sym g ∙ sym h.ended ∙ e)
 
-pub adds_show : (lines : List Line) (b : Book) → IsKept lines b → (e : Bool) → b.ended ≡ e → Adds lines line.Shows b e
+pub adds_show : (lines : List TraceLine) (b : Book) → IsKept lines b → (e : Bool) → b.ended ≡ e → Adds lines line.Shows b e
 adds_show lines b h true e = (sym h.ended ∙ e, aside lines b line.Shows refl refl refl h)
 adds_show lines b h false e = λ g. false≢true (sym e ∙ h.ended ∙ g)
 
@@ -112,9 +111,9 @@ offered_same k j e = cc
 taken_same : (k j : ℕ) → wait.Taken k ≡ wait.Taken j → k ≡ j
 taken_same k j e = cc
 
-module _ (before : List Saying) (x : Calls) (h : IsTold before x) (i : ℕ) where
+module _ (before : List Saying) (x : CallBook) (h : IsTold before x) (i : ℕ) where
   -- whether the task waits as it should
-  abbrev Judges : Wait → Bool → Type 0
+  abbrev Judges : FinalWait → Bool → Type 0
   Judges w true = IsGoodWait before i w
   Judges w false = ¬ IsGoodWait before i w
 
@@ -157,7 +156,7 @@ module _ (before : List Saying) (x : Calls) (h : IsTold before x) (i : ℕ) wher
   not_taken_so z e k true t is = λ g. let p = (g.taken k).0 refl in let n = only before x h k i z e p.0 p.1 in true_false (sym (and_from _ _ (eq-eqb z.call k n) t) ∙ is)
   not_taken_so z e k false t is = λ g. let p = (g.taken k).0 refl in let n = only before x h k i z e p.0 p.1 in (h.kept i z e).no t (subst (λ m. IsTaken before m) (sym n) p.2)
 
-  pub judged : (o : Option Open) → x.held i ≡ o → (w : Wait) (good : Bool) → waits_as o w ≡ good → Judges w good
+  pub judged : (o : Option Open) → x.held i ≡ o → (w : FinalWait) (good : Bool) → waits_as o w ≡ good → Judges w good
   judged None e wait.Other true is = record {
     offered = λ k. (λ s. other_offered k s, λ is. absurd (no_call e k is.0 is.1));
     taken = λ k. (λ s. other_taken k s, λ is. absurd (no_call e k is.0 is.1));
@@ -175,15 +174,15 @@ module _ (before : List Saying) (x : Calls) (h : IsTold before x) (i : ℕ) wher
   judged (Some z) e (wait.Taken k) false is = not_taken_so z e k z.taken refl is
 
 -- the line of a task
-pub adds_wait : (lines : List Line) (b : Book) (i : ℕ) (w : Wait) → IsKept lines b → b.ended ≡ true → (good : Bool) → waits_as ((kept_in b).held i) w ≡ good → Adds lines (line.Waits i w) b good
+pub adds_wait : (lines : List TraceLine) (b : Book) (i : ℕ) (w : FinalWait) → IsKept lines b → b.ended ≡ true → (good : Bool) → waits_as ((kept_in b).held i) w ≡ good → Adds lines (line.Waits i w) b good
 adds_wait lines b i w h e true is = ((sym h.ended ∙ e, judged (map said lines) (calls_with h.heard.clients (kept_in b)) h.heard.told i _ refl w true is), aside lines b (line.Waits i w) refl refl refl h)
 adds_wait lines b i w h e false is = λ g. judged (map said lines) (calls_with h.heard.clients (kept_in b)) h.heard.told i _ refl w false is g.1
 
-pub waits_early : (lines : List Line) (b : Book) (i : ℕ) (w : Wait) → IsKept lines b → b.ended ≡ false → ¬ IsGoodLine lines (line.Waits i w)
+pub waits_early : (lines : List TraceLine) (b : Book) (i : ℕ) (w : FinalWait) → IsKept lines b → b.ended ≡ false → ¬ IsGoodLine lines (line.Waits i w)
 waits_early lines b i w h e = λ g. false≢true (sym e ∙ h.ended ∙ g.0)
 
 -- nothing has been said yet
-pub none_said : (x : Calls) → x.clients ≡ [] → ((i : ℕ) → x.held i ≡ None) → x.left ≡ 0 → IsTold [] x
+pub none_said : (x : CallBook) → x.clients ≡ [] → ((i : ℕ) → x.held i ≡ None) → x.left ≡ 0 → IsTold [] x
 none_said x none held left = record {
   number = ap length none;
   client = λ k lt. let q : k < 0 = subst (λ xs. k < length xs) none lt in absurd (omega arith);
@@ -206,7 +205,7 @@ pub good_none : AreGood []
 good_none [] l after e = let q = ap length e in absurd (omega arith)
 good_none (b ∷ bs) l after e = let q = ap length e in absurd (omega arith)
 
-pub good_push : (ls : List Line) (l : Line) → AreGood ls → IsGoodLine ls l → AreGood (ls ++ l ∷ [])
+pub good_push : (ls : List TraceLine) (l : TraceLine) → AreGood ls → IsGoodLine ls l → AreGood (ls ++ l ∷ [])
 good_push ls l good here before x after e = elim (push_split ls l before x after e) [
   | inl h ↦ good before x h.0 h.1
   | inr h ↦ subst (λ z. IsGoodLine before z) h.1 (subst (λ zs. IsGoodLine zs l) h.0 here)

@@ -6,14 +6,14 @@ use Rattle.std.specs.declared.result.Result.TheVariants.{Ok, Err}
 use Rattle.std.proofs.lemmas.Bool.{false≢true}
 use Rattle.std.proofs.lemmas.Bool.Decides.{leb_tells}
 use Rattle.std.proofs.lemmas.List.Elements.{All-contains, Contains-append_right}
-use Rattle.trace_audit.specs.declared.reading.Line.{Line}
-use Rattle.trace_audit.specs.declared.verdict.Verdict.{Verdict}
-use Rattle.trace_audit.specs.declared.verdict.Verdict.TheVariants as verdict
+use Rattle.trace_audit.specs.declared.reading.TraceLine.{TraceLine}
+use Rattle.trace_audit.specs.declared.judgement.Judgement.{Judgement}
+use Rattle.trace_audit.specs.declared.judgement.Judgement.TheVariants as judgement
 use Rattle.trace_audit.specs.Rules.{has_ended, IsGoodLine, IsGood, IsFirstBad}
-use Rattle.trace_audit.specs.declared.verdict.AuditFault.{AuditFault}
-use Rattle.trace_audit.specs.declared.verdict.AuditFault.TheVariants as fault
+use Rattle.trace_audit.specs.declared.judgement.AuditFault.{AuditFault}
+use Rattle.trace_audit.specs.declared.judgement.AuditFault.TheVariants as fault
 use Rattle.trace_audit.proofs.Pushing.{head_same, tail_same}
-use Rattle.trace_audit.specs.Verdicts.{cause_of, cause_at, first_cause, IsFirstCause, HasNoCause, read_lines, IsGoodWith, IsVerdict}
+use Rattle.trace_audit.specs.Judgements.{cause_of, cause_at, first_cause, IsFirstCause, HasNoCause, read_lines, IsGoodWith, IsJudgement}
 
 some_same : {a b : ℕ} → Some a ≡ Some b → a ≡ b
 some_same e = cc
@@ -32,12 +32,12 @@ longer (x ∷ xs) l a (y ∷ ys) rest e lt =
 
 -- ## the first bad line
 
-module _ (lines : List Line) where
+module _ (lines : List TraceLine) where
   earlier : (n m : ℕ) (p : IsFirstBad lines n) (q : IsFirstBad lines m) → length p.before < length q.before → ⊥
   earlier n m p q lt = by p.bad q.bad
     where
-      by : ((l : Line) × (after : List Line) × (lines ≡ p.before ++ l ∷ after) × ¬ IsGoodLine p.before l) ⊎ ((lines ≡ p.before) × (has_ended lines ≡ false))
-          → ((l : Line) × (after : List Line) × (lines ≡ q.before ++ l ∷ after) × ¬ IsGoodLine q.before l) ⊎ ((lines ≡ q.before) × (has_ended lines ≡ false)) → ⊥
+      by : ((l : TraceLine) × (after : List TraceLine) × (lines ≡ p.before ++ l ∷ after) × ¬ IsGoodLine p.before l) ⊎ ((lines ≡ p.before) × (has_ended lines ≡ false))
+          → ((l : TraceLine) × (after : List TraceLine) × (lines ≡ q.before ++ l ∷ after) × ¬ IsGoodLine q.before l) ⊎ ((lines ≡ q.before) × (has_ended lines ≡ false)) → ⊥
       by (inl a) (inl b) = let r = longer p.before a.0 a.1 q.before (b.0 ∷ b.1) (sym a.2 ∙ b.2) lt in a.3 (q.good p.before a.0 r.0 r.1)
       by (inl a) (inr b) = let r = longer p.before a.0 a.1 q.before [] (sym a.2 ∙ b.0 ∙ sym (append-nil q.before)) lt in a.3 (q.good p.before a.0 r.0 r.1)
       by (inr a) (inl b) = let e = ap length (sym a.0 ∙ b.2) in let k = length-append q.before (b.0 ∷ b.1) in omega arith
@@ -56,15 +56,15 @@ module _ (lines : List Line) where
   good_bad : (n : ℕ) → IsGood lines → IsFirstBad lines n → ⊥
   good_bad n g p = by p.bad
     where
-      by : ((l : Line) × (after : List Line) × (lines ≡ p.before ++ l ∷ after) × ¬ IsGoodLine p.before l) ⊎ ((lines ≡ p.before) × (has_ended lines ≡ false)) → ⊥
+      by : ((l : TraceLine) × (after : List TraceLine) × (lines ≡ p.before ++ l ∷ after) × ¬ IsGoodLine p.before l) ⊎ ((lines ≡ p.before) × (has_ended lines ≡ false)) → ⊥
       by (inl a) = a.3 (g.each p.before a.0 a.1 a.2)
       by (inr a) = false≢true (sym a.1 ∙ g.ended)
 
-pub one_verdict : (text : List ℕ) (v w : Verdict) → IsVerdict text v → IsVerdict text w → v ≡ w
-one_verdict text (verdict.Yes a b) (verdict.Yes c d) h k = ap (λ n. verdict.Yes n b) (h.1 ∙ sym k.1) ∙ ap (λ n. verdict.Yes c n) (h.2 ∙ sym k.2)
-one_verdict text (verdict.Yes a b) (verdict.No m) h k = absurd (good_bad (read_lines text) m h.0 k)
-one_verdict text (verdict.No n) (verdict.Yes c d) h k = absurd (good_bad (read_lines text) n k.0 h)
-one_verdict text (verdict.No n) (verdict.No m) h k = ap verdict.No (one_bad (read_lines text) n m h k)
+pub one_verdict : (text : List ℕ) (v w : Judgement) → IsJudgement text v → IsJudgement text w → v ≡ w
+one_verdict text (judgement.Yes a b) (judgement.Yes c d) h k = ap (λ n. judgement.Yes n b) (h.1 ∙ sym k.1) ∙ ap (λ n. judgement.Yes c n) (h.2 ∙ sym k.2)
+one_verdict text (judgement.Yes a b) (judgement.No m) h k = absurd (good_bad (read_lines text) m h.0 k)
+one_verdict text (judgement.No n) (judgement.Yes c d) h k = absurd (good_bad (read_lines text) n k.0 h)
+one_verdict text (judgement.No n) (judgement.No m) h k = ap judgement.No (one_bad (read_lines text) n m h k)
 
 -- ## the first cause
 
@@ -135,19 +135,19 @@ is_first lines a n p =
 
 -- ## each answer exactly where it is so
 
-pub yes_exactly : (text : List ℕ) (v : Verdict) → IsVerdict text v → (calls left : ℕ) → (v ≡ verdict.Yes calls left) ↔ IsGoodWith (read_lines text) calls left
-yes_exactly text v h calls left = (λ e. subst (λ w. IsVerdict text w) e h, λ good. one_verdict text v (verdict.Yes calls left) h good)
+pub yes_exactly : (text : List ℕ) (v : Judgement) → IsJudgement text v → (calls left : ℕ) → (v ≡ judgement.Yes calls left) ↔ IsGoodWith (read_lines text) calls left
+yes_exactly text v h calls left = (λ e. subst (λ w. IsJudgement text w) e h, λ good. one_verdict text v (judgement.Yes calls left) h good)
 
-pub no_exactly : (text : List ℕ) (v : Verdict) → IsVerdict text v → (n : ℕ) → (v ≡ verdict.No n) ↔ IsFirstBad (read_lines text) n
-no_exactly text v h n = (λ e. subst (λ w. IsVerdict text w) e h, λ bad. one_verdict text v (verdict.No n) h bad)
+pub no_exactly : (text : List ℕ) (v : Judgement) → IsJudgement text v → (n : ℕ) → (v ≡ judgement.No n) ↔ IsFirstBad (read_lines text) n
+no_exactly text v h n = (λ e. subst (λ w. IsJudgement text w) e h, λ bad. one_verdict text v (judgement.No n) h bad)
 
 abbrev answer : Type 0
-answer = Result Verdict AuditFault
+answer = Result Judgement AuditFault
 
 abbrev refusal : ℕ → ℕ → answer
 refusal cause n = Err (fault.Refused cause n)
 
-abbrev the_answer : Verdict → answer
+abbrev the_answer : Judgement → answer
 the_answer v = Ok v
 
 abbrev out_of_memory : answer
@@ -165,7 +165,7 @@ refused_exactly lines a n h b m = (
 not_refused : (r : answer) → ((b m : ℕ) → r ≡ refusal b m → ⊥) → (lines : List (List ℕ)) → HasNoCause lines → (b m : ℕ) → (r ≡ refusal b m) ↔ IsFirstCause lines b m
 not_refused r other lines all b m = (λ e. absurd (other b m e), λ h. absurd (no_cause_here lines b m all h))
 
-verdict_not : (v : Verdict) (b m : ℕ) → (the_answer v) ≡ refusal b m → ⊥
+verdict_not : (v : Judgement) (b m : ℕ) → (the_answer v) ≡ refusal b m → ⊥
 verdict_not v b m e = cc
 
 memory_not : (b m : ℕ) → out_of_memory ≡ refusal b m → ⊥
@@ -174,7 +174,7 @@ memory_not b m e = cc
 pub first_refused : (r : answer) (lines : List (List ℕ)) → ((b m : ℕ) → (r ≡ refusal b m) ↔ IsFirstCause lines b m) → (b m : ℕ) → r ≡ refusal b m → first_cause 1 lines ≡ Some (b, m)
 first_refused r lines exactly b m e = is_first lines b m ((exactly b m).0 e)
 
-pub judged : (v : Verdict) (lines : List (List ℕ)) → HasNoCause lines → (b m : ℕ) → (the_answer v ≡ refusal b m) ↔ IsFirstCause lines b m
+pub judged : (v : Judgement) (lines : List (List ℕ)) → HasNoCause lines → (b m : ℕ) → (the_answer v ≡ refusal b m) ↔ IsFirstCause lines b m
 judged v = not_refused (the_answer v) (verdict_not v)
 
 pub unjudged : (lines : List (List ℕ)) → HasNoCause lines → (b m : ℕ) → (out_of_memory ≡ refusal b m) ↔ IsFirstCause lines b m

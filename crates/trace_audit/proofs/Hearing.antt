@@ -8,7 +8,7 @@ use Rattle.trace_audit.specs.declared.book.Open.{Open}
 use Rattle.trace_audit.specs.declared.reading.Saying.{Saying}
 use Rattle.trace_audit.specs.declared.reading.Saying.TheVariants as saying
 use Rattle.trace_audit.specs.Rules.{IsOffered, IsClosed, MayOffer, MayTake, MayClose}
-use Rattle.trace_audit.specs.Books.{Calls, Kept, calls_with, open_by, IsTold, HasHeard, Hears, Notes}
+use Rattle.trace_audit.specs.Books.{CallBook, Kept, calls_with, open_by, IsTold, HasHeard, Hears, Notes}
 use Rattle.trace_audit.proofs.Telling.{IsSameBut, one_client, held_none, none_some, some_same, may_offer, may_take, may_close, open_as, told_offer, told_take, told_close, told_aside, nothing_offers, nothing_takes, nothing_closes}
 use Rattle.trace_audit.proofs.Counting.{count_aside, count_offer, count_close}
 
@@ -26,7 +26,7 @@ same_but i held held' h q ne = h q (away i q ne)
 abbrev pub added : Option Open → ℕ
 added o = cond (is_some o) 0 1
 
-module _ (said : List Saying) (x y : Calls) (h : IsTold said x) where
+module _ (said : List Saying) (x y : CallBook) (h : IsTold said x) where
   pub hears_offer : (k i : ℕ) → k ≡ length x.clients + 1 → x.held i ≡ None → y.clients ≡ x.clients ++ i ∷ [] → IsElsewhere i x.held y.held → y.held i ≡ Some (record { call = k; taken = false }) → (o : Option Open) → o ≡ x.held i → y.left ≡ x.left + added o → MayOffer said k i × IsTold (said ++ saying.Offers k i ∷ []) y
   hears_offer k i number free clients others here o was left = (
     may_offer said x h k i number free,
@@ -49,7 +49,7 @@ module _ (said : List Saying) (x y : Calls) (h : IsTold said x) where
         told_close said x y k i taken answer h at clients (same_but i x.held y.held others) here (count_close said k x.left y.left answer a.still (h.once k i a.offered) h.count less),
       )
 
-pub hears_nothing : (said : List Saying) (x : Calls) → IsTold said x → (s : Saying) → s ≡ saying.Nothing → Hears said s x true
+pub hears_nothing : (said : List Saying) (x : CallBook) → IsTold said x → (s : Saying) → s ≡ saying.Nothing → Hears said s x true
 hears_nothing said x h s e = subst (λ t. Hears said t x true) (sym e) (tt, told_aside said x saying.Nothing h nothing_offers nothing_takes nothing_closes refl (count_aside said saying.Nothing x.left (λ j. refl) refl h.count))
 
 -- ## the same of what a book keeps

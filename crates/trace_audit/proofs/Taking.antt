@@ -4,13 +4,13 @@ use Rattle.std.specs.Prelude.{All, count_by}
 use Rattle.std.proofs.lemmas.List.{length-append}
 use Rattle.std.proofs.lemmas.List.Elements.{All-nil, All-push}
 use Rattle.trace_audit.specs.declared.book.Book.{Book}
-use Rattle.trace_audit.specs.declared.reading.Line.{Line}
-use Rattle.trace_audit.specs.declared.verdict.Verdict.TheVariants as verdict
+use Rattle.trace_audit.specs.declared.reading.TraceLine.{TraceLine}
+use Rattle.trace_audit.specs.declared.judgement.Judgement.TheVariants as judgement
 use Rattle.trace_audit.specs.Texts.{lines_of}
 use Rattle.trace_audit.specs.Meaning.{read}
 use Rattle.trace_audit.specs.Rules.{said, is_offer, is_left, has_ended, AreGood}
 use Rattle.trace_audit.specs.Books.{kept_in, IsKept, Adds}
-use Rattle.trace_audit.specs.Verdicts.{cause_of, IsFirstCause, HasNoCause, read_lines, IsVerdict}
+use Rattle.trace_audit.specs.Judgements.{cause_of, IsFirstCause, HasNoCause, read_lines, IsJudgement}
 use Rattle.trace_audit.specs.Midway.{IsMidway, IsFineSoFar, IsGoodSoFar}
 use Rattle.trace_audit.proofs.Adding.{good_none, good_push}
 
@@ -54,7 +54,7 @@ module _ (text rest more line : List ℕ) (n : ℕ) (next : lines_of rest ≡ li
     kept = subst (λ ls. IsKept ls c) (sym (map_push h.taken.done line)) a.1;
   }
 
-  pub first_bad : (b c : Book) → (h : IsGoodSoFar text rest n b) → Adds (map read h.taken.done) (read line) c false → IsVerdict text (verdict.No (n + 1))
+  pub first_bad : (b c : Book) → (h : IsGoodSoFar text rest n b) → Adds (map read h.taken.done) (read line) c false → IsJudgement text (judgement.No (n + 1))
   first_bad b c h a = record {
     before = map read h.taken.done;
     good = h.good;
@@ -78,7 +78,7 @@ module _ (text rest : List ℕ) (n : ℕ) (over : lines_of rest ≡ []) where
   read_all : (t : IsMidway text rest n) → read_lines text ≡ map read t.done
   read_all t = ap (map read) (all_done t)
 
-  pub good_end : (b : Book) (calls left : ℕ) → IsGoodSoFar text rest n b → b.ended ≡ true → calls ≡ b.offered → left ≡ (kept_in b).left → IsVerdict text (verdict.Yes calls left)
+  pub good_end : (b : Book) (calls left : ℕ) → IsGoodSoFar text rest n b → b.ended ≡ true → calls ≡ b.offered → left ≡ (kept_in b).left → IsJudgement text (judgement.Yes calls left)
   good_end b calls left h ended c l =
       let e = sym (read_all h.taken) in (
         record { each = subst AreGood e h.good; ended = subst (λ ls. has_ended ls ≡ true) e (sym h.kept.ended ∙ ended) },
@@ -86,7 +86,7 @@ module _ (text rest : List ℕ) (n : ℕ) (over : lines_of rest ≡ []) where
         l ∙ h.kept.heard.told.count ∙ ap (λ ls. count_by (is_left (map said ls)) (map said ls)) e,
       )
 
-  pub no_end : (b : Book) → IsGoodSoFar text rest n b → b.ended ≡ false → IsVerdict text (verdict.No (n + 1))
+  pub no_end : (b : Book) → IsGoodSoFar text rest n b → b.ended ≡ false → IsJudgement text (judgement.No (n + 1))
   no_end b h going = record {
     before = map read h.taken.done;
     good = h.good;
@@ -94,5 +94,5 @@ module _ (text rest : List ℕ) (n : ℕ) (over : lines_of rest ≡ []) where
     bad = inr (read_all h.taken, subst (λ ls. has_ended ls ≡ false) (sym (read_all h.taken)) (sym h.kept.ended ∙ going));
   }
 
-pub adds_so : (lines : List Line) (l m : Line) (b : Book) (good so : Bool) → m ≡ l → good ≡ so → Adds lines m b good → Adds lines l b so
+pub adds_so : (lines : List TraceLine) (l m : TraceLine) (b : Book) (good so : Bool) → m ≡ l → good ≡ so → Adds lines m b good → Adds lines l b so
 adds_so lines l m b good so e g h = subst (λ z. Adds lines l b z) g (subst (λ z. Adds lines z b good) e h)

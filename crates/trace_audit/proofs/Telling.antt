@@ -11,7 +11,7 @@ use Rattle.trace_audit.specs.declared.book.Open.{Open}
 use Rattle.trace_audit.specs.declared.reading.Saying.{Saying}
 use Rattle.trace_audit.specs.declared.reading.Saying.TheVariants as saying
 use Rattle.trace_audit.specs.Rules.{is_offer, is_left, IsOffered, IsTaken, IsClosed, MayOffer, MayTake, MayClose, MayBorrow}
-use Rattle.trace_audit.specs.Books.{Calls, is_numbered, as_open, open_by, IsOpenAs, IsTold}
+use Rattle.trace_audit.specs.Books.{CallBook, is_numbered, as_open, open_by, IsOpenAs, IsTold}
 
 -- ## what one more saying adds
 
@@ -79,7 +79,7 @@ some_same e = cc
 pub true_false : {A : Type 0} → true ≡ false → A
 true_false e = cc
 
-module _ (before : List Saying) (x : Calls) (h : IsTold before x) where
+module _ (before : List Saying) (x : CallBook) (h : IsTold before x) where
   -- the call of a client is the only open one that it offered
   pub only : (k i : ℕ) (o : Open) → x.held i ≡ Some o → IsOffered before k i → ¬ IsClosed before k → o.call ≡ k
   only k i o e offered still = let l = h.left k i offered still in ap (λ (z : Open). z.call) (some_same (sym e ∙ l.1)) ∙ l.2
@@ -154,7 +154,7 @@ numbered_plain k (saying.Borrows j) e = refl
 numbered_plain k saying.Nothing e = refl
 
 -- an offer
-pub told_offer : (before : List Saying) (x y : Calls) (k i : ℕ) → IsTold before x → k ≡ length x.clients + 1 → x.held i ≡ None → y.clients ≡ x.clients ++ i ∷ [] → IsSameBut i x.held y.held → y.held i ≡ Some (record { call = k; taken = false }) → y.left ≡ count_by (is_left (before ++ saying.Offers k i ∷ [])) (before ++ saying.Offers k i ∷ []) → IsTold (before ++ saying.Offers k i ∷ []) y
+pub told_offer : (before : List Saying) (x y : CallBook) (k i : ℕ) → IsTold before x → k ≡ length x.clients + 1 → x.held i ≡ None → y.clients ≡ x.clients ++ i ∷ [] → IsSameBut i x.held y.held → y.held i ≡ Some (record { call = k; taken = false }) → y.left ≡ count_by (is_left (before ++ saying.Offers k i ∷ [])) (before ++ saying.Offers k i ∷ []) → IsTold (before ++ saying.Offers k i ∷ []) y
 told_offer before x y k i h number free clients same here count = record {
   number = ap length clients ∙ length-append x.clients (i ∷ []) ∙ ap (λ n. n + 1) h.number ∙ sym (count_push is_offer before s 1 refl);
   client = λ j lt. client j lt;
@@ -226,7 +226,7 @@ told_offer before x y k i h number free clients same here count = record {
     left j l still (inr new) = (record { call = k; taken = false }, ap y.held (offers_client k i j l new) ∙ here, sym (offers_number k i j l new))
 
 -- a take of call k, which client i has open
-pub told_take : (before : List Saying) (x y : Calls) (k i : ℕ) → IsTold before x → x.held i ≡ Some (record { call = k; taken = false }) → y.clients ≡ x.clients → IsSameBut i x.held y.held → y.held i ≡ Some (record { call = k; taken = true }) → y.left ≡ count_by (is_left (before ++ saying.Takes k ∷ [])) (before ++ saying.Takes k ∷ []) → IsTold (before ++ saying.Takes k ∷ []) y
+pub told_take : (before : List Saying) (x y : CallBook) (k i : ℕ) → IsTold before x → x.held i ≡ Some (record { call = k; taken = false }) → y.clients ≡ x.clients → IsSameBut i x.held y.held → y.held i ≡ Some (record { call = k; taken = true }) → y.left ≡ count_by (is_left (before ++ saying.Takes k ∷ [])) (before ++ saying.Takes k ∷ []) → IsTold (before ++ saying.Takes k ∷ []) y
 told_take before x y k i h was clients same here count = record {
   number = ap length clients ∙ h.number ∙ sym (count_push is_offer before s 0 refl ∙ (let q : count_by is_offer before + 0 ≡ count_by is_offer before = omega arith in q));
   client = λ j lt. offered_more before s (j + 1) _ (subst (λ xs. IsOffered before (j + 1) (get_or xs j 0)) (sym clients) (h.client j (subst (λ xs. j < length xs) clients lt)));
@@ -273,7 +273,7 @@ told_take before x y k i h was clients same here count = record {
         (z.0, same l ne.1 ∙ z.1, z.2)
 
 -- a close of call k, which client i has open
-pub told_close : (before : List Saying) (x y : Calls) (k i : ℕ) (taken answer : Bool) → IsTold before x → x.held i ≡ Some (record { call = k; taken = taken }) → y.clients ≡ x.clients → IsSameBut i x.held y.held → y.held i ≡ None → y.left ≡ count_by (is_left (before ++ saying.Closes k answer ∷ [])) (before ++ saying.Closes k answer ∷ []) → IsTold (before ++ saying.Closes k answer ∷ []) y
+pub told_close : (before : List Saying) (x y : CallBook) (k i : ℕ) (taken answer : Bool) → IsTold before x → x.held i ≡ Some (record { call = k; taken = taken }) → y.clients ≡ x.clients → IsSameBut i x.held y.held → y.held i ≡ None → y.left ≡ count_by (is_left (before ++ saying.Closes k answer ∷ [])) (before ++ saying.Closes k answer ∷ []) → IsTold (before ++ saying.Closes k answer ∷ []) y
 told_close before x y k i taken answer h was clients same here count = record {
   number = ap length clients ∙ h.number ∙ sym (count_push is_offer before s 0 refl ∙ (let q : count_by is_offer before + 0 ≡ count_by is_offer before = omega arith in q));
   client = λ j lt. offered_more before s (j + 1) _ (subst (λ xs. IsOffered before (j + 1) (get_or xs j 0)) (sym clients) (h.client j (subst (λ xs. j < length xs) clients lt)));
@@ -314,7 +314,7 @@ told_close before x y k i taken answer h was clients same here count = record {
         (z.0, same l ne.1 ∙ z.1, z.2)
 
 -- what says nothing of offers, takes and closes
-pub told_aside : (before : List Saying) (x : Calls) (s : Saying) → IsTold before x → ((k i : ℕ) → s ≡ saying.Offers k i → ⊥) → ((k : ℕ) → s ≡ saying.Takes k → ⊥) → ((k : ℕ) (answer : Bool) → s ≡ saying.Closes k answer → ⊥) → is_offer s ≡ false → x.left ≡ count_by (is_left (before ++ s ∷ [])) (before ++ s ∷ []) → IsTold (before ++ s ∷ []) x
+pub told_aside : (before : List Saying) (x : CallBook) (s : Saying) → IsTold before x → ((k i : ℕ) → s ≡ saying.Offers k i → ⊥) → ((k : ℕ) → s ≡ saying.Takes k → ⊥) → ((k : ℕ) (answer : Bool) → s ≡ saying.Closes k answer → ⊥) → is_offer s ≡ false → x.left ≡ count_by (is_left (before ++ s ∷ [])) (before ++ s ∷ []) → IsTold (before ++ s ∷ []) x
 told_aside before x s h no_offer no_take no_close plain count = record {
   number = h.number ∙ sym (count_push is_offer before s 0 (ap (λ b. cond b 1 0) plain) ∙ (let q : count_by is_offer before + 0 ≡ count_by is_offer before = omega arith in q));
   client = λ j lt. offered_more before s (j + 1) _ (h.client j lt);
@@ -333,7 +333,7 @@ told_aside before x s h no_offer no_take no_close plain count = record {
 
 -- ## what is found at a number
 
-module _ (before : List Saying) (x : Calls) (h : IsTold before x) where
+module _ (before : List Saying) (x : CallBook) (h : IsTold before x) where
   pub held_none : (k j : ℕ) (o : Option Open) → x.held j ≡ o → as_open k j o ≡ None → (z : Open) → x.held j ≡ Some z → z.call ≡ k → ⊥
   held_none k j None is e z at same = none_some (sym is ∙ at)
   held_none k j (Some o) is e z at same = elim (eqb_tells o.call k) [
@@ -375,7 +375,7 @@ some_there : (o : Option Open) → is_some o ≡ true → (p : Open) × (o ≡ S
 some_there None e = true_false (sym e)
 some_there (Some o) e = (o, refl)
 
-pub not_free_some : (before : List Saying) (x : Calls) (h : IsTold before x) (k i : ℕ) → is_some (x.held i) ≡ true → ¬ MayOffer before k i
+pub not_free_some : (before : List Saying) (x : CallBook) (h : IsTold before x) (k i : ℕ) → is_some (x.held i) ≡ true → ¬ MayOffer before k i
 not_free_some before x h k i e = let p = some_there (x.held i) e in not_free before x h k i p.0 p.1
 
 pub nothing_offers : {A : Type 0} (k i : ℕ) → saying.Nothing ≡ saying.Offers k i → A

@@ -4,15 +4,15 @@ use Rattle.std.specs.BTreeMap.{get, btree_map_len}
 use Rattle.std.specs.Ordering.{nat_cmp}
 use Rattle.trace_audit.specs.declared.book.Book.{Book}
 use Rattle.trace_audit.specs.declared.book.Open.{Open}
-use Rattle.trace_audit.specs.declared.reading.Line.{Line}
+use Rattle.trace_audit.specs.declared.reading.TraceLine.{TraceLine}
 use Rattle.trace_audit.specs.declared.reading.Saying.{Saying}
 use Rattle.trace_audit.specs.declared.reading.Saying.TheVariants as saying
-use Rattle.trace_audit.specs.declared.reading.Wait.{Wait}
-use Rattle.trace_audit.specs.declared.reading.Wait.TheVariants as wait
+use Rattle.trace_audit.specs.declared.reading.FinalWait.{FinalWait}
+use Rattle.trace_audit.specs.declared.reading.FinalWait.TheVariants as wait
 use Rattle.trace_audit.specs.Rules.{said, is_offer, is_left, IsOffered, IsTaken, IsClosed, IsGoodSaying, IsGoodLine, turn_after, has_ended}
 
 -- the clients of the calls in the order of their numbers, the open call of each client, and how many are open
-pub record Calls : Type 0 where
+pub record CallBook : Type 0 where
   pub clients : List ℕ
   pub held : ℕ → Option Open
   pub left : ℕ
@@ -27,7 +27,7 @@ abbrev pub open_by : (ℕ → Option Open) → ℕ → Option ℕ → Option (�
 open_by held k None = None
 open_by held k (Some i) = as_open k i (held i)
 
-abbrev pub waits_as : Option Open → Wait → Bool
+abbrev pub waits_as : Option Open → FinalWait → Bool
 waits_as None (wait.Offered k) = false
 waits_as None (wait.Taken k) = false
 waits_as None wait.Other = true
@@ -51,7 +51,7 @@ pub record IsOpenAs (before : List Saying) (k i : ℕ) (taken : Bool) : Type 0 w
   pub no : taken ≡ false → ¬ IsTaken before k
 
 -- the calls are those of which the lines say so
-pub record IsTold (before : List Saying) (x : Calls) : Type 0 where
+pub record IsTold (before : List Saying) (x : CallBook) : Type 0 where
   pub number : length x.clients ≡ count_by is_offer before
   pub client : (k : ℕ) → k < length x.clients → IsOffered before (k + 1) (slice_index x.clients k)
   pub least : (k i : ℕ) → IsOffered before k i → 1 ≤ k
@@ -67,7 +67,7 @@ pub record IsTold (before : List Saying) (x : Calls) : Type 0 where
   pub count : x.left ≡ count_by (is_left before) before
 
 -- what is said is good, and the calls are then these; or it is not
-abbrev pub Hears : List Saying → Saying → Calls → Bool → Type 0
+abbrev pub Hears : List Saying → Saying → CallBook → Bool → Type 0
 Hears before s x true = IsGoodSaying before s × IsTold (before ++ s ∷ []) x
 Hears before s x false = ¬ IsGoodSaying before s
 
@@ -83,7 +83,7 @@ pub record Kept : Type 0 where
 abbrev pub kept_in : Book → Kept
 kept_in b = record { offered = b.offered; client = get nat_cmp b.clients; held = get nat_cmp b.calls; left = btree_map_len b.calls }
 
-abbrev pub calls_with : List ℕ → Kept → Calls
+abbrev pub calls_with : List ℕ → Kept → CallBook
 calls_with clients b = record { clients = clients; held = b.held; left = b.left }
 
 -- a book keeps it of the calls of which the lines say so, whose clients are known though it has them of open ones alone
@@ -104,12 +104,12 @@ pub record IsRest (b c : Book) : Type 0 where
   pub ended : c.ended ≡ b.ended
 
 -- the book is that of these lines
-pub record IsKept (lines : List Line) (b : Book) : Type 0 where
+pub record IsKept (lines : List TraceLine) (b : Book) : Type 0 where
   pub turn : b.turn ≡ turn_after 0 lines
   pub ended : b.ended ≡ has_ended lines
   pub heard : HasHeard (map said lines) (kept_in b)
 
 -- the line is good, and the book is then that of it too; or it is not
-abbrev pub Adds : List Line → Line → Book → Bool → Type 0
+abbrev pub Adds : List TraceLine → TraceLine → Book → Bool → Type 0
 Adds lines l b true = IsGoodLine lines l × IsKept (lines ++ l ∷ []) b
 Adds lines l b false = ¬ IsGoodLine lines l

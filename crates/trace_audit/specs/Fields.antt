@@ -4,8 +4,8 @@ use Rattle.std.specs.List.{list_any, list_all}
 use Rattle.text_lines.specs.Text.{is_digit, is_between}
 use Rattle.trace_audit.specs.declared.forms.Field.{Field}
 use Rattle.trace_audit.specs.declared.forms.Field.TheVariants as field
-use Rattle.trace_audit.specs.declared.forms.Kind.{Kind}
-use Rattle.trace_audit.specs.declared.forms.Kind.TheVariants as kind
+use Rattle.trace_audit.specs.declared.forms.LineKind.{LineKind}
+use Rattle.trace_audit.specs.declared.forms.LineKind.TheVariants as kind
 use Rattle.trace_audit.specs.Texts.{plain_number, most_number, most_time}
 
 -- ## words
@@ -109,16 +109,16 @@ are_of (f ∷ fs) text [] = false
 are_of (f ∷ fs) text (word ∷ words) = is_of f word && are_of fs text words
 
 -- the form of a line: its name, what it says, and its fields behind the name
-pub record Form : Type 0 where
+pub record LineForm : Type 0 where
   pub name : List ℕ
-  pub kind : Kind
+  pub kind : LineKind
   pub fields : List Field
 
-abbrev pub form : List ℕ → Kind → List Field → Form
+abbrev pub form : List ℕ → LineKind → List Field → LineForm
 form name kind fields = record { name = name; kind = kind; fields = fields }
 
 -- the lines of a turn, without its number
-abbrev pub turn_forms : List Form
+abbrev pub turn_forms : List LineForm
 turn_forms =
     form (codes "tick") kind.Plain (field.Time ∷ [])
     ∷ form (codes "irq") kind.Plain (field.Number ∷ field.Handled ∷ [])
@@ -143,7 +143,7 @@ turn_forms =
     ∷ []
 
 -- the lines after the end
-abbrev pub last_forms : List Form
+abbrev pub last_forms : List LineForm
 last_forms =
     form (codes "task") kind.Task (field.Number ∷ field.Number ∷ field.Health ∷ field.Wait ∷ field.Word ∷ field.Timer ∷ [])
     ∷ form (codes "low") kind.Plain (field.Word ∷ field.Word ∷ field.Word ∷ field.Word ∷ field.Word ∷ field.Word ∷ field.Word ∷ field.Word ∷ [])
@@ -152,15 +152,15 @@ last_forms =
     ∷ []
 
 -- the line that ends the turns
-abbrev pub end_form : Form
+abbrev pub end_form : LineForm
 end_form = form (codes "end") kind.Plain (field.End ∷ field.Number ∷ field.Time ∷ [])
 
-abbrev pub form_named : List ℕ → List Form → Option Form
+abbrev pub form_named : List ℕ → List LineForm → Option LineForm
 form_named name [] = None
 form_named name (f ∷ fs) = if bytes_eq name f.name then Some f else form_named name fs
 
 -- an instruction ends with its text
-abbrev pub ends_with_text : Kind → Bool
+abbrev pub ends_with_text : LineKind → Bool
 ends_with_text kind.Plain = false
 ends_with_text kind.Insn = true
 ends_with_text kind.Offer = false

@@ -5,7 +5,7 @@ use Rattle.trace_audit.specs.Texts.{lines_of}
 use Rattle.trace_audit.specs.Meaning.{read}
 use Rattle.trace_audit.specs.Rules.{AreGood}
 use Rattle.trace_audit.specs.Books.{IsKept}
-use Rattle.trace_audit.specs.Verdicts.{cause_of}
+use Rattle.trace_audit.specs.Judgements.{cause_of}
 
 pub record IsMidway (text rest : List ℕ) (n : ℕ) : Type 0 where
   pub done : List (List ℕ)

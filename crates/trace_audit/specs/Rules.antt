@@ -1,16 +1,16 @@
 -- When a line is good after those before it.
 use Rattle.std.specs.Prelude.{ℕ, ◌+◌, ◌≡◌, ◌≤◌, ◌↔◌, ◌⊎◌, Bool, true, false, ◌==◌, not, List, [], ◌∷◌, ◌++◌, length, map, count_by, Contains}
 use Rattle.std.specs.List.{list_any}
-use Rattle.trace_audit.specs.declared.reading.Line.{Line}
-use Rattle.trace_audit.specs.declared.reading.Line.TheVariants as line
+use Rattle.trace_audit.specs.declared.reading.TraceLine.{TraceLine}
+use Rattle.trace_audit.specs.declared.reading.TraceLine.TheVariants as line
 use Rattle.trace_audit.specs.declared.reading.Saying.{Saying}
 use Rattle.trace_audit.specs.declared.reading.Saying.TheVariants as saying
-use Rattle.trace_audit.specs.declared.reading.Wait.{Wait}
-use Rattle.trace_audit.specs.declared.reading.Wait.TheVariants as wait
+use Rattle.trace_audit.specs.declared.reading.FinalWait.{FinalWait}
+use Rattle.trace_audit.specs.declared.reading.FinalWait.TheVariants as wait
 
 -- ## what lines say of calls
 
-abbrev pub said : Line → Saying
+abbrev pub said : TraceLine → Saying
 said (line.Tells turn s) = s
 said line.Ends = saying.Nothing
 said (line.Waits task w) = saying.Nothing
@@ -31,7 +31,7 @@ closes k (saying.Closes j answer) = j == k
 closes k (saying.Borrows j) = false
 closes k saying.Nothing = false
 
-abbrev pub is_end : Line → Bool
+abbrev pub is_end : TraceLine → Bool
 is_end (line.Tells turn s) = false
 is_end line.Ends = true
 is_end (line.Waits task w) = false
@@ -80,12 +80,12 @@ IsGoodSaying before (saying.Borrows k) = MayBorrow before k
 IsGoodSaying before saying.Nothing = Unit {0}
 
 -- a task waits for an answer to a call exactly where it offered the call and no line closed it: as offered or as taken
-pub record IsGoodWait (before : List Saying) (i : ℕ) (w : Wait) : Type 0 where
+pub record IsGoodWait (before : List Saying) (i : ℕ) (w : FinalWait) : Type 0 where
   pub offered : (k : ℕ) → (w ≡ wait.Offered k) ↔ (IsOffered before k i × ¬ IsClosed before k × ¬ IsTaken before k)
   pub taken : (k : ℕ) → (w ≡ wait.Taken k) ↔ (IsOffered before k i × ¬ IsClosed before k × IsTaken before k)
 
 -- the number of the last turn that lines tell of, after turn n
-abbrev pub turn_after : ℕ → List Line → ℕ
+abbrev pub turn_after : ℕ → List TraceLine → ℕ
 turn_after n [] = n
 turn_after n (line.Tells turn s ∷ lines) = turn_after turn lines
 turn_after n (line.Ends ∷ lines) = turn_after n lines
@@ -93,16 +93,16 @@ turn_after n (line.Waits task w ∷ lines) = turn_after n lines
 turn_after n (line.Shows ∷ lines) = turn_after n lines
 turn_after n (line.Strange ∷ lines) = turn_after n lines
 
-abbrev pub has_ended : List Line → Bool
+abbrev pub has_ended : List TraceLine → Bool
 has_ended lines = list_any is_end lines
 
 -- a line of a turn stands before the end, and its turn is not below the one before
-pub record IsGoodTelling (before : List Line) (turn : ℕ) (s : Saying) : Type 0 where
+pub record IsGoodTelling (before : List TraceLine) (turn : ℕ) (s : Saying) : Type 0 where
   pub before_end : has_ended before ≡ false
   pub not_below : turn_after 0 before ≤ turn
   pub saying : IsGoodSaying (map said before) s
 
-abbrev pub IsGoodLine : List Line → Line → Type 0
+abbrev pub IsGoodLine : List TraceLine → TraceLine → Type 0
 IsGoodLine before (line.Tells turn s) = IsGoodTelling before turn s
 IsGoodLine before line.Ends = has_ended before ≡ false
 IsGoodLine before (line.Waits task w) = (has_ended before ≡ true) × IsGoodWait (map said before) task w
@@ -110,20 +110,20 @@ IsGoodLine before line.Shows = has_ended before ≡ true
 IsGoodLine before line.Strange = ⊥
 
 -- each line is good after those before it
-abbrev pub AreGood : List Line → Type 0
-AreGood lines = (before : List Line) (l : Line) (after : List Line) → lines ≡ before ++ l ∷ after → IsGoodLine before l
+abbrev pub AreGood : List TraceLine → Type 0
+AreGood lines = (before : List TraceLine) (l : TraceLine) (after : List TraceLine) → lines ≡ before ++ l ∷ after → IsGoodLine before l
 
 -- a good trace has besides a line that ends its turns
-pub record IsGood (lines : List Line) : Type 0 where
+pub record IsGood (lines : List TraceLine) : Type 0 where
   pub each : AreGood lines
   pub ended : has_ended lines ≡ true
 
 -- the n-th line is the first that is not good; without an end it is one past the last
-pub record IsFirstBad (lines : List Line) (n : ℕ) : Type 0 where
-  pub before : List Line
+pub record IsFirstBad (lines : List TraceLine) (n : ℕ) : Type 0 where
+  pub before : List TraceLine
   pub good : AreGood before
   pub number : n ≡ length before + 1
-  pub bad : ((l : Line) × (after : List Line) × (lines ≡ before ++ l ∷ after) × ¬ IsGoodLine before l) ⊎ ((lines ≡ before) × (has_ended lines ≡ false))
+  pub bad : ((l : TraceLine) × (after : List TraceLine) × (lines ≡ before ++ l ∷ after) × ¬ IsGoodLine before l) ⊎ ((lines ≡ before) × (has_ended lines ≡ false))
 
 -- an offered call that no line closes
 abbrev pub is_left : List Saying → Saying → Bool
@@ -133,8 +133,8 @@ is_left all (saying.Closes k answer) = false
 is_left all (saying.Borrows k) = false
 is_left all saying.Nothing = false
 
-abbrev pub offers_in : List Line → ℕ
+abbrev pub offers_in : List TraceLine → ℕ
 offers_in lines = count_by is_offer (map said lines)
 
-abbrev pub left_in : List Line → ℕ
+abbrev pub left_in : List TraceLine → ℕ
 left_in lines = count_by (is_left (map said lines)) (map said lines)

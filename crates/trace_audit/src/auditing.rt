@@ -2,18 +2,18 @@
 ghost use Rattle.std.specs.Prelude.{ℕ, ◌≡◌, ◌↔◌, IfOk, Err, Some, None};
 ghost use Rattle.trace_audit.specs.Rules.{IsFirstBad};
 ghost use Rattle.trace_audit.specs.Texts.{lines_of};
-ghost use Rattle.trace_audit.specs.Verdicts.{read_lines, HasNoCause, first_cause, IsFirstCause, IsGoodWith, IsVerdict};
+ghost use Rattle.trace_audit.specs.Judgements.{read_lines, HasNoCause, first_cause, IsFirstCause, IsGoodWith, IsJudgement};
 
 use crate::book::Book;
 use crate::causes::first_cause;
+use crate::judgement::{AuditFault, Judgement};
 use crate::pieces::Lines;
 use crate::reading::read;
-use crate::verdict::{AuditFault, Verdict};
 use std::alloc::{AllocError, Global};
 
 /// Whether the lines of a text are good, whatever bytes they have.
-fn verdict(alloc: Global, text: &[u8]) -> Result<Verdict, AllocError>
-    ensures { IfOk result (IsVerdict text.now) }
+fn judgement(alloc: Global, text: &[u8]) -> Result<Judgement, AllocError>
+    ensures { IfOk result (IsJudgement text.now) }
 {
     let mut book = Book::new(alloc);
     let mut lines = Lines::of(text);
@@ -22,16 +22,16 @@ fn verdict(alloc: Global, text: &[u8]) -> Result<Verdict, AllocError>
         number += 1;
         let good = book.add(read(line))?;
         if !good {
-            return Ok(Verdict::No { line: number });
+            return Ok(Judgement::No { line: number });
         }
     }
     if book.has_ended() {
-        Ok(Verdict::Yes {
+        Ok(Judgement::Yes {
             calls: book.offered(),
             left: book.left(),
         })
     } else {
-        Ok(Verdict::No { line: number + 1 })
+        Ok(Judgement::No { line: number + 1 })
     }
 }
 
@@ -45,9 +45,9 @@ fn verdict(alloc: Global, text: &[u8]) -> Result<Verdict, AllocError>
 ///
 /// `Refused` exactly where a line has a byte that no line of a trace has (cause 1), or too many bytes (cause 2), with the first
 /// such line and its cause; `Memory` where memory is short.
-pub fn audit(alloc: Global, text: &[u8]) -> Result<Verdict, AuditFault>
-    ensures yes { IfOk result (λ v. (calls left : ℕ) → (v ≡ Verdict.Yes calls left) ↔ IsGoodWith (read_lines text.now) calls left) }
-    ensures no { IfOk result (λ v. (n : ℕ) → (v ≡ Verdict.No n) ↔ IsFirstBad (read_lines text.now) n) }
+pub fn audit(alloc: Global, text: &[u8]) -> Result<Judgement, AuditFault>
+    ensures yes { IfOk result (λ v. (calls left : ℕ) → (v ≡ Judgement.Yes calls left) ↔ IsGoodWith (read_lines text.now) calls left) }
+    ensures no { IfOk result (λ v. (n : ℕ) → (v ≡ Judgement.No n) ↔ IsFirstBad (read_lines text.now) n) }
     ensures fine { IfOk result (λ v. HasNoCause (lines_of text.now)) }
     ensures exact { (cause n : ℕ) → (result ≡ Err (AuditFault.Refused cause n)) ↔ IsFirstCause (lines_of text.now) cause n }
     ensures first { (cause n : ℕ) → result ≡ Err (AuditFault.Refused cause n) → first_cause 1 (lines_of text.now) ≡ Some (cause, n) }
@@ -56,8 +56,8 @@ pub fn audit(alloc: Global, text: &[u8]) -> Result<Verdict, AuditFault>
     if let Some((cause, line)) = first_cause(text) {
         return Err(AuditFault::Refused { cause, line });
     }
-    match verdict(alloc, text) {
-        Ok(verdict) => Ok(verdict),
+    match judgement(alloc, text) {
+        Ok(judgement) => Ok(judgement),
         Err(_) => Err(AuditFault::Memory),
     }
 }

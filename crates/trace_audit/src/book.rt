@@ -3,7 +3,7 @@ ghost use Rattle.std.specs.Prelude.{◌≡◌, List, [], IfOk};
 ghost use Rattle.std.specs.BTreeMap.{get, btree_map_len};
 ghost use Rattle.std.specs.Ordering.{nat_cmp};
 
-use crate::reading::{Line, Saying, Wait};
+use crate::reading::{FinalWait, Saying, TraceLine};
 use std::alloc::{AllocError, Global};
 use std::collections::BTreeMap;
 
@@ -34,7 +34,7 @@ pub(crate) struct Book {
 impl Book {
     ghost use Rattle.trace_audit.specs.Books.{open_by, waits_as, kept_in, HasHeard, Notes, IsRest, IsKept, Adds};
     ghost use Rattle.trace_audit.specs.declared.reading.Saying.{Saying as Word};
-    ghost use Rattle.trace_audit.specs.declared.reading.Line.{Line as Said};
+    ghost use Rattle.trace_audit.specs.declared.reading.TraceLine.{TraceLine as Said};
 
     /// Of no line.
     pub(crate) fn new(alloc: Global) -> Book
@@ -178,21 +178,21 @@ impl Book {
     }
 
     /// Whether a task waits as it should.
-    fn is_waiting(&self, task: u64, wait: Wait) -> bool
+    fn is_waiting(&self, task: u64, wait: FinalWait) -> bool
         ensures { result ≡ waits_as (get nat_cmp self.now.calls task) wait }
     {
         match self.calls.get(&task) {
             None => {
                 match wait {
-                    Wait::Other => true,
-                    Wait::Offered(_) | Wait::Taken(_) => false,
+                    FinalWait::Other => true,
+                    FinalWait::Offered(_) | FinalWait::Taken(_) => false,
                 }
             }
             Some(open) => {
                 match wait {
-                    Wait::Offered(call) => open.call == call && !open.taken,
-                    Wait::Taken(call) => open.call == call && open.taken,
-                    Wait::Other => false,
+                    FinalWait::Offered(call) => open.call == call && !open.taken,
+                    FinalWait::Taken(call) => open.call == call && open.taken,
+                    FinalWait::Other => false,
                 }
             }
         }
@@ -200,7 +200,7 @@ impl Book {
 
     /// Takes a line of a turn, if it is good.
     fn tell(&mut self, turn: u64, saying: Saying) -> Result<bool, AllocError>
-        ensures { (lines : List Said) → IsKept lines self.old → IfOk result (Adds lines (Line.Tells turn saying) self.new) }
+        ensures { (lines : List Said) → IsKept lines self.old → IfOk result (Adds lines (TraceLine.Tells turn saying) self.new) }
     {
         if self.ended {
             return Ok(false);
@@ -214,7 +214,7 @@ impl Book {
 
     /// Takes the line that ends the turns, if none has come.
     fn end(&mut self) -> bool
-        ensures { (lines : List Said) → IsKept lines self.old → Adds lines Line.Ends self.new result }
+        ensures { (lines : List Said) → IsKept lines self.old → Adds lines TraceLine.Ends self.new result }
     {
         if self.ended {
             return false;
@@ -224,8 +224,8 @@ impl Book {
     }
 
     /// Whether the line of a task is good: it stands after the end, and the task waits as the lines of the turns say.
-    fn may_wait(&self, task: u64, wait: Wait) -> bool
-        ensures { (lines : List Said) → IsKept lines self.now → Adds lines (Line.Waits task wait) self.now result }
+    fn may_wait(&self, task: u64, wait: FinalWait) -> bool
+        ensures { (lines : List Said) → IsKept lines self.now → Adds lines (TraceLine.Waits task wait) self.now result }
     {
         if self.ended {
             self.is_waiting(task, wait)
@@ -236,21 +236,21 @@ impl Book {
 
     /// Whether a line that shows something is good: it stands after the end.
     fn may_show(&self) -> bool
-        ensures { (lines : List Said) → IsKept lines self.now → Adds lines Line.Shows self.now result }
+        ensures { (lines : List Said) → IsKept lines self.now → Adds lines TraceLine.Shows self.now result }
     {
         self.ended
     }
 
     /// Takes a line, if it is good after those before.
-    pub(crate) fn add(&mut self, line: Line) -> Result<bool, AllocError>
+    pub(crate) fn add(&mut self, line: TraceLine) -> Result<bool, AllocError>
         ensures { (lines : List Said) → IsKept lines self.old → IfOk result (Adds lines line self.new) }
     {
         match line {
-            Line::Tells(turn, saying) => self.tell(turn, saying),
-            Line::Ends => Ok(self.end()),
-            Line::Waits(task, wait) => Ok(self.may_wait(task, wait)),
-            Line::Shows => Ok(self.may_show()),
-            Line::Strange => Ok(false),
+            TraceLine::Tells(turn, saying) => self.tell(turn, saying),
+            TraceLine::Ends => Ok(self.end()),
+            TraceLine::Waits(task, wait) => Ok(self.may_wait(task, wait)),
+            TraceLine::Shows => Ok(self.may_show()),
+            TraceLine::Strange => Ok(false),
         }
     }
 }

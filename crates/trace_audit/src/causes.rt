@@ -1,8 +1,8 @@
 //! Lines that are no text of a trace.
-ghost use Rattle.std.specs.Prelude.{◌≡◌, ℕ, None, IfSome, IfNone};
+ghost use Rattle.std.specs.Prelude.{◌≡◌, None, IfSome, IfNone};
 ghost use Rattle.std.specs.List.{list_all};
 ghost use Rattle.trace_audit.specs.Texts.{lines_of};
-ghost use Rattle.trace_audit.specs.Verdicts.{is_printable, cause_of, IsFirstCause, HasNoCause};
+ghost use Rattle.trace_audit.specs.Judgements.{is_printable, cause_of, IsFirstCause, HasNoCause};
 
 use crate::pieces::Lines;
 
@@ -20,7 +20,7 @@ fn are_printable(line: &[u8]) -> bool
 }
 
 /// 1: a byte other than 32 to 126; 2: more than 159 bytes.
-#[tactic(auto, unfolding(crate::specs::Verdicts::cause_of))]
+#[tactic(auto, unfolding(crate::specs::Judgements::cause_of))]
 fn cause_of(line: &[u8]) -> Option<u8>
     ensures { result ≡ cause_of line.now }
 {

@@ -1,6 +1,6 @@
 //! The forms of lines, as tables: a further form is a row.
-ghost use Rattle.std.specs.Prelude.{◌≡◌, map, option_map, List, false};
-ghost use Rattle.trace_audit.specs.Fields.{are_of, has_text, are_over, ends_with_text, turn_forms, last_forms, end_form, form_named, is_rest};
+ghost use Rattle.std.specs.Prelude.{◌≡◌, option_map, false};
+ghost use Rattle.trace_audit.specs.Fields.{are_of, has_text, are_over, ends_with_text, form_named, is_rest};
 ghost use Rattle.trace_audit.specs.Views.{words_left, form_in, forms_in};
 
 use crate::fields::is_same;
@@ -45,7 +45,7 @@ pub enum Field {
 
 /// What a line is for an audit.
 #[derive(Clone, Copy)]
-pub enum Kind {
+pub enum LineKind {
     /// It says nothing of calls.
     Plain,
     /// It says nothing of calls, and ends with the text of an instruction.
@@ -64,32 +64,32 @@ pub enum Kind {
 
 /// The form of a line: its name, what it is, and the words behind the name.
 #[derive(Clone, Copy)]
-pub(crate) struct Form {
+pub(crate) struct LineForm {
     pub(crate) name: &'static [u8],
-    pub(crate) kind: Kind,
+    pub(crate) kind: LineKind,
     pub(crate) fields: &'static [Field],
 }
 
 /// The lines of a turn, behind its number.
-pub(crate) const TURN_FORMS: &[Form] = &[
-    Form {
+pub(crate) const TURN_FORMS: &[LineForm] = &[
+    LineForm {
         name: b"tick",
-        kind: Kind::Plain,
+        kind: LineKind::Plain,
         fields: &[Field::Time],
     },
-    Form {
+    LineForm {
         name: b"irq",
-        kind: Kind::Plain,
+        kind: LineKind::Plain,
         fields: &[Field::Number, Field::Handled],
     },
-    Form {
+    LineForm {
         name: b"post",
-        kind: Kind::Plain,
+        kind: LineKind::Plain,
         fields: &[Field::Number, Field::Word, Field::Word],
     },
-    Form {
+    LineForm {
         name: b"call",
-        kind: Kind::Plain,
+        kind: LineKind::Plain,
         fields: &[
             Field::Number,
             Field::Number,
@@ -102,24 +102,24 @@ pub(crate) const TURN_FORMS: &[Form] = &[
             Field::Word,
         ],
     },
-    Form {
+    LineForm {
         name: b"offer",
-        kind: Kind::Offer,
+        kind: LineKind::Offer,
         fields: &[Field::Number, Field::Number, Field::Number],
     },
-    Form {
+    LineForm {
         name: b"take",
-        kind: Kind::Take,
+        kind: LineKind::Take,
         fields: &[Field::Number, Field::Number],
     },
-    Form {
+    LineForm {
         name: b"listen",
-        kind: Kind::Plain,
+        kind: LineKind::Plain,
         fields: &[Field::Number, Field::Listened, Field::Word],
     },
-    Form {
+    LineForm {
         name: b"borrow",
-        kind: Kind::Borrow,
+        kind: LineKind::Borrow,
         fields: &[
             Field::Number,
             Field::Borrow,
@@ -128,9 +128,9 @@ pub(crate) const TURN_FORMS: &[Form] = &[
             Field::Number,
         ],
     },
-    Form {
+    LineForm {
         name: b"ret",
-        kind: Kind::Plain,
+        kind: LineKind::Plain,
         fields: &[
             Field::Number,
             Field::Word,
@@ -141,58 +141,58 @@ pub(crate) const TURN_FORMS: &[Form] = &[
             Field::Word,
         ],
     },
-    Form {
+    LineForm {
         name: b"close",
-        kind: Kind::Close,
+        kind: LineKind::Close,
         fields: &[Field::Number, Field::Ending],
     },
-    Form {
+    LineForm {
         name: b"fault",
-        kind: Kind::Plain,
+        kind: LineKind::Plain,
         fields: &[Field::Number, Field::Number, Field::Word, Field::Word],
     },
-    Form {
+    LineForm {
         name: b"restart",
-        kind: Kind::Plain,
+        kind: LineKind::Plain,
         fields: &[Field::Number, Field::Number],
     },
-    Form {
+    LineForm {
         name: b"in",
-        kind: Kind::Plain,
+        kind: LineKind::Plain,
         fields: &[Field::Number, Field::Byte, Field::Fed],
     },
-    Form {
+    LineForm {
         name: b"out",
-        kind: Kind::Plain,
+        kind: LineKind::Plain,
         fields: &[Field::Number, Field::Byte],
     },
-    Form {
+    LineForm {
         name: b"irqstat",
-        kind: Kind::Plain,
+        kind: LineKind::Plain,
         fields: &[Field::Number, Field::Word, Field::Number],
     },
-    Form {
+    LineForm {
         name: b"find",
-        kind: Kind::Plain,
+        kind: LineKind::Plain,
         fields: &[Field::Number, Field::Number],
     },
-    Form {
+    LineForm {
         name: b"insn",
-        kind: Kind::Insn,
+        kind: LineKind::Insn,
         fields: &[Field::Number, Field::Word, Field::Code],
     },
-    Form {
+    LineForm {
         name: b"idle",
-        kind: Kind::Plain,
+        kind: LineKind::Plain,
         fields: &[],
     },
     LOW,
     HIGH,
 ];
 
-const LOW: Form = Form {
+const LOW: LineForm = LineForm {
     name: b"low",
-    kind: Kind::Plain,
+    kind: LineKind::Plain,
     fields: &[
         Field::Word,
         Field::Word,
@@ -205,9 +205,9 @@ const LOW: Form = Form {
     ],
 };
 
-const HIGH: Form = Form {
+const HIGH: LineForm = LineForm {
     name: b"high",
-    kind: Kind::Plain,
+    kind: LineKind::Plain,
     fields: &[
         Field::Word,
         Field::Word,
@@ -222,10 +222,10 @@ const HIGH: Form = Form {
 };
 
 /// The lines after the end.
-pub(crate) const LAST_FORMS: &[Form] = &[
-    Form {
+pub(crate) const LAST_FORMS: &[LineForm] = &[
+    LineForm {
         name: b"task",
-        kind: Kind::Task,
+        kind: LineKind::Task,
         fields: &[
             Field::Number,
             Field::Number,
@@ -237,38 +237,42 @@ pub(crate) const LAST_FORMS: &[Form] = &[
     },
     LOW,
     HIGH,
-    Form {
+    LineForm {
         name: b"mem",
-        kind: Kind::Plain,
+        kind: LineKind::Plain,
         fields: &[Field::Word, Field::Number],
     },
 ];
 
 /// The line that ends the turns.
-pub(crate) const END_FORMS: &[Form] = &[Form {
+pub(crate) const END_FORMS: &[LineForm] = &[LineForm {
     name: b"end",
-    kind: Kind::Plain,
+    kind: LineKind::Plain,
     fields: &[Field::End, Field::Number, Field::Time],
 }];
 
 /// The bytes at an address.
 pub(crate) const ROW_FIELDS: &[Field] = &[Field::Word, Field::Row];
 
-impl Kind {
+impl LineKind {
     /// Whether a text stands behind the fields.
     pub(crate) fn ends_with_text(self) -> bool
         ensures { result ≡ ends_with_text self }
     {
         match self {
-            Kind::Insn => true,
-            Kind::Plain | Kind::Offer | Kind::Take | Kind::Close | Kind::Borrow | Kind::Task =>
-                false,
+            LineKind::Insn => true,
+            LineKind::Plain
+            | LineKind::Offer
+            | LineKind::Take
+            | LineKind::Close
+            | LineKind::Borrow
+            | LineKind::Task => false,
         }
     }
 }
 
 /// The form of this name.
-pub(crate) fn form_named(mut forms: &[Form], name: &[u8]) -> Option<Form>
+pub(crate) fn form_named(mut forms: &[LineForm], name: &[u8]) -> Option<LineForm>
     ensures { option_map form_in result ≡ form_named name.now (forms_in forms.entry.now) }
 {
     while let [form, rest @ ..] = forms {

@@ -1,12 +1,13 @@
 //! What a line says.
-ghost use Rattle.std.specs.Prelude.{◌≡◌, ℕ, option_map, unwrap_or, codes, IfSome, ◌∷◌, []};
-ghost use Rattle.trace_audit.specs.Texts.{words_of};
+ghost use Rattle.std.specs.Prelude.{◌≡◌, option_map, unwrap_or, ◌∷◌, []};
 ghost use Rattle.trace_audit.specs.Fields.{turn_forms, last_forms, end_form};
 ghost use Rattle.trace_audit.specs.Views.{words_left, form_in, forms_in};
-ghost use Rattle.trace_audit.specs.Meaning.{word_at, number_at, is_answer, saying_of, moves_nothing, is_right, fits, form_of, told, turn_line, wait_by, wait_of, shown_by, shown, row_of, last_line, end_line, read};
+ghost use Rattle.trace_audit.specs.Meaning.{word_at, number_at, is_answer, saying_of, moves_nothing, is_right, fits, form_of, told, turn_line, wait_by, wait_of, shown_by, row_of, last_line, end_line, read};
 
 use crate::fields::{is_any_of, is_same, number, number_behind};
-use crate::forms::{END_FORMS, Form, Kind, LAST_FORMS, ROW_FIELDS, TURN_FORMS, are_of, form_named};
+use crate::forms::{
+    END_FORMS, LAST_FORMS, LineForm, LineKind, ROW_FIELDS, TURN_FORMS, are_of, form_named,
+};
 use crate::pieces::Words;
 
 /// What a line of a turn says of calls. Calls are numbered from 1 on, and clients are indices of tasks.
@@ -26,7 +27,7 @@ pub enum Saying {
 
 /// What a task waits for at the end.
 #[derive(Clone, Copy)]
-pub enum Wait {
+pub enum FinalWait {
     /// For its call, by number, to be taken.
     Offered(u64),
     /// For an answer to it.
@@ -37,13 +38,13 @@ pub enum Wait {
 
 /// What a line says (docs/FORMATS.md, Trace).
 #[derive(Clone, Copy)]
-pub enum Line {
+pub enum TraceLine {
     /// In a turn, by its number.
     Tells(u64, Saying),
     /// The end of the turns.
     Ends,
     /// Of a task at the end, by its index.
-    Waits(u64, Wait),
+    Waits(u64, FinalWait),
     /// Registers or memory at the end.
     Shows,
     /// It has no form.
@@ -76,15 +77,15 @@ fn is_answer(word: &[u8]) -> bool
 }
 
 /// What the words behind the name of a line say of calls.
-fn saying_of(kind: Kind, words: Words<'_>) -> Saying
+fn saying_of(kind: LineKind, words: Words<'_>) -> Saying
     ensures { result ≡ saying_of kind (words_left words.entry) }
 {
     match kind {
-        Kind::Offer => Saying::Offers(number_at(words, 0), number_at(words, 1)),
-        Kind::Take => Saying::Takes(number_at(words, 0)),
-        Kind::Close => Saying::Closes(number_at(words, 0), is_answer(word_at(words, 1))),
-        Kind::Borrow => Saying::Borrows(number_at(words, 0)),
-        Kind::Plain | Kind::Insn | Kind::Task => Saying::Nothing,
+        LineKind::Offer => Saying::Offers(number_at(words, 0), number_at(words, 1)),
+        LineKind::Take => Saying::Takes(number_at(words, 0)),
+        LineKind::Close => Saying::Closes(number_at(words, 0), is_answer(word_at(words, 1))),
+        LineKind::Borrow => Saying::Borrows(number_at(words, 0)),
+        LineKind::Plain | LineKind::Insn | LineKind::Task => Saying::Nothing,
     }
 }
 
@@ -96,24 +97,29 @@ fn moves_nothing(words: Words<'_>) -> bool
 }
 
 /// For information nothing moves.
-fn is_right(kind: Kind, words: Words<'_>) -> bool
+fn is_right(kind: LineKind, words: Words<'_>) -> bool
     ensures { result ≡ is_right kind (words_left words.entry) }
 {
     match kind {
-        Kind::Borrow => !is_same(word_at(words, 1), b"info") || moves_nothing(words),
-        Kind::Plain | Kind::Insn | Kind::Offer | Kind::Take | Kind::Close | Kind::Task => true,
+        LineKind::Borrow => !is_same(word_at(words, 1), b"info") || moves_nothing(words),
+        LineKind::Plain
+        | LineKind::Insn
+        | LineKind::Offer
+        | LineKind::Take
+        | LineKind::Close
+        | LineKind::Task => true,
     }
 }
 
 /// The words behind the name are those of the form.
-fn fits(form: &Form, words: Words<'_>) -> bool
+fn fits(form: &LineForm, words: Words<'_>) -> bool
     ensures { result ≡ fits (form_in form.now) (words_left words.entry) }
 {
     are_of(form.fields, form.kind.ends_with_text(), words) && is_right(form.kind, words)
 }
 
 /// The form of this name, where the words behind it fit.
-fn form_of(forms: &[Form], name: &[u8], words: Words<'_>) -> Option<Form>
+fn form_of(forms: &[LineForm], name: &[u8], words: Words<'_>) -> Option<LineForm>
     ensures { option_map form_in result ≡ form_of (forms_in forms.now) name.now (words_left words.entry) }
 {
     match form_named(forms, name) {
@@ -122,17 +128,17 @@ fn form_of(forms: &[Form], name: &[u8], words: Words<'_>) -> Option<Form>
     }
 }
 
-fn turn_form(name: &[u8], words: Words<'_>) -> Option<Form>
+fn turn_form(name: &[u8], words: Words<'_>) -> Option<LineForm>
     ensures { option_map form_in result ≡ form_of turn_forms name.now (words_left words.entry) }
 {
     form_of(TURN_FORMS, name, words)
 }
 
-fn told(turn: Option<u64>, form: Option<Form>, words: Words<'_>) -> Option<Line>
+fn told(turn: Option<u64>, form: Option<LineForm>, words: Words<'_>) -> Option<TraceLine>
     ensures { result ≡ told turn (words_left words.entry) (option_map form_in form) }
 {
     match (turn, form) {
-        (Some(turn), Some(form)) => Some(Line::Tells(turn, saying_of(form.kind, words))),
+        (Some(turn), Some(form)) => Some(TraceLine::Tells(turn, saying_of(form.kind, words))),
         (Some(_), None) => None,
         (None, _) => None,
     }
@@ -140,7 +146,7 @@ fn told(turn: Option<u64>, form: Option<Form>, words: Words<'_>) -> Option<Line>
 
 /// A line of a turn.
 #[tactic(auto, unfolding(crate::specs::Meaning::turn_line))]
-fn turn_line(words: Words<'_>) -> Option<Line>
+fn turn_line(words: Words<'_>) -> Option<TraceLine>
     ensures { result ≡ turn_line (words_left words.entry) }
 {
     let mut words = words;
@@ -155,22 +161,22 @@ fn turn_line(words: Words<'_>) -> Option<Line>
     }
 }
 
-fn wait_by(offered: Option<u64>, taken: Option<u64>) -> Wait
+fn wait_by(offered: Option<u64>, taken: Option<u64>) -> FinalWait
     ensures { result ≡ wait_by offered taken }
 {
     match offered {
-        Some(call) => Wait::Offered(call),
+        Some(call) => FinalWait::Offered(call),
         None => {
             match taken {
-                Some(call) => Wait::Taken(call),
-                None => Wait::Other,
+                Some(call) => FinalWait::Taken(call),
+                None => FinalWait::Other,
             }
         }
     }
 }
 
 #[tactic(auto, unfolding(crate::specs::Meaning::wait_of))]
-fn wait_of(word: &[u8]) -> Wait
+fn wait_of(word: &[u8]) -> FinalWait
     ensures { result ≡ wait_of word.now }
 {
     wait_by(
@@ -179,28 +185,31 @@ fn wait_of(word: &[u8]) -> Wait
     )
 }
 
-fn shown_by(kind: Kind, words: Words<'_>) -> Line
+fn shown_by(kind: LineKind, words: Words<'_>) -> TraceLine
     ensures { result ≡ shown_by kind (words_left words.entry) }
 {
     match kind {
-        Kind::Task => Line::Waits(number_at(words, 0), wait_of(word_at(words, 3))),
-        Kind::Plain | Kind::Insn | Kind::Offer | Kind::Take | Kind::Close | Kind::Borrow => {
-            Line::Shows
-        }
+        LineKind::Task => TraceLine::Waits(number_at(words, 0), wait_of(word_at(words, 3))),
+        LineKind::Plain
+        | LineKind::Insn
+        | LineKind::Offer
+        | LineKind::Take
+        | LineKind::Close
+        | LineKind::Borrow => { TraceLine::Shows }
     }
 }
 
-fn last_form(name: &[u8], words: Words<'_>) -> Option<Form>
+fn last_form(name: &[u8], words: Words<'_>) -> Option<LineForm>
     ensures { option_map form_in result ≡ form_of last_forms name.now (words_left words.entry) }
 {
     form_of(LAST_FORMS, name, words)
 }
 
-fn row_of(words: Words<'_>) -> Option<Line>
+fn row_of(words: Words<'_>) -> Option<TraceLine>
     ensures { result ≡ row_of (words_left words.entry) }
 {
     if are_of(ROW_FIELDS, false, words) {
-        Some(Line::Shows)
+        Some(TraceLine::Shows)
     } else {
         None
     }
@@ -208,7 +217,7 @@ fn row_of(words: Words<'_>) -> Option<Line>
 
 /// A line after the end: one with a name, or the bytes at an address.
 #[tactic(auto, unfolding(crate::specs::Meaning::last_line))]
-fn last_line(words: Words<'_>) -> Option<Line>
+fn last_line(words: Words<'_>) -> Option<TraceLine>
     ensures { result ≡ last_line (words_left words.entry) }
 {
     let mut behind = words;
@@ -223,7 +232,7 @@ fn last_line(words: Words<'_>) -> Option<Line>
     }
 }
 
-fn end_form(name: &[u8], words: Words<'_>) -> Option<Form>
+fn end_form(name: &[u8], words: Words<'_>) -> Option<LineForm>
     ensures { option_map form_in result ≡ form_of (end_form ∷ []) name.now (words_left words.entry) }
 {
     form_of(END_FORMS, name, words)
@@ -231,7 +240,7 @@ fn end_form(name: &[u8], words: Words<'_>) -> Option<Form>
 
 /// The end of the turns.
 #[tactic(auto, unfolding(crate::specs::Meaning::end_line))]
-fn end_line(words: Words<'_>) -> Option<Line>
+fn end_line(words: Words<'_>) -> Option<TraceLine>
     ensures { result ≡ end_line (words_left words.entry) }
 {
     let mut words = words;
@@ -239,7 +248,7 @@ fn end_line(words: Words<'_>) -> Option<Line>
         None => None,
         Some(name) => {
             match end_form(name, words) {
-                Some(_) => Some(Line::Ends),
+                Some(_) => Some(TraceLine::Ends),
                 None => None,
             }
         }
@@ -248,7 +257,7 @@ fn end_line(words: Words<'_>) -> Option<Line>
 
 /// What a line says.
 #[tactic(auto, unfolding(crate::specs::Meaning::read))]
-pub(crate) fn read(line: &[u8]) -> Line
+pub(crate) fn read(line: &[u8]) -> TraceLine
     ensures { result ≡ read line.now }
 {
     let words = Words::of(line);
@@ -260,7 +269,7 @@ pub(crate) fn read(line: &[u8]) -> Line
                 None => {
                     match last_line(words) {
                         Some(line) => line,
-                        None => Line::Strange,
+                        None => TraceLine::Strange,
                     }
                 }
             }

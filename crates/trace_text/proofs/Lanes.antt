@@ -1,9 +1,10 @@
 -- The digits of four numbers, lane by lane.
-use Rattle.std.proofs.Common.{◌≡◌, ℕ, zero, suc, ◌+◌, ◌-◌, ◌*◌, ◌/◌, ◌%◌, ◌^◌, ◌<◌, ◌≤◌, Bool, true, cond, ◌&&◌, T, eqb, List, [], ◌∷◌, ◌++◌, length, map, take, get_or, replicate, bit_and, refl, sym, ap, ◌∙◌, inl, inr, arith, w8, w32, Fits, eq-zero-or-pos, eqb→eq}
+use Rattle.std.proofs.Common.{◌≡◌, ℕ, zero, suc, ◌+◌, ◌-◌, ◌*◌, ◌/◌, ◌%◌, ◌^◌, ◌<◌, ◌≤◌, Bool, true, cond, ◌&&◌, T, eqb, List, [], ◌∷◌, ◌++◌, length, map, take, drop, get_or, set, replicate, bit_and, refl, sym, ap, subst, ◌∙◌, inl, inr, arith, w8, w32, Fits, eq-zero-or-pos, eqb→eq}
 use Rattle.std.proofs.lemmas.Bool.{cases_lt}
 use Rattle.std.proofs.lemmas.Bool.Decides.{nat_tests}
-use Rattle.std.proofs.lemmas.List.{flat_map_more, take_more}
+use Rattle.std.proofs.lemmas.List.{flat_map_more, take_more, drop_all}
 use Rattle.std.proofs.lemmas.List.Edits.{get_or-between}
+use Rattle.std.proofs.Math.Seq.{drop-cons}
 use Rattle.std.proofs.lemmas.Nat.{and_mask}
 use Rattle.std.proofs.lemmas.Simd.{get_or_narrower, below_from_Fits, swz_l, SwzOk, SwzOk-from_below}
 use Rattle.std.proofs.lemmas.Str.{IsAscii-append}
@@ -150,6 +151,16 @@ pub spaced_ascii : (xs : List ℕ) → IsAscii (flat_map spaced_hex xs)
 spaced_ascii [] = IsAscii-nil
 spaced_ascii (x ∷ xs) = IsAscii-cons 32 (hex x ++ flat_map spaced_hex xs) (omega arith) (IsAscii-append (hex x) (flat_map spaced_hex xs) (hex_ascii x) (spaced_ascii xs))
 
+-- ## a list is what stands at its places
+
+abbrev pub at_places : ℕ → ℕ → List ℕ → List ℕ
+at_places zero i xs = []
+at_places (suc n) i xs = get_or xs i 0 ∷ at_places n (suc i) xs
+
+places_are : (xs : List ℕ) (n i : ℕ) → i + n ≡ length xs → at_places n i xs ≡ drop i xs
+places_are xs zero i all = sym (drop_all i xs (omega arith))
+places_are xs (suc n) i all = ap (λ (ys : List ℕ). get_or xs i 0 ∷ ys) (places_are xs n (suc i) (omega arith)) ∙ sym (drop-cons xs i 0 (omega arith))
+
 -- ## four texts behind spaces
 
 -- three pieces at their places, and a fourth
@@ -165,24 +176,44 @@ three_of t = three (between 0 8 t) (between 8 16 t) (between 16 24 t)
 -- those of the digits of four numbers
 pub three_long : (xs : List ℕ) → length xs ≡ 4 → 36 ≤ length (three_of (flat_map hex (take 4 xs)))
 unfolding hex
-three_long [] long = absurd (omega arith)
-three_long (a ∷ []) long = absurd (omega arith)
-three_long (a ∷ b ∷ []) long = absurd (omega arith)
-three_long (a ∷ b ∷ c ∷ []) long = absurd (omega arith)
-three_long (a ∷ b ∷ c ∷ d ∷ e ∷ xs) long = absurd (omega arith)
-three_long (a ∷ b ∷ c ∷ d ∷ []) long = omega arith
+three_long xs long =
+    let P : List ℕ → Type 0 = λ ys. 36 ≤ length (three_of (flat_map hex (take 4 ys))) in
+    subst P (places_are xs 4 0 (sym long)) (omega arith)
 
 abbrev placed_of : List ℕ → List ℕ
 placed_of t = placed (between 0 8 t) (between 8 16 t) (between 16 24 t) (between 24 32 t)
 
 pub placed_are_spaced : (xs : List ℕ) → length xs ≡ 4 → placed_of (flat_map hex (take 4 xs)) ≡ flat_map spaced_hex xs
 unfolding hex
-placed_are_spaced [] long = absurd (omega arith)
-placed_are_spaced (a ∷ []) long = absurd (omega arith)
-placed_are_spaced (a ∷ b ∷ []) long = absurd (omega arith)
-placed_are_spaced (a ∷ b ∷ c ∷ []) long = absurd (omega arith)
-placed_are_spaced (a ∷ b ∷ c ∷ d ∷ e ∷ xs) long = absurd (omega arith)
-placed_are_spaced (a ∷ b ∷ c ∷ d ∷ []) long = refl
+placed_are_spaced xs long =
+    let P : List ℕ → Type 0 = λ ys. placed_of (flat_map hex (take 4 ys)) ≡ flat_map spaced_hex ys in
+    subst P (places_are xs 4 0 (sym long)) refl
+
+-- ## two texts of four, and the LF
+
+abbrev two : List ℕ → List ℕ → List ℕ
+two a b = put_mid 36 36 (put_mid 0 36 (replicate 72 32) a) b
+
+pub two_are_spaced : (xs : List ℕ) → length xs ≡ 8 → two (flat_map spaced_hex (take 4 xs)) (flat_map spaced_hex (take 4 (drop 4 xs))) ≡ flat_map spaced_hex xs
+unfolding hex
+two_are_spaced xs long =
+    let P : List ℕ → Type 0 = λ ys. two (flat_map spaced_hex (take 4 ys)) (flat_map spaced_hex (take 4 (drop 4 ys))) ≡ flat_map spaced_hex ys in
+    subst P (places_are xs 8 0 (sym long)) refl
+
+-- the LF behind seven, and behind six
+abbrev pub ended : List ℕ → List ℕ
+ended xs = flat_map spaced_hex xs ++ 10 ∷ []
+
+pub seven_ended : (text xs : List ℕ) → length xs ≡ 7 → text ≡ flat_map spaced_hex (at_places 7 0 xs ++ 0 ∷ []) → take 64 (set text 63 10) ≡ ended xs
+unfolding hex
+seven_ended text xs long is = ap (λ (t : List ℕ). take 64 (set t 63 10)) is ∙ ap ended (places_are xs 7 0 (sym long))
+
+pub six_ended : (text xs : List ℕ) → length xs ≡ 6 → text ≡ flat_map spaced_hex (at_places 6 0 xs ++ 0 ∷ 0 ∷ []) → take 55 (set text 54 10) ≡ ended xs
+unfolding hex
+six_ended text xs long is = ap (λ (t : List ℕ). take 55 (set t 54 10)) is ∙ ap ended (places_are xs 6 0 (sym long))
+
+pub ended_ascii : (xs : List ℕ) → IsAscii (ended xs)
+ended_ascii xs = IsAscii-append (flat_map spaced_hex xs) (10 ∷ []) (spaced_ascii xs) (IsAscii-cons 10 [] (omega arith) IsAscii-nil)
 
 -- ## one text more
 

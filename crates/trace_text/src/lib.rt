@@ -7,6 +7,6 @@ mod words;
 
 pub use turn::TurnLines;
 pub use words::{
-    push_byte, push_decimal, push_digit, push_hex, push_high, push_low, push_registers,
-    push_spaced_hex, push_text,
+    code_decoded, push_byte, push_decimal, push_digit, push_hex, push_high, push_low,
+    push_registers, push_spaced_hex, push_text,
 };

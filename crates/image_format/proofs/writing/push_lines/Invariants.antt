@@ -1,6 +1,6 @@
 use Rattle.std.proofs.Common.{◌≡◌, ◌++◌, take}
 use Rattle.std.specs.List.{flat_map}
-use Rattle.image_format.specs.declared.records.Form.TheVariants.{Second}
+use Rattle.image_format.specs.declared.records.ImageForm.TheVariants.{Second}
 use Rattle.image_format.specs.Records.{line_bytes}
 use Rattle.image_format.proofs.writing.push_lines.Given as goal
 

@@ -1,7 +1,7 @@
 use Rattle.std.proofs.Common.{◌≡◌, ◌+◌, ◌∙◌, ap, sym, arith, length, subst, List, ℕ, Ok}
 use Rattle.text_lines.specs.Text.{lines_of}
 use Rattle.run_script.specs.declared.statement.Statement.{Statement}
-use Rattle.run_script.specs.Drafts.{Stops, drafted}
+use Rattle.run_script.specs.Drafts.{Refuses, drafted}
 use Rattle.run_script.specs.Scripts.{ScriptData, script_or_fault, with_lines, with_statement}
 use Rattle.run_script.proofs.Walk.{no_line, goes_on, stops_at}
 use Rattle.run_script.proofs.reading.draft_of.Goals as goal
@@ -28,5 +28,5 @@ returns-clause-ok c = c.lines.invariant.same ∙ ap (with_lines (drafted c.lines
 
 pub returns-in-Err-clause-refused : goal.returns-in-Err-clause-refused
 returns-in-Err-clause-refused c =
-    let said = subst (λ (s : Statement). Stops c.in-Err.fault (c.lines.number + 1) (with_statement (drafted c.lines.draft) s)) c.statement_of.ensures c.in-Err.ensures.err in
+    let said = subst (λ (s : Statement). Refuses c.in-Err.fault (c.lines.number + 1) (with_statement (drafted c.lines.draft) s)) c.statement_of.ensures c.in-Err.ensures.err in
     stops_at (drafted c.lines.draft) (c.lines.number + 1) c.in-Some.line.now (lines_of c.next.new.self.rest.now) (lines_of c.lines.lines.rest.now) (script_or_fault c.args.bytes.now) c.in-Err.fault c.lines.invariant.same c.in-Some.ensures.line said

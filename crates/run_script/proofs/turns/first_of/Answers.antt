@@ -4,18 +4,14 @@ use Rattle.std.proofs.lemmas.List.Sorted.{IsPartitionPoint-from_clause, IsPartit
 use Rattle.run_script.specs.Scripts.{Listed}
 use Rattle.run_script.proofs.turns.first_of.Goals as goal
 
-pub returns-clause-before : goal.returns-clause-before
-returns-clause-before c =
+pub returns : goal.returns
+returns c =
     let same = c.as_slice.ensures.value in
     let sorted = subst (λ (xs : List Listed). IsNonDecreasingBy (λ (l : Listed). l.0) xs) (sym same) c.args.script.now.facts.ascending in
     let parted = IsPartitionedBy-ltb (λ (l : Listed). l.0) c.as_slice.result.now c.args.turn sorted in
     let point = IsPartitionPoint-from_clause (λ (l : Listed). ltb l.0 c.args.turn) _ _ c.partition_point.ensures.partitioned parted (λ a r q k. search rules) in
-    λ k d h. subst (λ (xs : List Listed). ltb (get_or xs k d).0 c.args.turn ≡ true) same (point.0 k d (omega arith) h)
-
-pub returns-clause-from : goal.returns-clause-from
-returns-clause-from c =
-    let same = c.as_slice.ensures.value in
-    let sorted = subst (λ (xs : List Listed). IsNonDecreasingBy (λ (l : Listed). l.0) xs) (sym same) c.args.script.now.facts.ascending in
-    let parted = IsPartitionedBy-ltb (λ (l : Listed). l.0) c.as_slice.result.now c.args.turn sorted in
-    let point = IsPartitionPoint-from_clause (λ (l : Listed). ltb l.0 c.args.turn) _ _ c.partition_point.ensures.partitioned parted (λ a r q k. search rules) in
-    λ k d a b. subst (λ (xs : List Listed). ltb (get_or xs k d).0 c.args.turn ≡ false) same (point.1 k d a (omega (arith, b, c.as_slice.ensures.len)))
+    record {
+      within = omega (arith, c.as_slice.ensures.len, c.partition_point.ensures.bound);
+      before = λ k d h. subst (λ (xs : List Listed). ltb (get_or xs k d).0 c.args.turn ≡ true) same (point.0 k d (omega arith) h);
+      from = λ k d a b. subst (λ (xs : List Listed). ltb (get_or xs k d).0 c.args.turn ≡ false) same (point.1 k d a (omega (arith, b, c.as_slice.ensures.len)));
+    }

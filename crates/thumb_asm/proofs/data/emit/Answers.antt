@@ -1,4 +1,4 @@
-use Rattle.std.proofs.Common.{◌≡◌, ◌∙◌, sym, true, false, refl, not, Bool}
+use Rattle.std.proofs.Common.{◌∙◌, sym, false}
 use Rattle.std.proofs.lemmas.Bool.{not-false}
 use Rattle.thumb_encode.specs.Codes.{scale}
 use Rattle.thumb_asm.specs.Parts.{operand_pieces}

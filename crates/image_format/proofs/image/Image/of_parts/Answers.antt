@@ -1,5 +1,5 @@
 use Rattle.std.proofs.Common.{◌∙◌, ap, sym}
-use Rattle.image_format.specs.declared.records.Form.TheVariants.{Second}
+use Rattle.image_format.specs.declared.records.ImageForm.TheVariants.{Second}
 use Rattle.image_format.specs.Picture.{picture_of}
 use Rattle.image_format.proofs.Shape.{picture_again}
 use Rattle.image_format.proofs.image.Image.of_parts.Goals as goal

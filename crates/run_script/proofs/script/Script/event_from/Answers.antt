@@ -2,7 +2,7 @@ use Rattle.run_script.specs.Events.{script_data}
 use Rattle.run_script.specs.Facts.{HasLine, HasDevice}
 use Rattle.run_script.specs.Scripts.{events_of}
 use Rattle.run_script.proofs.Each.{each_turn, few_events, holds_of}
-use Rattle.run_script.proofs.script.Script.event_at.Goals as goal
+use Rattle.run_script.proofs.script.Script.event_from.Goals as goal
 
 pub returns-clause-few : goal.returns-clause-few
 returns-clause-few c =

@@ -2,7 +2,7 @@ use Rattle.std.proofs.Common.{sym, ◌∙◌, subst, map, true, false}
 use Rattle.trace_audit.specs.Midway.{IsGoodSoFar}
 use Rattle.trace_audit.specs.Meaning.{read}
 use Rattle.trace_audit.proofs.Taking.{good_start, good_more, first_bad, good_end, no_end, adds_so}
-use Rattle.trace_audit.proofs.auditing.verdict.Goals as goal
+use Rattle.trace_audit.proofs.auditing.judgement.Goals as goal
 
 pub loop-line-init : goal.loop-line-init
 loop-line-init c = subst (λ r. IsGoodSoFar c.args.text.now r 0 c.new-book.result) (sym c.of-lines.ensures) (good_start c.args.text.now c.new-book.result c.new-book.ensures)

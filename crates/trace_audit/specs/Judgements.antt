@@ -2,10 +2,10 @@
 use Rattle.std.specs.Prelude.{ℕ, ◌+◌, ◌≡◌, Bool, not, nat_lt, if◌then◌else◌, List, [], ◌∷◌, ◌++◌, length, map, All, Option, Some, None}
 use Rattle.std.specs.List.{list_all}
 use Rattle.text_lines.specs.Text.{is_between}
-use Rattle.trace_audit.specs.declared.verdict.Verdict.{Verdict}
-use Rattle.trace_audit.specs.declared.verdict.Verdict.TheVariants as verdict
+use Rattle.trace_audit.specs.declared.judgement.Judgement.{Judgement}
+use Rattle.trace_audit.specs.declared.judgement.Judgement.TheVariants as judgement
 use Rattle.trace_audit.specs.Texts.{lines_of}
-use Rattle.trace_audit.specs.declared.reading.Line.{Line}
+use Rattle.trace_audit.specs.declared.reading.TraceLine.{TraceLine}
 use Rattle.trace_audit.specs.Meaning.{read}
 use Rattle.trace_audit.specs.Rules.{IsGood, IsFirstBad, offers_in, left_in}
 
@@ -43,13 +43,13 @@ first_cause n (line ∷ lines) = cause_at n (cause_of line) (first_cause (n + 1)
 -- ## the answers
 
 -- what the lines of a text say
-abbrev pub read_lines : List ℕ → List Line
+abbrev pub read_lines : List ℕ → List TraceLine
 read_lines text = map read (lines_of text)
 
 -- the lines are good, offer so many calls, and leave so many of them open
-abbrev pub IsGoodWith : List Line → ℕ → ℕ → Type 0
+abbrev pub IsGoodWith : List TraceLine → ℕ → ℕ → Type 0
 IsGoodWith lines calls left = IsGood lines × (calls ≡ offers_in lines) × (left ≡ left_in lines)
 
-abbrev pub IsVerdict : List ℕ → Verdict → Type 0
-IsVerdict text (verdict.Yes calls left) = IsGoodWith (read_lines text) calls left
-IsVerdict text (verdict.No n) = IsFirstBad (read_lines text) n
+abbrev pub IsJudgement : List ℕ → Judgement → Type 0
+IsJudgement text (judgement.Yes calls left) = IsGoodWith (read_lines text) calls left
+IsJudgement text (judgement.No n) = IsFirstBad (read_lines text) n
