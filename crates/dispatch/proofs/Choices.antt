@@ -1,12 +1,12 @@
 -- The first task of the lowest priority number, as a state tells of it.
-use Rattle.std.proofs.Common.{◌≡◌, ◌+◌, ◌-◌, ◌<◌, ◌≤◌, ◌⊎◌, inl, inr, ℕ, zero, suc, Bool, true, false, cond, not, ◌&&◌, ◌||◌, List, [], ◌∷◌, ◌++◌, length, get_or, Option, Some, None, IfSome, refl, sym, ◌∙◌, ap, arith, leb}
+use Rattle.std.proofs.Common.{◌≡◌, ◌+◌, ◌-◌, ◌<◌, ◌≤◌, inl, inr, ℕ, zero, suc, Bool, false, cond, not, ◌&&◌, ◌||◌, List, [], ◌∷◌, length, get_or, Option, Some, None, IfSome, refl, sym, ◌∙◌, ap, arith, leb}
 use Rattle.std.proofs.lemmas.Bool.{cases_Bool}
 use Rattle.std.specs.Prelude.{find}
 use Rattle.std.specs.List.{range_with_len, list_all}
-use Rattle.task_table.specs.State.{Setup, State, TaskSetup}
-use Rattle.task_table.specs.Reading.{around, best_sender, chosen, is_ready, offers, priority}
-use Rattle.task_table.specs.Order.{first_around, is_lowest, priorities_of, priority_at}
-use Rattle.task_table.proofs.Choices.{find_append}
+use Rattle.task_table.specs.model.State.{Setup, State, TaskSetup}
+use Rattle.task_table.specs.model.Reading.{around, best_sender, chosen, is_ready, offers, priority}
+use Rattle.task_table.specs.kept.Order.{first_around, is_lowest, priorities_of, priority_at}
+use Rattle.task_table.proofs.kept.Choices.{find_append}
 
 -- ## a search in the order
 

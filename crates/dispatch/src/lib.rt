@@ -3,9 +3,9 @@
 //! equals the next in order (this project's profile).
 
 ghost use Rattle.std.specs.Prelude.{◌≡◌, ◌<◌, IfSome};
-ghost use Rattle.task_table.specs.State.{Setup, Turn};
-ghost use Rattle.task_table.specs.Reading.{chosen, best_sender};
-ghost use Rattle.task_table.specs.Holds.{Holds, Stands, Stood, task_count};
+ghost use Rattle.task_table.specs.model.State.{Setup, Turn};
+ghost use Rattle.task_table.specs.model.Reading.{chosen, best_sender};
+ghost use Rattle.task_table.specs.kept.Holds.{Holds, Stands, Stood, task_count};
 
 use task_table::{Kernel, first_around};
 

@@ -6,11 +6,11 @@ use Rattle.kernel_abi.specs.Ids.{dead_code_of}
 use Rattle.kernel_abi.specs.declared.Ending.{Ending}
 use Rattle.kernel_abi.specs.declared.Ending.TheVariants.{Restart}
 use Rattle.kernel_abi.specs.declared.Note.{Note}
-use Rattle.task_table.specs.State.{Setup, State, Task, Call, Listen, Turn}
-use Rattle.task_table.specs.Reading.{task_at, call_of, listen_of}
-use Rattle.task_table.specs.Effects.{with_task, without_call, without_listen, changed, noted, given, returned, closed, reborn, is_to, awaits, dead_answered}
-use Rattle.task_table.specs.Waits.{AreFew}
-use Rattle.task_table.proofs.Keeps.{filter_in}
+use Rattle.task_table.specs.model.State.{Setup, State, Task, Call, Listen, Turn}
+use Rattle.task_table.specs.model.Reading.{task_at, call_of, listen_of}
+use Rattle.task_table.specs.model.Effects.{with_task, without_call, without_listen, changed, noted, given, returned, closed, reborn, is_to, awaits, dead_answered}
+use Rattle.task_table.specs.kept.Waits.{AreFew}
+use Rattle.task_table.proofs.model.Keeps.{filter_in}
 
 few-task : (s : State) (i : ℕ) (x : Task) → AreFew s → AreFew (with_task i x s)
 unfolding with_task

@@ -1,16 +1,17 @@
 //! Kernel messages.
 
-ghost use Rattle.std.specs.Prelude.{◌≡◌, ◌+◌, ◌<◌, ◌≤◌, ◌^◌, true, Some, Option};
+ghost use Rattle.std.specs.Prelude.{◌≡◌, ◌+◌, ◌<◌, ◌≤◌, ◌^◌, Some, Option};
 ghost use Rattle.std.specs.Option.{option_map};
 ghost use Rattle.mem_banks.specs.Memory.{IsWithinRam};
-ghost use Rattle.task_table.specs.State.{Setup, Turn};
-ghost use Rattle.task_table.specs.Reading.{is_ready, is_faulted};
-ghost use Rattle.task_table.specs.Orders.{order_of, word_bytes, status_bytes, injected, first_faulted, fault_found, obeyed, ordered};
-ghost use Rattle.task_table.specs.Holds.{Holds, Stands, Stood, task_count, note_count, memory_of};
-ghost use Rattle.task_table.specs.Limits.{syscall_notes, turn_notes};
-ghost use Rattle.task_table.specs.Frames.{AddsNotes, AddsAtMost};
+ghost use Rattle.task_table.specs.model.State.{Setup, Turn};
+ghost use Rattle.task_table.specs.model.Reading.{is_faulted};
+ghost use Rattle.task_table.specs.model.Requests.{request_of, word_bytes, status_bytes, injected, first_faulted, fault_found, served, requested};
+ghost use Rattle.task_table.specs.kept.Holds.{Holds, Stands, Stood, task_count, note_count, memory_of};
+ghost use Rattle.task_table.specs.kept.Limits.{syscall_notes, turn_notes};
+ghost use Rattle.task_table.specs.kept.Frames.{AddsNotes, AddsAtMost};
+ghost use Rattle.task_table.specs.kept.Calls.{MayCall, Performs};
 ghost use Rattle.fault_supervisor.specs.Restarts.{restart_notes};
-ghost use Rattle.fault_supervisor.specs.Meanings.{meaning, status_words};
+ghost use Rattle.fault_supervisor.specs.Meanings.{meaning, status_words, heard};
 
 use crate::rebirth::restart;
 use kernel_abi::{Access, Fault, Health, Note, SendArgs, Usage};
@@ -19,7 +20,7 @@ use task_table::{Kernel, Slice};
 
 /// What a kernel message asks for.
 #[derive(Clone, Copy)]
-enum Order {
+enum Request {
     /// How a task is.
     Status,
     /// A task is restarted.
@@ -30,16 +31,16 @@ enum Order {
     Find,
 }
 
-impl Order {
-    /// The order with a number.
-    fn of(operation: u16) -> Option<Order>
-        ensures { option_map meaning result ≡ order_of operation }
+impl Request {
+    /// The request with a number.
+    fn of(operation: u16) -> Option<Request>
+        ensures { option_map meaning result ≡ request_of operation }
     {
         match operation {
-            1 => Some(Order::Status),
-            2 => Some(Order::Restart),
-            3 => Some(Order::Fault),
-            9 => Some(Order::Find),
+            1 => Some(Request::Status),
+            2 => Some(Request::Restart),
+            3 => Some(Request::Fault),
+            9 => Some(Request::Find),
             _ => None,
         }
     }
@@ -49,10 +50,10 @@ impl Order {
         ensures { result ≡ (meaning self).message }
     {
         match self {
-            Order::Status => 4,
-            Order::Restart => 8,
-            Order::Fault => 4,
-            Order::Find => 4,
+            Request::Status => 4,
+            Request::Restart => 8,
+            Request::Fault => 4,
+            Request::Find => 4,
         }
     }
 
@@ -61,10 +62,10 @@ impl Order {
         ensures { result ≡ (meaning self).reply }
     {
         match self {
-            Order::Status => 16,
-            Order::Restart => 0,
-            Order::Fault => 0,
-            Order::Find => 4,
+            Request::Status => 16,
+            Request::Restart => 0,
+            Request::Fault => 0,
+            Request::Find => 4,
         }
     }
 
@@ -73,10 +74,10 @@ impl Order {
         ensures { result ≡ (meaning self).on_supervisor }
     {
         match self {
-            Order::Status => true,
-            Order::Restart => false,
-            Order::Fault => false,
-            Order::Find => true,
+            Request::Status => true,
+            Request::Restart => false,
+            Request::Fault => false,
+            Request::Find => true,
         }
     }
 }
@@ -164,64 +165,63 @@ fn find_fault(k: &mut Kernel, args: &SendArgs, index: usize)
     });
 }
 
-/// What an order does to a task.
-fn carry_out(k: &mut Kernel, args: &SendArgs, order: Order, task: usize)
+/// What a request does to a task.
+fn carry_out(k: &mut Kernel, args: &SendArgs, request: Request, task: usize)
     requires there { task < task_count k.old }
     requires room { note_count k.old + restart_notes ≤ turn_notes }
-    requires message { args.now.message_base + (meaning order).message ≤ 2 ^ 32 }
-    requires reply { IsWithinRam (memory_of k.old) args.now.reply_base (meaning order).reply }
-    ensures holds { (g : Setup) (t : Turn) → Stands g k.old t → Holds g k.new ((meaning order).does g args.now task t) }
+    requires message { args.now.message_base + (meaning request).message ≤ 2 ^ 32 }
+    requires reply { IsWithinRam (memory_of k.old) args.now.reply_base (meaning request).reply }
+    ensures holds { (g : Setup) (t : Turn) → Stands g k.old t → Holds g k.new ((meaning request).does g args.now task t) }
     ensures frame { AddsAtMost k.old restart_notes k.new }
 {
-    match order {
-        Order::Status => {
+    match request {
+        Request::Status => {
             let status = status_of(k.health(task));
             k.store(args.reply_base, &status);
         }
-        Order::Restart => {
+        Request::Restart => {
             let start = k.number(args.message_base + 4, 4);
             restart(k, task, start != 0);
         }
-        Order::Fault => inject(k, task),
-        Order::Find => find_fault(k, args, task),
+        Request::Fault => inject(k, task),
+        Request::Find => find_fault(k, args, task),
     }
 }
 
-/// An order of the caller, whose message and room for an answer are good.
-fn obey(k: &mut Kernel, caller: usize, args: &SendArgs, order: Order)
+/// A request of the caller, whose message and room for an answer are good.
+fn serve(k: &mut Kernel, caller: usize, args: &SendArgs, request: Request)
     requires there { caller < task_count k.old }
     requires room { note_count k.old + syscall_notes ≤ turn_notes }
     requires message { args.now.message_base + args.now.message_length ≤ 2 ^ 32 }
     requires reply { IsWithinRam (memory_of k.old) args.now.reply_base args.now.reply_capacity }
-    ensures holds { (g : Setup) (t : Turn) → Stands g k.old t → Holds g k.new (obeyed g caller args.now (Some (meaning order)) t) }
+    ensures holds { (g : Setup) (t : Turn) → Stands g k.old t → Holds g k.new (served g caller args.now (Some (meaning request)) t) }
     ensures frame { AddsAtMost k.old syscall_notes k.new }
 {
-    if args.message_length != order.message_length() || args.reply_capacity < order.reply_length() {
+    if args.message_length != request.message_length()
+        || args.reply_capacity < request.reply_length()
+    {
         return k.misuse(caller, Usage::BadKernelMessage);
     }
     let task = k.number(args.message_base, 4) as usize;
     if k.task_count() <= task {
         return k.misuse(caller, Usage::BadTaskIndex);
     }
-    if task == 0 && !order.is_on_supervisor() {
+    if task == 0 && !request.is_on_supervisor() {
         return k.misuse(caller, Usage::BadKernelMessage);
     }
-    carry_out(k, args, order, task);
-    k.answer(caller, &[0, order.reply_length()]);
+    carry_out(k, args, request, task);
+    k.answer(caller, &[0, request.reply_length()]);
 }
 
-/// A kernel message to a kernel that stands.
-fn take_order(k: &mut Kernel, caller: usize)
+/// A request of the supervisor, whose ranges are looked at first.
+#[inline(always)]
+fn hear_order(k: &mut Kernel, caller: usize, args: &SendArgs)
     requires there { caller < task_count k.old }
     requires room { note_count k.old + syscall_notes ≤ turn_notes }
     requires stood { Stood k.old }
-    ensures holds { (g : Setup) (t : Turn) → Stands g k.old t → Holds g k.new (ordered g caller t) }
+    ensures holds { (g : Setup) (t : Turn) → Stands g k.old t → Holds g k.new (heard g caller args.now t) }
     ensures frame { AddsAtMost k.old syscall_notes k.new }
 {
-    if caller != 0 {
-        return k.misuse(caller, Usage::NotSupervisor);
-    }
-    let args = SendArgs::of(&k.arguments(caller));
     let message = Slice {
         base: args.message_base,
         len: args.message_length,
@@ -239,10 +239,25 @@ fn take_order(k: &mut Kernel, caller: usize)
     if let Some(at) = k.bad_byte(caller, Right::Write, reply.base, reply.len) {
         return k.deny(caller, at, Access::KernelWrite);
     }
-    match Order::of(args.operation) {
+    match Request::of(args.operation) {
         None => k.misuse(caller, Usage::BadKernelMessage),
-        Some(order) => obey(k, caller, &args, order),
+        Some(request) => serve(k, caller, args, request),
     }
+}
+
+/// A kernel message to a kernel that stands.
+fn take_request(k: &mut Kernel, caller: usize)
+    requires there { caller < task_count k.old }
+    requires room { note_count k.old + syscall_notes ≤ turn_notes }
+    requires stood { Stood k.old }
+    ensures holds { (g : Setup) (t : Turn) → Stands g k.old t → Holds g k.new (requested g caller t) }
+    ensures frame { AddsAtMost k.old syscall_notes k.new }
+{
+    if caller != 0 {
+        return k.misuse(caller, Usage::NotSupervisor);
+    }
+    let args = SendArgs::of(&k.arguments(caller));
+    hear_order(k, caller, &args);
 }
 
 /// A SEND to the kernel, which the supervisor alone may make: bits 15 to 0 of r4 are the operation, r5 and r6
@@ -256,11 +271,8 @@ fn take_order(k: &mut Kernel, caller: usize)
 ///
 /// r4 is 0 then, and r5 the length of the answer (docs/FORMATS.md; Hubris Reference, on supervision).
 pub fn kernel_message(k: &mut Kernel, caller: usize)
-    requires there { caller < task_count k.old }
-    requires ready { (g : Setup) × (t : Turn) × Stands g k.old t × (is_ready t.state caller ≡ true) }
-    requires room { note_count k.old + syscall_notes ≤ turn_notes }
-    ensures stands { (g : Setup) (t : Turn) → Stands g k.old t → is_ready t.state caller ≡ true → Stands g k.new (ordered g caller t) }
-    ensures frame { AddsAtMost k.old syscall_notes k.new }
+    requires { MayCall k.old caller }
+    ensures { Performs requested k.old caller k.new }
 {
-    take_order(k, caller);
+    take_request(k, caller);
 }

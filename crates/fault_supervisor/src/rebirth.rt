@@ -1,12 +1,12 @@
 //! A task is born again, and those that wait for it get its dead code.
 
-ghost use Rattle.std.specs.Prelude.{◌≡◌, ◌+◌, ◌<◌, ◌≤◌};
-ghost use Rattle.task_table.specs.State.{Setup, Turn};
-ghost use Rattle.task_table.specs.Effects.{dead_answered, restarted};
-ghost use Rattle.task_table.specs.Holds.{Holds, Stands, task_count, note_count};
-ghost use Rattle.task_table.specs.Limits.{turn_notes};
-ghost use Rattle.task_table.specs.Frames.{AddsAtMost};
-ghost use Rattle.task_table.specs.Waits.{AreFew};
+ghost use Rattle.std.specs.Prelude.{◌+◌, ◌<◌, ◌≤◌};
+ghost use Rattle.task_table.specs.model.State.{Setup, Turn};
+ghost use Rattle.task_table.specs.model.Effects.{dead_answered, restarted};
+ghost use Rattle.task_table.specs.kept.Holds.{Holds, Stands, task_count, note_count};
+ghost use Rattle.task_table.specs.kept.Limits.{turn_notes};
+ghost use Rattle.task_table.specs.kept.Frames.{AddsAtMost};
+ghost use Rattle.task_table.specs.kept.Waits.{AreFew};
 ghost use Rattle.fault_supervisor.specs.Restarts.{restart_notes};
 
 use kernel_abi::{Ending, Note, dead_code};

@@ -11,12 +11,12 @@ use Rattle.kernel_abi.specs.declared.arguments.RecvArgs.{RecvArgs}
 use Rattle.kernel_abi.specs.declared.arguments.ReplyArgs.{ReplyArgs}
 use Rattle.kernel_abi.specs.declared.arguments.SendArgs.{SendArgs}
 use Rattle.region_check.specs.declared.Right.TheVariants.{Write}
-use Rattle.task_table.specs.State.{Setup, State, Call, Turn}
-use Rattle.task_table.specs.Reading.{is_out, is_dead, dead_code_for, present_id, is_valid, bad_byte, taken_by}
-use Rattle.task_table.specs.Effects.{posted}
-use Rattle.task_table.specs.Rows.{buffer_of, misused, denied, goes_on, goes_on_with, input_received}
-use Rattle.task_table.specs.Sends.{sent_to, replied_to, reply_faulted_to}
-use Rattle.task_table.specs.Holds.{Holds, kept_call}
+use Rattle.task_table.specs.model.State.{Setup, State, Call, Turn}
+use Rattle.task_table.specs.model.Reading.{is_out, is_dead, dead_code_for, present_id, is_valid, bad_byte, taken_by}
+use Rattle.task_table.specs.model.Effects.{posted}
+use Rattle.task_table.specs.model.Rows.{buffer_of, misused, denied, goes_on, goes_on_with, input_received}
+use Rattle.task_table.specs.model.Sends.{sent_to, replied_to, reply_faulted_to}
+use Rattle.task_table.specs.kept.Holds.{Holds, kept_call}
 use Rattle.task_table.specs.declared.kernel.Kernel.{Kernel}
 use Rattle.ipc_core.specs.declared.receiving.Sender.{Sender}
 use Rattle.ipc_core.specs.declared.receiving.Sender.TheVariants as sender

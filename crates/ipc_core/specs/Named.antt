@@ -2,9 +2,9 @@
 use Rattle.std.specs.Prelude.{ℕ, ◌≡◌, ◌<◌, ◌%◌, true, false, ◌||◌, ◌==◌, Option, Some, None}
 use Rattle.kernel_abi.specs.Ids.{index_of}
 use Rattle.kernel_abi.specs.declared.arguments.RecvArgs.{RecvArgs}
-use Rattle.task_table.specs.State.{State}
-use Rattle.task_table.specs.Reading.{task_at, is_out, is_dead}
-use Rattle.task_table.specs.Rows.{asked}
+use Rattle.task_table.specs.model.State.{State}
+use Rattle.task_table.specs.model.Reading.{task_at, is_out, is_dead}
+use Rattle.task_table.specs.model.Rows.{asked}
 use Rattle.ipc_core.specs.declared.receiving.Sender.{Sender}
 use Rattle.ipc_core.specs.declared.receiving.Sender.TheVariants.{Any, Kernel, Dead, One}
 

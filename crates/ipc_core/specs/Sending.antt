@@ -2,9 +2,9 @@
 use Rattle.std.specs.Prelude.{ℕ, ◌≡◌, ◌<◌, ◌%◌, true, false, ◌||◌, Option, Some, None, ◌==◌}
 use Rattle.std.specs.Option.{option_map}
 use Rattle.kernel_abi.specs.Ids.{index_of}
-use Rattle.task_table.specs.State.{Setup, State, Turn}
-use Rattle.task_table.specs.Reading.{task_at, is_out, is_dead, taken_by}
-use Rattle.task_table.specs.Holds.{Stands, kept_call}
+use Rattle.task_table.specs.model.State.{Setup, State, Turn}
+use Rattle.task_table.specs.model.Reading.{task_at, is_out, is_dead, taken_by}
+use Rattle.task_table.specs.kept.Holds.{Stands, kept_call}
 use Rattle.task_table.specs.declared.kernel.Kernel.{Kernel}
 use Rattle.task_table.specs.declared.slot.OpenCall.{OpenCall}
 use Rattle.ipc_core.specs.declared.sending.Recipient.{Recipient}

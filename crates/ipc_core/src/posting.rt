@@ -1,12 +1,12 @@
 //! The system calls POST and REFRESH_TASK_ID (Hubris Reference, on task ids and notifications).
 
-ghost use Rattle.std.specs.Prelude.{◌≡◌, ◌+◌, ◌<◌, ◌≤◌, true};
-ghost use Rattle.task_table.specs.State.{Setup, Turn};
-ghost use Rattle.task_table.specs.Reading.{is_ready};
-ghost use Rattle.task_table.specs.Sends.{post_made, refreshed};
-ghost use Rattle.task_table.specs.Holds.{Holds, Stands, task_count, note_count};
-ghost use Rattle.task_table.specs.Limits.{syscall_notes, turn_notes};
-ghost use Rattle.task_table.specs.Frames.{AddsAtMost};
+ghost use Rattle.std.specs.Prelude.{◌+◌, ◌<◌, ◌≤◌};
+ghost use Rattle.task_table.specs.model.State.{Setup, Turn};
+ghost use Rattle.task_table.specs.model.Sends.{post_made, refreshed};
+ghost use Rattle.task_table.specs.kept.Holds.{Holds, task_count, note_count};
+ghost use Rattle.task_table.specs.kept.Limits.{syscall_notes, turn_notes};
+ghost use Rattle.task_table.specs.kept.Frames.{AddsAtMost};
+ghost use Rattle.task_table.specs.kept.Calls.{MayCall, Performs};
 
 use kernel_abi::{IdArgs, Usage, dead_code};
 use task_table::{Found, Kernel};
@@ -32,11 +32,8 @@ fn post_bits(k: &mut Kernel, caller: usize)
 /// POST: r4 is the id of a task, r5 the bits to post to it. r4 is 0 then, or the dead code where the id is
 /// that of an earlier birth; an id of no task is a misuse (Hubris Reference, on notifications).
 pub fn post_call(k: &mut Kernel, caller: usize)
-    requires there { caller < task_count k.old }
-    requires ready { (g : Setup) × (t : Turn) × Stands g k.old t × (is_ready t.state caller ≡ true) }
-    requires room { note_count k.old + syscall_notes ≤ turn_notes }
-    ensures stands { (g : Setup) (t : Turn) → Stands g k.old t → is_ready t.state caller ≡ true → Stands g k.new (post_made g caller t) }
-    ensures frame { AddsAtMost k.old syscall_notes k.new }
+    requires { MayCall k.old caller }
+    ensures { Performs post_made k.old caller k.new }
 {
     post_bits(k, caller);
 }
@@ -60,11 +57,8 @@ fn answer_present_id(k: &mut Kernel, caller: usize)
 /// REFRESH_TASK_ID: r4 is an id of any birth of a task, and becomes that of the present one; an id of no
 /// task is a misuse (Hubris Reference, on task ids).
 pub fn refresh(k: &mut Kernel, caller: usize)
-    requires there { caller < task_count k.old }
-    requires ready { (g : Setup) × (t : Turn) × Stands g k.old t × (is_ready t.state caller ≡ true) }
-    requires room { note_count k.old + syscall_notes ≤ turn_notes }
-    ensures stands { (g : Setup) (t : Turn) → Stands g k.old t → is_ready t.state caller ≡ true → Stands g k.new (refreshed g caller t) }
-    ensures frame { AddsAtMost k.old syscall_notes k.new }
+    requires { MayCall k.old caller }
+    ensures { Performs refreshed k.old caller k.new }
 {
     answer_present_id(k, caller);
 }

@@ -1,7 +1,7 @@
 //! Slices, as a task hands them in.
 
 ghost use Rattle.std.specs.Prelude.{◌≡◌};
-ghost use Rattle.task_table.specs.Reading.{is_valid};
+ghost use Rattle.task_table.specs.model.Reading.{is_valid};
 
 use kernel_abi::Range;
 

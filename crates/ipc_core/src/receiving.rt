@@ -1,13 +1,14 @@
 //! The system call RECV (Hubris Reference, on RECV).
 
 ghost use Rattle.std.specs.Prelude.{◌≡◌, ◌+◌, ◌<◌, ◌≤◌, true, Some, None, Option, IfSome};
-ghost use Rattle.task_table.specs.State.{Setup, Turn};
-ghost use Rattle.task_table.specs.Reading.{arguments, is_ready, best_sender, offer_by, IsIdle};
-ghost use Rattle.task_table.specs.Rows.{asked, receives_or_listens, message_received, input_received, received};
-ghost use Rattle.task_table.specs.Holds.{Holds, Stands, Stood, task_count, note_count};
-ghost use Rattle.task_table.specs.Limits.{syscall_notes, turn_notes};
-ghost use Rattle.task_table.specs.Frames.{AddsAtMost};
-ghost use Rattle.task_table.specs.Messages.{from_of, IsListened, IsReceiving};
+ghost use Rattle.task_table.specs.model.State.{Setup, Turn};
+ghost use Rattle.task_table.specs.model.Reading.{arguments, is_ready, best_sender, offer_by, IsIdle};
+ghost use Rattle.task_table.specs.model.Rows.{asked, receives_or_listens, message_received, input_received, received};
+ghost use Rattle.task_table.specs.kept.Holds.{Holds, Stands, Stood, task_count, note_count};
+ghost use Rattle.task_table.specs.kept.Limits.{syscall_notes, turn_notes};
+ghost use Rattle.task_table.specs.kept.Frames.{AddsAtMost};
+ghost use Rattle.task_table.specs.kept.Calls.{MayCall};
+ghost use Rattle.task_table.specs.kept.Messages.{from_of, IsListened, IsReceiving};
 ghost use Rattle.ipc_core.specs.Named.{AsksFor, IsNamed, IsInside};
 
 use crate::range::is_valid;
@@ -133,10 +134,8 @@ fn receive(k: &mut Kernel, caller: usize, best: Option<usize>)
 ///
 /// `best` is the best sender to the caller.
 pub fn recv(k: &mut Kernel, caller: usize, best: Option<usize>)
-    requires there { caller < task_count k.old }
+    requires may_call { MayCall k.old caller }
     requires best { IfSome best (λ i. i < task_count k.old) }
-    requires ready { (g : Setup) × (t : Turn) × Stands g k.old t × (is_ready t.state caller ≡ true) }
-    requires room { note_count k.old + syscall_notes ≤ turn_notes }
     ensures stands { (g : Setup) (t : Turn) → Stands g k.old t → is_ready t.state caller ≡ true → best ≡ best_sender g t.state caller → Stands g k.new (received g caller best t) }
     ensures frame { AddsAtMost k.old syscall_notes k.new }
 {

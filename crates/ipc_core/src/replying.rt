@@ -1,13 +1,14 @@
 //! The system calls REPLY and REPLY_FAULT (Hubris Reference, on REPLY and REPLY_FAULT).
 
-ghost use Rattle.std.specs.Prelude.{◌≡◌, ◌+◌, ◌<◌, ◌≤◌, true, Option, Some};
+ghost use Rattle.std.specs.Prelude.{◌≡◌, ◌+◌, ◌<◌, ◌≤◌, Some};
 ghost use Rattle.kernel_abi.specs.Faults.{reason_number};
-ghost use Rattle.task_table.specs.State.{Setup, Turn, Call};
-ghost use Rattle.task_table.specs.Reading.{is_ready, taken_by};
-ghost use Rattle.task_table.specs.Sends.{replied_to, replied, reply_faulted_to, reply_faulted};
-ghost use Rattle.task_table.specs.Holds.{Holds, Stands, Stood, kept_call, task_count, note_count};
-ghost use Rattle.task_table.specs.Limits.{syscall_notes, turn_notes};
-ghost use Rattle.task_table.specs.Frames.{AddsAtMost};
+ghost use Rattle.task_table.specs.model.State.{Setup, Turn, Call};
+ghost use Rattle.task_table.specs.model.Reading.{taken_by};
+ghost use Rattle.task_table.specs.model.Sends.{replied_to, replied, reply_faulted_to, reply_faulted};
+ghost use Rattle.task_table.specs.kept.Holds.{Holds, Stands, Stood, kept_call, task_count, note_count};
+ghost use Rattle.task_table.specs.kept.Limits.{syscall_notes, turn_notes};
+ghost use Rattle.task_table.specs.kept.Frames.{AddsAtMost};
+ghost use Rattle.task_table.specs.kept.Calls.{MayCall, Performs};
 ghost use Rattle.ipc_core.specs.Sending.{IsTaken};
 
 use crate::range::is_valid;
@@ -72,11 +73,8 @@ fn reply_by_id(k: &mut Kernel, caller: usize)
 /// left alone; a reply that is longer than the client's buffer is the caller's misuse (Hubris Reference, on
 /// REPLY).
 pub fn reply(k: &mut Kernel, caller: usize)
-    requires there { caller < task_count k.old }
-    requires ready { (g : Setup) × (t : Turn) × Stands g k.old t × (is_ready t.state caller ≡ true) }
-    requires room { note_count k.old + syscall_notes ≤ turn_notes }
-    ensures stands { (g : Setup) (t : Turn) → Stands g k.old t → is_ready t.state caller ≡ true → Stands g k.new (replied g caller t) }
-    ensures frame { AddsAtMost k.old syscall_notes k.new }
+    requires { MayCall k.old caller }
+    ensures { Performs replied k.old caller k.new }
 {
     reply_by_id(k, caller);
 }
@@ -116,11 +114,8 @@ fn reply_fault_of(k: &mut Kernel, caller: usize)
 /// tells the caller's id and the reason. A client that does not await the caller's reply is left alone; another
 /// reason is the caller's misuse (Hubris Reference, on REPLY_FAULT).
 pub fn reply_fault(k: &mut Kernel, caller: usize)
-    requires there { caller < task_count k.old }
-    requires ready { (g : Setup) × (t : Turn) × Stands g k.old t × (is_ready t.state caller ≡ true) }
-    requires room { note_count k.old + syscall_notes ≤ turn_notes }
-    ensures stands { (g : Setup) (t : Turn) → Stands g k.old t → is_ready t.state caller ≡ true → Stands g k.new (reply_faulted g caller t) }
-    ensures frame { AddsAtMost k.old syscall_notes k.new }
+    requires { MayCall k.old caller }
+    ensures { Performs reply_faulted k.old caller k.new }
 {
     reply_fault_of(k, caller);
 }

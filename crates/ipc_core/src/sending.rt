@@ -1,12 +1,13 @@
 //! The system call SEND (Hubris Reference, on SEND).
 
-ghost use Rattle.std.specs.Prelude.{◌≡◌, ◌+◌, ◌*◌, ◌<◌, ◌≤◌, ◌^◌, ◌||◌, not, true, Option, IfSome};
-ghost use Rattle.task_table.specs.State.{Setup, Turn};
-ghost use Rattle.task_table.specs.Reading.{arguments, is_ready, is_valid, IsIdle};
-ghost use Rattle.task_table.specs.Sends.{message_of, reply_room, table_of, sent_to, sent};
-ghost use Rattle.task_table.specs.Holds.{Holds, Stands, task_count, note_count, next_call_of};
-ghost use Rattle.task_table.specs.Limits.{syscall_notes, turn_notes};
-ghost use Rattle.task_table.specs.Frames.{AddsAtMost};
+ghost use Rattle.std.specs.Prelude.{◌≡◌, ◌+◌, ◌*◌, ◌<◌, ◌≤◌, ◌^◌, ◌||◌, not, Option, IfSome};
+ghost use Rattle.task_table.specs.model.State.{Setup, Turn};
+ghost use Rattle.task_table.specs.model.Reading.{arguments, is_valid, IsIdle};
+ghost use Rattle.task_table.specs.model.Sends.{message_of, reply_room, table_of, sent_to, sent};
+ghost use Rattle.task_table.specs.kept.Holds.{Holds, Stands, task_count, note_count, next_call_of};
+ghost use Rattle.task_table.specs.kept.Limits.{syscall_notes, turn_notes};
+ghost use Rattle.task_table.specs.kept.Frames.{AddsAtMost};
+ghost use Rattle.task_table.specs.kept.Calls.{MayCall, Performs};
 ghost use Rattle.ipc_core.specs.Sending.{IsRecipient, IsRecipientOf, IsAmong};
 
 use crate::range::is_valid;
@@ -101,12 +102,9 @@ fn send_by(k: &mut Kernel, caller: usize)
 /// recipient that is the caller or no task is a misuse, and so is a range that reaches beyond the address
 /// space (Hubris Reference, on SEND).
 pub fn send(k: &mut Kernel, caller: usize)
-    requires there { caller < task_count k.old }
-    requires ready { (g : Setup) × (t : Turn) × Stands g k.old t × (is_ready t.state caller ≡ true) }
-    requires room { note_count k.old + syscall_notes ≤ turn_notes }
+    requires may_call { MayCall k.old caller }
     requires number { next_call_of k.old + 1 < 2 ^ 32 }
-    ensures stands { (g : Setup) (t : Turn) → Stands g k.old t → is_ready t.state caller ≡ true → Stands g k.new (sent g caller t) }
-    ensures frame { AddsAtMost k.old syscall_notes k.new }
+    ensures { Performs sent k.old caller k.new }
 {
     send_by(k, caller);
 }

@@ -7,20 +7,20 @@ use Rattle.region_check.specs.declared.Right.{Right}
 use Rattle.region_check.specs.declared.Right.TheVariants.{Read}
 use Rattle.mem_banks.specs.Memory.{Memory, bytes_at, with_bytes, copied as copied_memory}
 use Rattle.mem_banks.proofs.Copies.{with_bytes_none}
-use Rattle.task_table.specs.Placed.{ArePlaced}
+use Rattle.task_table.specs.model.Placed.{ArePlaced}
 use Rattle.task_table.specs.declared.slot.Slice.{Slice}
 use Rattle.task_table.specs.declared.slot.OpenCall.{OpenCall}
-use Rattle.task_table.specs.State.{Setup, State, Birth, Call, Read as Look, Leased, Own, Lease, Ground, Turn}
-use Rattle.task_table.specs.Reading.{bad_byte, taken_by}
-use Rattle.task_table.specs.Effects.{looked, copied}
-use Rattle.task_table.specs.Borrows.{moved, grant}
-use Rattle.task_table.specs.Holds.{Holds, kept_of, kept_call}
-use Rattle.task_table.specs.Sane.{Sane}
+use Rattle.task_table.specs.model.State.{Setup, State, Birth, Call, Read as Look, Leased, Own, Lease, Ground, Turn}
+use Rattle.task_table.specs.model.Reading.{bad_byte, taken_by}
+use Rattle.task_table.specs.model.Effects.{looked, copied}
+use Rattle.task_table.specs.model.Borrows.{moved, grant}
+use Rattle.task_table.specs.kept.Holds.{Holds, kept_of, kept_call}
+use Rattle.task_table.specs.model.Sane.{Sane}
 use Rattle.std.proofs.lemmas.Bool.{leb-true}
-use Rattle.task_table.proofs.Clients.{found_call, taken_call}
+use Rattle.task_table.proofs.model.Clients.{found_call, taken_call}
 use Rattle.task_table.specs.declared.kernel.Kernel.{Kernel}
-use Rattle.task_table.proofs.Messages.{holds_looked, holds_copied}
-use Rattle.task_table.proofs.Ranges.{within-good, within_ram-good}
+use Rattle.task_table.proofs.kept.Messages.{holds_looked, holds_copied}
+use Rattle.task_table.proofs.model.Ranges.{within-good, within_ram-good}
 use Rattle.lease_core.specs.Loans.{way_of, IsBuffer, IsLeased, IsEntry, IsEntryAt}
 use Rattle.lease_core.specs.declared.way.Way.{Way}
 use Rattle.lease_core.specs.declared.way.Way.TheVariants as way

@@ -9,13 +9,13 @@ use Rattle.kernel_abi.specs.declared.arguments.InfoArgs.{InfoArgs}
 use Rattle.kernel_abi.specs.Ids.{index_of}
 use Rattle.region_check.specs.declared.Right.TheVariants.{Read}
 use Rattle.task_table.specs.declared.slot.Slice.{Slice}
-use Rattle.task_table.specs.State.{Setup, Call, Turn}
-use Rattle.task_table.specs.Reading.{is_out, is_dead, dead_code_for, is_valid, bad_byte, taken_by}
-use Rattle.task_table.specs.Holds.{Holds}
+use Rattle.task_table.specs.model.State.{Setup, Call, Turn}
+use Rattle.task_table.specs.model.Reading.{is_out, is_dead, dead_code_for, is_valid, bad_byte, taken_by}
+use Rattle.task_table.specs.kept.Holds.{Holds}
 use Rattle.task_table.specs.declared.kernel.Kernel.{Kernel}
-use Rattle.task_table.specs.Effects.{noted}
-use Rattle.task_table.specs.Rows.{misused, denied, goes_on_with}
-use Rattle.task_table.specs.Borrows.{Way, entry_range, grant, lease_range, entry_read, moved, no_lease, refused, uninformed, lent, granted, borrowed_by, grant_answered, informed_by}
+use Rattle.task_table.specs.model.Effects.{noted}
+use Rattle.task_table.specs.model.Rows.{misused, denied, goes_on_with}
+use Rattle.task_table.specs.model.Borrows.{Way, entry_range, grant, lease_range, entry_read, moved, no_lease, refused, uninformed, lent, granted, borrowed_by, grant_answered, informed_by}
 
 -- ## the lender's bytes
 

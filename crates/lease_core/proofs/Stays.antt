@@ -6,11 +6,11 @@ use Rattle.std.proofs.lemmas.List.Elements.{Contains-append_right}
 use Rattle.mem_banks.specs.Memory.{Memory, bytes_at, IsWithin}
 use Rattle.mem_banks.proofs.Copies.{bytes_ram, bytes_flash, bytes_zero, length_part}
 use Rattle.kernel_abi.specs.declared.LeaseEntry.{LeaseEntry}
-use Rattle.task_table.specs.State.{State, Call, Ground, Own, Lease, Write, Turn}
-use Rattle.task_table.specs.Borrows.{grant, moved}
-use Rattle.task_table.specs.Effects.{looked, copied, writes_on}
-use Rattle.task_table.specs.Entries.{kept_at, IsKeptFor, meets}
-use Rattle.task_table.specs.Holds.{entries_of}
+use Rattle.task_table.specs.model.State.{State, Call, Ground, Own, Lease, Write, Turn}
+use Rattle.task_table.specs.model.Borrows.{grant, moved}
+use Rattle.task_table.specs.model.Effects.{looked, copied, writes_on}
+use Rattle.task_table.specs.kept.Entries.{kept_at, IsKeptFor, meets}
+use Rattle.task_table.specs.kept.Holds.{entries_of}
 use Rattle.task_table.specs.declared.entry.KeptEntry.{KeptEntry}
 use Rattle.task_table.specs.declared.kernel.Kernel.{Kernel}
 use Rattle.lease_core.specs.Loans.{way_of, IsBuffer, IsLeased, WritesNone, IsHeldAfter, target, IsClear}

@@ -13,22 +13,22 @@ use Rattle.kernel_abi.specs.declared.LeaseEntry.{LeaseEntry}
 use Rattle.kernel_abi.specs.declared.Note.{Note}
 use Rattle.kernel_abi.specs.declared.Note.TheVariants as note
 use Rattle.region_check.specs.declared.Right.TheVariants.{Read}
-use Rattle.task_table.specs.State.{Setup, State, Task, Call, Listen, Turn}
-use Rattle.task_table.specs.Reading.{task_at, register, arguments, listen_of, is_out, is_dead, dead_code_for, is_valid, bad_byte, taken_by}
-use Rattle.task_table.specs.Effects.{with_task, without_listen, changed, noted, with_health, with_results, given, returned, past_syscall, bits_added, bits_cleared, woken_by, woken, posted, closed, faulted_as, faulted}
-use Rattle.task_table.specs.Rows.{goes_on_with}
-use Rattle.task_table.specs.Borrows.{Way as Needs, entry_range, grant, lease_range, entry_read, buffer_of, part_of, borrowed_by, borrowed, informed_by, informed}
-use Rattle.task_table.specs.Holds.{kept_call}
+use Rattle.task_table.specs.model.State.{Setup, State, Task, Call, Listen, Turn}
+use Rattle.task_table.specs.model.Reading.{task_at, register, arguments, listen_of, is_out, is_dead, dead_code_for, is_valid, bad_byte, taken_by}
+use Rattle.task_table.specs.model.Effects.{with_task, without_listen, changed, noted, with_health, with_results, given, returned, past_syscall, bits_added, bits_cleared, woken_by, woken, posted, closed, faulted_as, faulted}
+use Rattle.task_table.specs.model.Rows.{goes_on_with}
+use Rattle.task_table.specs.model.Borrows.{Way as Needs, entry_range, grant, lease_range, entry_read, buffer_of, part_of, borrowed_by, borrowed, informed_by, informed}
+use Rattle.task_table.specs.kept.Holds.{kept_call}
 use Rattle.task_table.specs.declared.slot.OpenCall.{OpenCall}
-use Rattle.task_table.specs.Sane.{Sane}
-use Rattle.task_table.proofs.Changes.{task_at-with_task, task_at-without_call, task_at-without_listen}
-use Rattle.task_table.proofs.Clients.{found_call, taken_call}
-use Rattle.task_table.proofs.DeadRows.{answered-goes_on_with}
-use Rattle.task_table.proofs.Handing.{keeps-looked}
-use Rattle.task_table.proofs.Posting.{still}
-use Rattle.task_table.proofs.Quieting.{ready-with_task}
-use Rattle.task_table.proofs.Receives.{well-ready, none_left}
-use Rattle.task_table.proofs.Sanity.{sane-faulted}
+use Rattle.task_table.specs.model.Sane.{Sane}
+use Rattle.task_table.proofs.model.Changes.{task_at-with_task, task_at-without_call, task_at-without_listen}
+use Rattle.task_table.proofs.model.Clients.{found_call, taken_call}
+use Rattle.task_table.proofs.model.DeadRows.{answered-goes_on_with}
+use Rattle.task_table.proofs.model.Handing.{keeps-looked}
+use Rattle.task_table.proofs.model.Posting.{still}
+use Rattle.task_table.proofs.model.Quieting.{ready-with_task}
+use Rattle.task_table.proofs.model.Receives.{well-ready, none_left}
+use Rattle.task_table.proofs.model.Sanity.{sane-faulted}
 use Rattle.lease_core.specs.Loans.{way_of, WentWell, WritesNone, IsEntryRead, IsGranted, target, IsClear}
 use Rattle.lease_core.specs.declared.Loan.{Loan}
 use Rattle.lease_core.proofs.Leases.{leased_good, buffer_good, of_lender}

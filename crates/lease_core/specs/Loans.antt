@@ -6,13 +6,13 @@ use Rattle.kernel_abi.specs.declared.LeaseEntry.{LeaseEntry}
 use Rattle.kernel_abi.specs.declared.Note.TheVariants as note
 use Rattle.region_check.specs.declared.Right.TheVariants.{Read}
 use Rattle.mem_banks.specs.Memory.{Memory, IsWithin, IsWithinRam}
-use Rattle.task_table.specs.State.{Setup, State, Call, Write, Turn}
-use Rattle.task_table.specs.Reading.{register, arguments, is_ready, is_valid, bad_byte, taken_by}
-use Rattle.task_table.specs.Entries.{kept_at, IsKeptFor, entry_at}
-use Rattle.task_table.specs.Effects.{◌⨾◌, noted}
-use Rattle.task_table.specs.Rows.{goes_on_with}
-use Rattle.task_table.specs.Borrows.{Way as Needs, reading, writing, entry_range, grant, lease_range, buffer_of, part_of, borrowed, informed}
-use Rattle.task_table.specs.Holds.{entries_of}
+use Rattle.task_table.specs.model.State.{Setup, State, Call, Write, Turn}
+use Rattle.task_table.specs.model.Reading.{register, arguments, is_ready, is_valid, bad_byte, taken_by}
+use Rattle.task_table.specs.kept.Entries.{kept_at, IsKeptFor, entry_at}
+use Rattle.task_table.specs.model.Effects.{◌⨾◌, noted}
+use Rattle.task_table.specs.model.Rows.{goes_on_with}
+use Rattle.task_table.specs.model.Borrows.{Way as Needs, reading, writing, entry_range, grant, lease_range, buffer_of, part_of, borrowed, informed}
+use Rattle.task_table.specs.kept.Holds.{entries_of}
 use Rattle.task_table.specs.declared.entry.KeptEntry.{KeptEntry}
 use Rattle.task_table.specs.declared.kernel.Kernel.{Kernel}
 use Rattle.task_table.specs.declared.slot.Slice.{Slice}

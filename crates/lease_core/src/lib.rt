@@ -4,15 +4,15 @@
 
 ghost use Rattle.std.specs.Prelude.{◌≡◌, ◌+◌, ◌*◌, ◌<◌, ◌≤◌, ◌^◌, ℕ, true, None, Some, IfOk};
 ghost use Rattle.kernel_abi.specs.declared.Note.TheVariants as note;
-ghost use Rattle.task_table.specs.State.{Setup, Turn, Call};
-ghost use Rattle.task_table.specs.Reading.{arguments, is_valid, is_ready};
-ghost use Rattle.task_table.specs.Effects.{noted};
-ghost use Rattle.task_table.specs.Borrows.{reading, writing, moved, refused, uninformed, lent, buffered, granted, part_of, lease_range, borrowed_by, borrowed, grant_answered, informed_by, informed};
-ghost use Rattle.task_table.specs.Holds.{Holds, Stands, Stood, kept_call, task_count, note_count, memory_of, entries_of};
-ghost use Rattle.task_table.specs.Entries.{IsKeptFor};
-ghost use Rattle.task_table.specs.Messages.{IsLent};
-ghost use Rattle.task_table.specs.Limits.{syscall_notes, turn_notes};
-ghost use Rattle.task_table.specs.Frames.{AddsNotes, AddsAtMost};
+ghost use Rattle.task_table.specs.model.State.{Setup, Turn, Call};
+ghost use Rattle.task_table.specs.model.Reading.{arguments, is_valid, is_ready};
+ghost use Rattle.task_table.specs.model.Borrows.{reading, writing, moved, refused, uninformed, lent, buffered, granted, part_of, lease_range, borrowed_by, borrowed, grant_answered, informed_by, informed};
+ghost use Rattle.task_table.specs.kept.Holds.{Holds, Stands, Stood, kept_call, task_count, note_count, memory_of, entries_of};
+ghost use Rattle.task_table.specs.kept.Entries.{IsKeptFor};
+ghost use Rattle.task_table.specs.kept.Messages.{IsLent};
+ghost use Rattle.task_table.specs.kept.Limits.{syscall_notes, turn_notes};
+ghost use Rattle.task_table.specs.kept.Frames.{AddsNotes, AddsAtMost};
+ghost use Rattle.task_table.specs.kept.Calls.{MayCall, Performs};
 ghost use Rattle.lease_core.specs.Loans.{way_of, IsBuffer, IsLeased, IsLoanOf, IsEntry, IsEntryAt, lent_answered, KeepsBorrowed, KeepsInformed, IsHeldAfter, IsEntryRead, HoldsGranted, IsGranted, MayLend, MayInform, StayKept};
 
 mod way;
@@ -364,12 +364,9 @@ fn inform(k: &mut Kernel, caller: usize)
 /// Reference, on leases). Where r4 is 0, the entry of the lease is kept from then on, unless one of its bytes was
 /// written.
 pub fn borrow_read(k: &mut Kernel, caller: usize)
-    requires there { caller < task_count k.old }
-    requires ready { (g : Setup) × (t : Turn) × Stands g k.old t × (is_ready t.state caller ≡ true) }
-    requires room { note_count k.old + syscall_notes ≤ turn_notes }
-    ensures stands { (g : Setup) (t : Turn) → Stands g k.old t → is_ready t.state caller ≡ true → Stands g k.new (borrowed g reading caller t) }
+    requires { MayCall k.old caller }
+    ensures performs { Performs (λ g. borrowed g reading) k.old caller k.new }
     ensures held { (g : Setup) (t : Turn) → Stands g k.old t → is_ready t.state caller ≡ true → KeepsBorrowed g reading caller t k.new }
-    ensures frame { AddsAtMost k.old syscall_notes k.new }
 {
     borrow(k, caller, Way::Read);
 }
@@ -377,12 +374,9 @@ pub fn borrow_read(k: &mut Kernel, caller: usize)
 /// BORROW_WRITE: as BORROW_READ, but the bytes of the caller's buffer are copied into the lease (Hubris
 /// Reference, on leases).
 pub fn borrow_write(k: &mut Kernel, caller: usize)
-    requires there { caller < task_count k.old }
-    requires ready { (g : Setup) × (t : Turn) × Stands g k.old t × (is_ready t.state caller ≡ true) }
-    requires room { note_count k.old + syscall_notes ≤ turn_notes }
-    ensures stands { (g : Setup) (t : Turn) → Stands g k.old t → is_ready t.state caller ≡ true → Stands g k.new (borrowed g writing caller t) }
+    requires { MayCall k.old caller }
+    ensures performs { Performs (λ g. borrowed g writing) k.old caller k.new }
     ensures held { (g : Setup) (t : Turn) → Stands g k.old t → is_ready t.state caller ≡ true → KeepsBorrowed g writing caller t k.new }
-    ensures frame { AddsAtMost k.old syscall_notes k.new }
 {
     borrow(k, caller, Way::Write);
 }
@@ -392,12 +386,9 @@ pub fn borrow_write(k: &mut Kernel, caller: usize)
 /// by it, r4 is 1 and r5 and r6 are 0 (Hubris Reference, on leases). Where r4 is 0, the entry of the lease is
 /// kept from then on.
 pub fn borrow_info(k: &mut Kernel, caller: usize)
-    requires there { caller < task_count k.old }
-    requires ready { (g : Setup) × (t : Turn) × Stands g k.old t × (is_ready t.state caller ≡ true) }
-    requires room { note_count k.old + syscall_notes ≤ turn_notes }
-    ensures stands { (g : Setup) (t : Turn) → Stands g k.old t → is_ready t.state caller ≡ true → Stands g k.new (informed g caller t) }
+    requires { MayCall k.old caller }
+    ensures performs { Performs informed k.old caller k.new }
     ensures held { (g : Setup) (t : Turn) → Stands g k.old t → is_ready t.state caller ≡ true → KeepsInformed g caller t k.new }
-    ensures frame { AddsAtMost k.old syscall_notes k.new }
 {
     inform(k, caller);
 }

@@ -6,13 +6,13 @@ use words_core::PROGRAM_COUNTER;
 
 impl Kernel {
     ghost use Rattle.std.specs.Prelude.{◌≡◌, ◌+◌, ◌<◌, ◌≤◌, length};
-    ghost use Rattle.task_table.specs.State.{Setup, Turn};
-    ghost use Rattle.task_table.specs.Reading.{arguments};
-    ghost use Rattle.task_table.specs.Effects.{given, returned, past_syscall, bits_added, bits_cleared, woken, posted};
-    ghost use Rattle.task_table.specs.Rows.{goes_on, goes_on_with};
-    ghost use Rattle.task_table.specs.Holds.{Holds, Stands, task_count, note_count, entries_of};
-    ghost use Rattle.task_table.specs.Limits.{turn_notes};
-    ghost use Rattle.task_table.specs.Frames.{AddsNotes, AddsAtMost};
+    ghost use Rattle.task_table.specs.model.State.{Setup, Turn};
+    ghost use Rattle.task_table.specs.model.Reading.{arguments};
+    ghost use Rattle.task_table.specs.model.Effects.{given, returned, past_syscall, bits_added, bits_cleared, woken, posted};
+    ghost use Rattle.task_table.specs.model.Rows.{goes_on, goes_on_with};
+    ghost use Rattle.task_table.specs.kept.Holds.{Holds, Stands, task_count, note_count, entries_of};
+    ghost use Rattle.task_table.specs.kept.Limits.{turn_notes};
+    ghost use Rattle.task_table.specs.kept.Frames.{AddsNotes, AddsAtMost};
 
     /// The registers r4 to r11 of a task: the arguments of its system call, and its number.
     pub fn arguments(&self, task: usize) -> [u32; 8]
@@ -151,7 +151,7 @@ impl Kernel {
 }
 
 ghost use Rattle.std.specs.Prelude.{◌≡◌, ◌≤◌, length, slice_range};
-ghost use Rattle.task_table.specs.Effects.{with_results};
+ghost use Rattle.task_table.specs.model.Effects.{with_results};
 
 /// Writes results from r4 on.
 fn write_results(registers: &mut [u32; 16], values: &[u32])

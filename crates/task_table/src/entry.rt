@@ -1,7 +1,7 @@
 //! Entries of lease tables that were read, and where in memory they lie.
 
 ghost use Rattle.std.specs.Prelude.{◌≡◌, ◌+◌, ◌≤◌, ◌^◌, ℕ, None, length, IfOk};
-ghost use Rattle.task_table.specs.Entries.{kept_at, AreLeft};
+ghost use Rattle.task_table.specs.kept.Entries.{kept_at, AreLeft};
 
 use kernel_abi::LeaseEntry;
 use std::alloc::{AllocError, Global};
@@ -16,7 +16,7 @@ pub struct KeptEntry {
 
 impl KeptEntry {
     ghost use Rattle.std.specs.Prelude.{◌≡◌};
-    ghost use Rattle.task_table.specs.Entries.{meets};
+    ghost use Rattle.task_table.specs.kept.Entries.{meets};
 
     /// Whether one of so many bytes from an address on is one of its twelve.
     fn meets(&self, addr: u32, count: usize) -> bool
@@ -38,10 +38,12 @@ pub(crate) struct Watch {
 
 impl Watch {
     ghost use Rattle.std.specs.Prelude.{◌≡◌, ◌+◌, ◌≤◌, ◌⊎◌, ℕ, false};
-    ghost use Rattle.task_table.specs.Entries.{IsWatched};
+    ghost use Rattle.task_table.specs.kept.Entries.{IsWatched};
 
     /// Nowhere.
-    pub fn nowhere() -> Watch {
+    pub fn nowhere() -> Watch
+        ensures { result.span ≡ 0 }
+    {
         Watch { low: 0, span: 0 }
     }
 

@@ -9,14 +9,14 @@ use kernel_abi::{Ending, Fault, Health, Note, SYSCALL_SELECTOR, Usage};
 impl Kernel {
     ghost use Rattle.std.specs.Prelude.{◌≡◌, ◌+◌, ◌<◌, ◌≤◌};
     ghost use Rattle.kernel_abi.specs.Faults.{usage_number};
-    ghost use Rattle.task_table.specs.State.{Setup, Turn};
-    ghost use Rattle.task_table.specs.Reading.{call_of, listen_of};
-    ghost use Rattle.task_table.specs.Effects.{changed, with_health, without_listen, closed, faulted_as, faulted, is_to, awaits};
-    ghost use Rattle.task_table.specs.Rows.{misused, panicked, syscall_noted};
-    ghost use Rattle.task_table.specs.Holds.{Holds, Stands, task_count, note_count};
-    ghost use Rattle.task_table.specs.Waits.{AreFew};
-    ghost use Rattle.task_table.specs.Limits.{turn_notes};
-    ghost use Rattle.task_table.specs.Frames.{AddsNotes, AddsAtMost};
+    ghost use Rattle.task_table.specs.model.State.{Setup, Turn};
+    ghost use Rattle.task_table.specs.model.Reading.{call_of, listen_of};
+    ghost use Rattle.task_table.specs.model.Effects.{changed, with_health, without_listen, closed, faulted_as, faulted, is_to, awaits};
+    ghost use Rattle.task_table.specs.model.Rows.{misused, panicked, syscall_noted};
+    ghost use Rattle.task_table.specs.kept.Holds.{Holds, Stands, task_count, note_count};
+    ghost use Rattle.task_table.specs.kept.Waits.{AreFew};
+    ghost use Rattle.task_table.specs.kept.Limits.{turn_notes};
+    ghost use Rattle.task_table.specs.kept.Frames.{AddsNotes, AddsAtMost};
 
     /// A task is so from now on.
     fn set_health(&mut self, task: usize, health: Health)

@@ -4,13 +4,13 @@
 //! what the answer is, or which turn the kernel holds afterwards.
 
 ghost use Rattle.std.specs.Prelude.{◌≡◌, ◌<◌, ◌≤◌, length, map, vec_capacity};
-ghost use Rattle.task_table.specs.Limits.{most_tasks, board_lines, turn_notes};
-ghost use Rattle.task_table.specs.Parts.{task_setup};
-ghost use Rattle.task_table.specs.Order.{priorities_of, AreOrdered};
-ghost use Rattle.task_table.specs.Readiness.{is_free, AreThose, AreOffers};
-ghost use Rattle.task_table.specs.Deadlines.{AreTimed};
-ghost use Rattle.task_table.specs.Entries.{AreFresh, AreEntriesOf};
-ghost use Rattle.task_table.specs.Openable.{AreOpenable};
+ghost use Rattle.task_table.specs.kept.Limits.{most_tasks, board_lines, turn_notes};
+ghost use Rattle.task_table.specs.kept.Parts.{task_setup};
+ghost use Rattle.task_table.specs.kept.Order.{priorities_of, AreOrdered};
+ghost use Rattle.task_table.specs.kept.Readiness.{is_free, AreThose, AreOffers};
+ghost use Rattle.task_table.specs.kept.Deadlines.{AreTimed};
+ghost use Rattle.task_table.specs.kept.Entries.{AreFresh, AreEntriesOf};
+ghost use Rattle.task_table.specs.kept.Openable.{AreOpenable};
 
 mod entries;
 mod sets;
@@ -70,17 +70,17 @@ pub struct Kernel {
 
 impl Kernel {
     ghost use Rattle.std.specs.Prelude.{◌≡◌, ◌+◌, ◌-◌, ◌%◌, ◌<◌, ◌≤◌, ◌^◌, ◌⊎◌, ℕ, false, length, map, replicate, Option, Some, IfOk, slice_get};
-    ghost use Rattle.task_table.specs.State.{Setup, Turn, Ground, Own};
+    ghost use Rattle.task_table.specs.model.State.{Setup, Turn, Ground, Own};
     ghost use Rattle.mem_banks.specs.Memory.{is_ram, byte_at, number_at, IsWithin, IsWithinRam};
-    ghost use Rattle.task_table.specs.Reading.{task_at, setup_at, register, priority, is_ready, call_of, listen_of};
-    ghost use Rattle.task_table.specs.Effects.{changed, noted, clocked, with_line, stored, copied};
-    ghost use Rattle.task_table.specs.Start.{start as started_at, begun};
-    ghost use Rattle.task_table.specs.Parts.{setup_of_parts, line_setup, IsSound};
-    ghost use Rattle.task_table.specs.Holds.{Holds, Stands, IsKept, wait_of, task_count, note_count, clock_of, next_call_of, memory_of, setup_of, current_of, notes_of, entries_of};
-    ghost use Rattle.task_table.specs.Entries.{kept_at, meets};
-    ghost use Rattle.task_table.specs.Found.{IsFound, IsInRange};
-    ghost use Rattle.task_table.specs.Limits.{most_tasks, board_lines, turn_notes};
-    ghost use Rattle.task_table.specs.Frames.{AddsNotes};
+    ghost use Rattle.task_table.specs.model.Reading.{task_at, setup_at, register, priority, is_ready, call_of, listen_of};
+    ghost use Rattle.task_table.specs.model.Effects.{changed, noted, clocked, with_line, stored, copied};
+    ghost use Rattle.task_table.specs.model.Start.{start as started_at, begun};
+    ghost use Rattle.task_table.specs.kept.Parts.{setup_of_parts, line_setup, IsSound};
+    ghost use Rattle.task_table.specs.kept.Holds.{Holds, Stands, IsKept, wait_of, task_count, note_count, clock_of, next_call_of, memory_of, setup_of, current_of, notes_of, entries_of};
+    ghost use Rattle.task_table.specs.kept.Entries.{kept_at, meets};
+    ghost use Rattle.task_table.specs.kept.Found.{IsFound, IsInRange};
+    ghost use Rattle.task_table.specs.kept.Limits.{most_tasks, board_lines, turn_notes};
+    ghost use Rattle.task_table.specs.kept.Frames.{AddsNotes};
     ghost use Rattle.task_table.specs.declared.entry.KeptEntry.{KeptEntry};
 
     /// The kernel at the start of a run, of one task at least: each task as at its first birth, and the

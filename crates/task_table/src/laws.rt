@@ -10,26 +10,26 @@ ghost use Rattle.region_check.specs.declared.Right.{Right};
 ghost use Rattle.region_check.specs.declared.Right.TheVariants.{Write};
 ghost use Rattle.region_check.specs.Rights.{may_copy};
 ghost use Rattle.mem_banks.specs.Memory.{Memory, IsWithin, IsWithinRam, AreAllBytes};
-ghost use Rattle.task_table.specs.State.{Setup, State, Turn, Ground, Read};
-ghost use Rattle.task_table.specs.Reading.{setup_at, is_ready, best_sender, IsIdle, IsSameAt};
-ghost use Rattle.task_table.specs.Effects.{changed, noted, looked, with_processor, given, posted, with_timer, with_line, stored, faulted};
-ghost use Rattle.task_table.specs.Rows.{misused, panicked, timer_set, timer_answered, irq_controlled, irq_answered, received, syscall_noted};
-ghost use Rattle.task_table.specs.Sends.{sent, replied, reply_faulted, post_made, refreshed};
-ghost use Rattle.task_table.specs.Borrows.{reading, writing, borrowed, informed};
-ghost use Rattle.task_table.specs.Orders.{ordered};
-ghost use Rattle.task_table.specs.Syscalls.{syscall_made};
-ghost use Rattle.task_table.specs.Events.{ticked, interrupted, fed};
-ghost use Rattle.task_table.specs.Placed.{ArePlaced};
-ghost use Rattle.task_table.specs.Sane.{Sane, IsCounted};
-ghost use Rattle.task_table.specs.Counts.{AreWhole, IsSameTime, AreCounts, IsNoted, AreNoted, IsAsReady};
-ghost use Rattle.task_table.specs.Chain.{Chain};
-ghost use Rattle.task_table.specs.Step.{Step, Outcome};
-ghost use Rattle.task_table.specs.Grounds.{AreGrounded, AreGranted, AreAlive, AreReached, with_writes};
-ghost use Rattle.task_table.specs.Ledger.{IsLedger};
-ghost use Rattle.task_table.specs.Lives.{IsAsNoted, IsFresh, IsClosed, IsSilent};
-ghost use Rattle.task_table.specs.Parts.{IsSound};
-ghost use Rattle.task_table.specs.Start.{start};
-ghost use Rattle.task_table.specs.Holds.{Holds};
+ghost use Rattle.task_table.specs.model.State.{Setup, State, Turn, Ground, Read};
+ghost use Rattle.task_table.specs.model.Reading.{setup_at, is_ready, best_sender, IsIdle, IsSameAt};
+ghost use Rattle.task_table.specs.model.Effects.{changed, noted, looked, with_processor, given, posted, with_timer, with_line, stored, faulted};
+ghost use Rattle.task_table.specs.model.Rows.{misused, panicked, timer_set, timer_answered, irq_controlled, irq_answered, received, syscall_noted};
+ghost use Rattle.task_table.specs.model.Sends.{sent, replied, reply_faulted, post_made, refreshed};
+ghost use Rattle.task_table.specs.model.Borrows.{reading, writing, borrowed, informed};
+ghost use Rattle.task_table.specs.model.Requests.{requested};
+ghost use Rattle.task_table.specs.model.Syscalls.{syscall_made};
+ghost use Rattle.task_table.specs.model.Events.{ticked, interrupted, fed};
+ghost use Rattle.task_table.specs.model.Placed.{ArePlaced};
+ghost use Rattle.task_table.specs.model.Sane.{Sane, IsCounted};
+ghost use Rattle.task_table.specs.model.Counts.{AreWhole, IsSameTime, AreCounts, IsNoted, AreNoted, IsAsReady};
+ghost use Rattle.task_table.specs.model.Chain.{Chain};
+ghost use Rattle.task_table.specs.model.Step.{Step, CallOutcome};
+ghost use Rattle.task_table.specs.model.Grounds.{AreGrounded, AreGranted, AreAlive, AreReached, with_writes};
+ghost use Rattle.task_table.specs.model.Ledger.{IsLedger};
+ghost use Rattle.task_table.specs.model.Lives.{IsAsNoted, IsFresh, IsClosed, IsSilent};
+ghost use Rattle.task_table.specs.kept.Parts.{IsSound};
+ghost use Rattle.task_table.specs.model.Start.{start};
+ghost use Rattle.task_table.specs.kept.Holds.{Holds};
 ghost use Rattle.task_table.specs.declared.kernel.Kernel.{Kernel};
 
 /// Each effect leaves a sane state sane.
@@ -61,7 +61,7 @@ pub fn rows_keep_sane()
     ensures read { (g : Setup) (c : ℕ) (t : Turn) → Sane g t.state → c < length t.state.tasks → is_ready t.state c ≡ true → Sane g (borrowed g reading c t).state }
     ensures written { (g : Setup) (c : ℕ) (t : Turn) → Sane g t.state → c < length t.state.tasks → is_ready t.state c ≡ true → Sane g (borrowed g writing c t).state }
     ensures informed { (g : Setup) (c : ℕ) (t : Turn) → Sane g t.state → c < length t.state.tasks → is_ready t.state c ≡ true → Sane g (informed g c t).state }
-    ensures ordered { (g : Setup) (c : ℕ) (t : Turn) → Sane g t.state → c < length t.state.tasks → is_ready t.state c ≡ true → Sane g (ordered g c t).state }
+    ensures requested { (g : Setup) (c : ℕ) (t : Turn) → Sane g t.state → c < length t.state.tasks → is_ready t.state c ≡ true → Sane g (requested g c t).state }
     ensures syscall_made { (g : Setup) (c : ℕ) (t : Turn) → Sane g t.state → c < length t.state.tasks → is_ready t.state c ≡ true → Sane g (syscall_made g c t).state }
 {}
 
@@ -69,7 +69,7 @@ pub fn rows_keep_sane()
 /// its caller and restart nobody; or restarts another task at once, and its caller goes on: the one walk over the rows,
 /// from which follows whatever holds of each step.
 pub fn syscalls_fault_at_once_or_spare_their_caller()
-    ensures { (g : Setup) (c : ℕ) (t : Turn) → Sane g t.state → c < length t.state.tasks → is_ready t.state c ≡ true → Outcome g t.state c t (syscall_made g c t) }
+    ensures { (g : Setup) (c : ℕ) (t : Turn) → Sane g t.state → c < length t.state.tasks → is_ready t.state c ≡ true → CallOutcome g t.state c t (syscall_made g c t) }
 {}
 
 /// So every system call is a chain of steps, each with what makes it good.
@@ -89,13 +89,13 @@ pub fn chains_reach_devices_where_they_may()
 {}
 
 /// A chain of steps leaves a sane state sane, changes no turn and no time, and makes at most one call. It
-/// takes back no note; where none was noted, each task is as ready as before. A step notes at most four, and a
+/// takes back no note; where it adds none, each task is as ready as before. A step notes at most four, and a
 /// restart two for each task besides.
 pub fn chains_keep_what_steps_keep()
     ensures sane { (g : Setup) (s : State) (c : ℕ) (u v : Turn) → Chain (Step g s c) u v → Sane g u.state → Sane g v.state }
     ensures counts { (g : Setup) (s : State) (c : ℕ) (u v : Turn) → ArePlaced g s.memory → Chain (Step g s c) u v → AreCounts s u.state → AreCounts s v.state }
     ensures noted { (g : Setup) (s : State) (c : ℕ) (u v : Turn) → Chain (Step g s c) u v → IsNoted u → IsNoted v }
-    ensures quiet { (g : Setup) (s : State) (c : ℕ) (u v : Turn) → Chain (Step g s c) u v → v.notes ≡ [] → IsAsReady u.state v.state }
+    ensures quiet { (g : Setup) (s : State) (c : ℕ) (u v : Turn) → Chain (Step g s c) u v → length v.notes ≤ length u.notes → IsAsReady u.state v.state }
     ensures few { (g : Setup) (s : State) (c : ℕ) (u v : Turn) → Step g s c u v → AreNoted (4 + 2 * length u.state.tasks) u v }
 {}
 

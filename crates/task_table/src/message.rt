@@ -10,14 +10,14 @@ impl Kernel {
     ghost use Rattle.std.specs.Option.{option_map};
     ghost use Rattle.kernel_abi.specs.Faults.{access_number};
     ghost use Rattle.mem_banks.specs.Memory.{IsWithin, IsWithinRam};
-    ghost use Rattle.task_table.specs.State.{Setup, Turn, Call, Ground};
-    ghost use Rattle.task_table.specs.Reading.{arguments, present_id, bad_byte, offer_by, taken_by, IsIdle};
-    ghost use Rattle.task_table.specs.Effects.{changed, with_taken, handed};
-    ghost use Rattle.task_table.specs.Rows.{asked, denied, takes_bits, listens, receives};
-    ghost use Rattle.task_table.specs.Holds.{Holds, Stands, kept_call, from_id_of, task_count, note_count, memory_of};
-    ghost use Rattle.task_table.specs.Limits.{turn_notes};
-    ghost use Rattle.task_table.specs.Frames.{AddsNotes, AddsAtMost};
-    ghost use Rattle.task_table.specs.Messages.{from_of, listening, IsListened, IsReceivable};
+    ghost use Rattle.task_table.specs.model.State.{Setup, Turn, Call, Ground};
+    ghost use Rattle.task_table.specs.model.Reading.{arguments, present_id, bad_byte, offer_by, taken_by, IsIdle};
+    ghost use Rattle.task_table.specs.model.Effects.{changed, with_taken, handed};
+    ghost use Rattle.task_table.specs.model.Rows.{asked, denied, takes_bits, listens, receives};
+    ghost use Rattle.task_table.specs.kept.Holds.{Holds, Stands, kept_call, from_id_of, task_count, note_count, memory_of};
+    ghost use Rattle.task_table.specs.kept.Limits.{turn_notes};
+    ghost use Rattle.task_table.specs.kept.Frames.{AddsNotes, AddsAtMost};
+    ghost use Rattle.task_table.specs.kept.Messages.{from_of, listening, IsListened, IsReceivable};
 
     /// The call that a client offers to a server, where it does.
     pub fn offered(&self, client: usize, server: usize) -> Option<OpenCall>
@@ -187,7 +187,7 @@ impl Kernel {
 }
 
 ghost use Rattle.std.specs.Prelude.{◌≡◌};
-ghost use Rattle.task_table.specs.Rows.{buffer_of};
+ghost use Rattle.task_table.specs.model.Rows.{buffer_of};
 
 /// The buffer of a receive.
 fn buffer_of(args: &RecvArgs) -> Slice

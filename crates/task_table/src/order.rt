@@ -3,10 +3,10 @@
 ghost use Rattle.std.specs.Prelude.{◌≡◌, ◌<◌, ◌≤◌, ◌%◌, ℕ, List, true, length, map, All, IfOk};
 ghost use Rattle.std.specs.List.Sorted.{IsPermutation, IsSorted};
 ghost use Rattle.std.specs.Ordering.{nat_cmp};
-ghost use Rattle.task_table.specs.Limits.{most_tasks};
-ghost use Rattle.task_table.specs.Parts.{task_setup};
-ghost use Rattle.task_table.specs.TaskSets.{has};
-ghost use Rattle.task_table.specs.Order.{AreOnce, AreOrdered, HavePlaces, IsKeyFrom, IsPlaceOf, first_around, has_task, keyed, priorities_of};
+ghost use Rattle.task_table.specs.kept.Limits.{most_tasks};
+ghost use Rattle.task_table.specs.kept.Parts.{task_setup};
+ghost use Rattle.task_table.specs.kept.TaskSets.{has};
+ghost use Rattle.task_table.specs.kept.Order.{AreOnce, AreOrdered, HavePlaces, IsKeyFrom, IsPlaceOf, first_around, has_task, keyed, priorities_of};
 
 use crate::start::TaskStart;
 use crate::task_set::TaskSet;
@@ -102,7 +102,7 @@ fn key_from(keys: &[u32], among: &TaskSet, place: usize, priority: u32, other: u
 
 impl Order {
     ghost use Rattle.std.specs.Prelude.{◌≡◌, ◌+◌, ◌*◌, ◌<◌, ◌≤◌, ℕ, List, length, IfOk};
-    ghost use Rattle.task_table.specs.Order.{AreOrdered, IsPlaceOf, place_in};
+    ghost use Rattle.task_table.specs.kept.Order.{AreOrdered, IsPlaceOf, place_in};
 
     /// The order of tasks with these priority numbers, of which there are at most 1,024.
     ///

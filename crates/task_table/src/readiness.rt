@@ -1,10 +1,10 @@
 //! Which tasks are ready, and lists of sets of which a task is in one at most, as those of the clients of each server.
 
 ghost use Rattle.std.specs.Prelude.{◌≡◌, ◌<◌, ◌≤◌, ◌&&◌, ◌==◌, ℕ, false, length, IfOk, if◌then◌else◌, slice_index_or};
-ghost use Rattle.task_table.specs.Limits.{most_tasks};
-ghost use Rattle.task_table.specs.TaskSets.{has};
-ghost use Rattle.task_table.specs.Order.{ArePlaces};
-ghost use Rattle.task_table.specs.Readiness.{is_free, is_at, AreThose};
+ghost use Rattle.task_table.specs.kept.Limits.{most_tasks};
+ghost use Rattle.task_table.specs.kept.TaskSets.{has};
+ghost use Rattle.task_table.specs.kept.Order.{ArePlaces};
+ghost use Rattle.task_table.specs.kept.Readiness.{is_free, is_at, AreThose};
 ghost use Rattle.task_table.specs.declared.task_set.TaskSet.{TaskSet};
 
 use crate::order::Order;

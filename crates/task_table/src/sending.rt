@@ -9,14 +9,14 @@ impl Kernel {
     ghost use Rattle.std.specs.Prelude.{◌≡◌, ◌≢◌, ◌+◌, ◌<◌, ◌≤◌, ◌^◌, Option, Some};
     ghost use Rattle.kernel_abi.specs.Faults.{reason_number};
     ghost use Rattle.kernel_abi.specs.declared.Ending.TheVariants.{ReplyFault};
-    ghost use Rattle.task_table.specs.State.{Setup, Turn, Call};
-    ghost use Rattle.task_table.specs.Reading.{present, listen_of, taken_by, IsIdle};
-    ghost use Rattle.task_table.specs.Effects.{offered};
-    ghost use Rattle.task_table.specs.Sends.{call_made, sends, answers, faults_client};
-    ghost use Rattle.task_table.specs.Holds.{Holds, Stands, kept_call, task_count, note_count, next_call_of};
-    ghost use Rattle.task_table.specs.Limits.{turn_notes};
-    ghost use Rattle.task_table.specs.Frames.{AddsNotes, AddsAtMost};
-    ghost use Rattle.task_table.specs.Messages.{buffer_for, IsSending, IsReplying};
+    ghost use Rattle.task_table.specs.model.State.{Setup, Turn, Call};
+    ghost use Rattle.task_table.specs.model.Reading.{present, listen_of, taken_by, IsIdle};
+    ghost use Rattle.task_table.specs.model.Effects.{offered};
+    ghost use Rattle.task_table.specs.model.Sends.{call_made, sends, answers, faults_client};
+    ghost use Rattle.task_table.specs.kept.Holds.{Holds, Stands, kept_call, task_count, note_count, next_call_of};
+    ghost use Rattle.task_table.specs.kept.Limits.{turn_notes};
+    ghost use Rattle.task_table.specs.kept.Frames.{AddsNotes, AddsAtMost};
+    ghost use Rattle.task_table.specs.kept.Messages.{buffer_for, IsSending, IsReplying};
 
     /// The buffer of a server that listens for a message of a client.
     fn buffer_for(&self, server: usize, client: usize) -> Option<Slice>

@@ -14,7 +14,7 @@ pub struct Slice {
 
 impl Slice {
     ghost use Rattle.std.specs.Prelude.{◌≡◌};
-    ghost use Rattle.task_table.specs.Reading.{is_valid};
+    ghost use Rattle.task_table.specs.model.Reading.{is_valid};
 
     /// Whether it ends inside the address space.
     pub fn is_valid(&self) -> bool
@@ -50,7 +50,7 @@ pub struct OpenCall {
 
 impl OpenCall {
     ghost use Rattle.std.specs.Prelude.{◌≡◌};
-    ghost use Rattle.task_table.specs.Holds.{is_offer_to, is_taken_at};
+    ghost use Rattle.task_table.specs.kept.Holds.{is_offer_to, is_taken_at};
 
     /// Whether it is offered to the server with this index.
     pub fn is_offered_to(&self, index: usize) -> bool
@@ -80,8 +80,8 @@ pub enum FromId {
 
 impl FromId {
     ghost use Rattle.std.specs.Prelude.{◌≡◌};
-    ghost use Rattle.task_table.specs.Waits.{is_one};
-    ghost use Rattle.task_table.specs.Holds.{hears};
+    ghost use Rattle.task_table.specs.kept.Waits.{is_one};
+    ghost use Rattle.task_table.specs.kept.Holds.{hears};
 
     /// Whether it is the task with this index.
     pub fn is_one(&self, index: usize) -> bool
@@ -127,9 +127,9 @@ pub enum Wait {
 
 impl Wait {
     ghost use Rattle.std.specs.Prelude.{◌≡◌};
-    ghost use Rattle.task_table.specs.Holds.{call_in, listen_in, offered_in, taken_in, buffer_in, taken_wait};
-    ghost use Rattle.task_table.specs.Waits.{is_to_in, awaits_in};
-    ghost use Rattle.task_table.specs.Readiness.{server_in};
+    ghost use Rattle.task_table.specs.kept.Holds.{call_in, listen_in, offered_in, taken_in, buffer_in, taken_wait};
+    ghost use Rattle.task_table.specs.kept.Waits.{is_to_in, awaits_in};
+    ghost use Rattle.task_table.specs.kept.Readiness.{server_in};
 
     /// The call for whose end it is.
     pub fn call(&self) -> Option<OpenCall>
@@ -260,7 +260,7 @@ pub struct Slot {
 
 impl Slot {
     ghost use Rattle.std.specs.Prelude.{◌≡◌};
-    ghost use Rattle.task_table.specs.Readiness.{is_free};
+    ghost use Rattle.task_table.specs.kept.Readiness.{is_free};
 
     /// Whether the task is well and waits for nothing.
     pub fn is_ready(&self) -> bool

@@ -2,10 +2,10 @@
 
 ghost use Rattle.std.specs.Prelude.{◌≡◌, ◌<◌, IfOk, map, length, if◌then◌else◌};
 ghost use Rattle.kernel_abi.specs.declared.Health.TheVariants.{Well, Stopped};
-ghost use Rattle.task_table.specs.Parts.{task_setup};
-ghost use Rattle.task_table.specs.Effects.{at_birth};
-ghost use Rattle.task_table.specs.Start.{born};
-ghost use Rattle.task_table.specs.Holds.{packed_task};
+ghost use Rattle.task_table.specs.kept.Parts.{task_setup};
+ghost use Rattle.task_table.specs.model.Effects.{at_birth};
+ghost use Rattle.task_table.specs.model.Start.{born};
+ghost use Rattle.task_table.specs.kept.Holds.{packed_task};
 ghost use Rattle.task_table.specs.declared.slot.Wait.TheVariants.{Nothing};
 
 use crate::slot::{Slot, Wait};

@@ -2,8 +2,8 @@
 //! whether the task at place p is in the set, and bit w of the summary whether word w has any.
 
 ghost use Rattle.std.specs.Prelude.{◌≡◌, length};
-ghost use Rattle.task_table.specs.Limits.{task_words};
-ghost use Rattle.task_table.specs.TaskSets.{IsSummary};
+ghost use Rattle.task_table.specs.kept.Limits.{task_words};
+ghost use Rattle.task_table.specs.kept.TaskSets.{IsSummary};
 
 use crate::limits::TASK_WORDS;
 
@@ -19,8 +19,8 @@ pub struct TaskSet {
 
 impl TaskSet {
     ghost use Rattle.std.specs.Prelude.{◌≡◌, ◌≢◌, ◌<◌, ◌+◌, ◌*◌, ℕ, true, false, ◌&&◌, ◌||◌, not, ◌==◌, if◌then◌else◌};
-    ghost use Rattle.task_table.specs.Limits.{most_tasks, task_words};
-    ghost use Rattle.task_table.specs.TaskSets.{has, IsFirstFrom, IsEmptyOrNot};
+    ghost use Rattle.task_table.specs.kept.Limits.{most_tasks, task_words};
+    ghost use Rattle.task_table.specs.kept.TaskSets.{has, IsFirstFrom, IsEmptyOrNot};
 
     /// No task.
     pub fn empty() -> TaskSet
@@ -131,8 +131,8 @@ impl TaskSet {
     }
 }
 
-ghost use Rattle.std.specs.Prelude.{◌∷◌, [], ◌≢◌, ◌<◌, ◌≤◌, ℕ, Some, IfSome, slice_index_or};
-ghost use Rattle.task_table.specs.TaskSets.{IsFirstFrom, IsUsed};
+ghost use Rattle.std.specs.Prelude.{◌∷◌, [], ◌≢◌, ◌<◌, ℕ, Some, IfSome};
+ghost use Rattle.task_table.specs.kept.TaskSets.{IsFirstFrom, IsUsed};
 
 /// The least bit of a word at or above one, where there is one.
 #[inline(always)]

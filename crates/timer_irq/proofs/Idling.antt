@@ -5,15 +5,15 @@ use Rattle.std.specs.List.{range_with_len}
 use Rattle.std.proofs.lemmas.Bool.{false≢true, lt-leb}
 use Rattle.std.proofs.lemmas.Bool.Decides.{eqb_tells}
 use Rattle.kernel_abi.specs.declared.Timer.{Timer}
-use Rattle.task_table.specs.State.{State, Turn}
-use Rattle.task_table.specs.Reading.{task_at, IsSameBut}
-use Rattle.task_table.specs.TaskSets.{has}
-use Rattle.task_table.specs.Deadlines.{HasDue}
-use Rattle.task_table.specs.Sane.{AreAhead, Every}
-use Rattle.task_table.specs.Effects.{clocked, noted, posted, with_timer}
-use Rattle.task_table.specs.Events.{expired, expired_by}
-use Rattle.task_table.proofs.Changes.{same_but-with_task, same_but_here, same_but_then}
-use Rattle.task_table.proofs.Frames.{same_but-posted}
+use Rattle.task_table.specs.model.State.{State, Turn}
+use Rattle.task_table.specs.model.Reading.{task_at, IsSameBut}
+use Rattle.task_table.specs.kept.TaskSets.{has}
+use Rattle.task_table.specs.kept.Deadlines.{HasDue}
+use Rattle.task_table.specs.model.Sane.{AreAhead, Every}
+use Rattle.task_table.specs.model.Effects.{clocked, noted, posted, with_timer}
+use Rattle.task_table.specs.model.Events.{expired, expired_by}
+use Rattle.task_table.proofs.model.Changes.{same_but-with_task, same_but_here, same_but_then}
+use Rattle.task_table.proofs.model.Frames.{same_but-posted}
 use Rattle.timer_irq.specs.Midway.{AreNotPast}
 use Rattle.timer_irq.proofs.Lines.{fold_range_more}
 

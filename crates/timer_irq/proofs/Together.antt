@@ -6,9 +6,9 @@ use Rattle.std.proofs.Math.ListN.{get_or-map}
 use Rattle.std.proofs.lemmas.List.{length-map}
 use Rattle.task_table.specs.declared.Line.{Line}
 use Rattle.task_table.specs.declared.start.LineStart.{LineStart}
-use Rattle.task_table.specs.State.{LineSetup, State}
-use Rattle.task_table.specs.Reading.{line_at, no_line}
-use Rattle.task_table.specs.Parts.{line_setup}
+use Rattle.task_table.specs.model.State.{LineSetup, State}
+use Rattle.task_table.specs.model.Reading.{line_at, no_line}
+use Rattle.task_table.specs.kept.Parts.{line_setup}
 use Rattle.timer_irq.specs.Midway.{lines_together, joined}
 
 or_false : (b : Bool) → b ≡ (b || false)

@@ -2,8 +2,8 @@
 -- its way; and how lines are, taken together.
 use Rattle.std.specs.Prelude.{ℕ, ◌+◌, ◌<◌, ◌≤◌, ◌==◌, ◌||◌, not, Bool, List, length, Option, None, Some, IfSome, if◌then◌else◌}
 use Rattle.std.specs.List.{list_any}
-use Rattle.task_table.specs.State.{LineSetup, State}
-use Rattle.task_table.specs.Reading.{task_at, line_at}
+use Rattle.task_table.specs.model.State.{LineSetup, State}
+use Rattle.task_table.specs.model.Reading.{task_at, line_at}
 use Rattle.task_table.specs.declared.Line.{Line}
 
 -- no deadline of a timer that is set has gone by before now

@@ -4,18 +4,19 @@
 //!
 //! Each event and each system call asks for room for `SYSCALL_NOTES` notes and makes no more.
 
-ghost use Rattle.std.specs.Prelude.{◌≡◌, ◌+◌, ◌*◌, ◌<◌, ◌≤◌, ◌%◌, ◌/◌, ◌^◌, ◌∷◌, ◌==◌, ◌&&◌, true, Some, Option, ℕ, length, filter, fold, slice_get, if◌then◌else◌};
+ghost use Rattle.std.specs.Prelude.{◌≡◌, ◌+◌, ◌*◌, ◌<◌, ◌≤◌, ◌%◌, ◌/◌, ◌^◌, ◌∷◌, ◌==◌, ◌&&◌, Some, Option, length, filter, fold, slice_get, if◌then◌else◌};
 ghost use Rattle.std.specs.Option.{option_map};
 ghost use Rattle.std.specs.List.{list_any, range_with_len};
-ghost use Rattle.task_table.specs.State.{Setup, Turn};
-ghost use Rattle.task_table.specs.Reading.{is_ready, no_line, line_at, line_off};
-ghost use Rattle.task_table.specs.Effects.{with_line};
-ghost use Rattle.task_table.specs.Rows.{timer_set, timer_words, timer_answered, owns_with, line_controlled, irq_controlled, status_of_lines, irq_answered};
-ghost use Rattle.task_table.specs.Events.{expired, ticked, owner_of, interrupted_by, interrupted};
-ghost use Rattle.task_table.specs.Parts.{line_setup};
-ghost use Rattle.task_table.specs.Holds.{Holds, Stands, Stood, task_count, note_count, clock_of};
-ghost use Rattle.task_table.specs.Limits.{most_tasks, board_lines, syscall_notes, turn_notes};
-ghost use Rattle.task_table.specs.Frames.{AddsNotes, AddsAtMost};
+ghost use Rattle.task_table.specs.model.State.{Setup, Turn};
+ghost use Rattle.task_table.specs.model.Reading.{no_line, line_at, line_off};
+ghost use Rattle.task_table.specs.model.Effects.{with_line};
+ghost use Rattle.task_table.specs.model.Rows.{timer_set, timer_words, timer_answered, owns_with, line_controlled, irq_controlled, status_of_lines, irq_answered};
+ghost use Rattle.task_table.specs.model.Events.{expired, ticked, owner_of, interrupted_by, interrupted};
+ghost use Rattle.task_table.specs.kept.Parts.{line_setup};
+ghost use Rattle.task_table.specs.kept.Holds.{Holds, Stands, Stood, task_count, note_count, clock_of};
+ghost use Rattle.task_table.specs.kept.Limits.{most_tasks, board_lines, syscall_notes, turn_notes};
+ghost use Rattle.task_table.specs.kept.Frames.{AddsNotes, AddsAtMost};
+ghost use Rattle.task_table.specs.kept.Calls.{Performs};
 ghost use Rattle.timer_irq.specs.Midway.{AreNotPast, with_next, lines_together, status_sum, joined};
 
 use kernel_abi::{Handled, IrqArgs, Note, Timer, TimerArgs, Usage};
@@ -178,8 +179,7 @@ fn start_timer(k: &mut Kernel, caller: usize)
 pub fn set_timer(k: &mut Kernel, caller: usize)
     requires there { caller < task_count k.old }
     requires room { note_count k.old + syscall_notes ≤ turn_notes }
-    ensures stands { (g : Setup) (t : Turn) → Stands g k.old t → is_ready t.state caller ≡ true → Stands g k.new (timer_set caller t) }
-    ensures frame { AddsAtMost k.old syscall_notes k.new }
+    ensures { Performs (λ g. timer_set) k.old caller k.new }
 {
     start_timer(k, caller);
 }
@@ -208,8 +208,7 @@ fn timer_results(now: u64, timer: Option<Timer>) -> [u32; 6]
 pub fn get_timer(k: &mut Kernel, caller: usize)
     requires there { caller < task_count k.old }
     requires room { note_count k.old + syscall_notes ≤ turn_notes }
-    ensures stands { (g : Setup) (t : Turn) → Stands g k.old t → is_ready t.state caller ≡ true → Stands g k.new (timer_answered caller t) }
-    ensures frame { AddsAtMost k.old syscall_notes k.new }
+    ensures { Performs (λ g. timer_answered) k.old caller k.new }
 {
     let words = timer_results(k.now(), k.timer(caller));
     k.answer(caller, &words);
@@ -336,8 +335,7 @@ fn control_lines(k: &mut Kernel, caller: usize)
 pub fn irq_control(k: &mut Kernel, caller: usize)
     requires there { caller < task_count k.old }
     requires room { note_count k.old + syscall_notes ≤ turn_notes }
-    ensures stands { (g : Setup) (t : Turn) → Stands g k.old t → is_ready t.state caller ≡ true → Stands g k.new (irq_controlled g caller t) }
-    ensures frame { AddsAtMost k.old syscall_notes k.new }
+    ensures { Performs irq_controlled k.old caller k.new }
 {
     control_lines(k, caller);
 }
@@ -430,8 +428,7 @@ fn tell_status(k: &mut Kernel, caller: usize)
 pub fn irq_status(k: &mut Kernel, caller: usize)
     requires there { caller < task_count k.old }
     requires room { note_count k.old + syscall_notes ≤ turn_notes }
-    ensures stands { (g : Setup) (t : Turn) → Stands g k.old t → is_ready t.state caller ≡ true → Stands g k.new (irq_answered g caller t) }
-    ensures frame { AddsAtMost k.old syscall_notes k.new }
+    ensures { Performs irq_answered k.old caller k.new }
 {
     tell_status(k, caller);
 }

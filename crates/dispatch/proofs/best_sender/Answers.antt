@@ -1,7 +1,7 @@
 use Rattle.std.proofs.Common.{◌≡◌, ◌+◌, ◌<◌, ◌≤◌, ◌∙◌, ℕ, Option, IfSome, length, ap, sym, subst, arith}
 use Rattle.std.proofs.lemmas.List.{length-map}
-use Rattle.task_table.specs.Holds.{task_count}
-use Rattle.task_table.specs.Order.{first_around, has_task, priorities_of}
+use Rattle.task_table.specs.kept.Holds.{task_count}
+use Rattle.task_table.specs.kept.Order.{first_around, has_task, priorities_of}
 use Rattle.task_table.specs.declared.order.Order.{Order}
 use Rattle.dispatch.proofs.Choices.{best_is, first_below}
 use Rattle.dispatch.proofs.best_sender.Goals as goal

@@ -1,6 +1,6 @@
 use Rattle.std.proofs.Common.{◌≡◌, ◌≤◌, ◌∙◌, length, ap, arith}
 use Rattle.std.proofs.lemmas.List.{length-map}
-use Rattle.task_table.specs.Order.{has_task, priorities_of}
+use Rattle.task_table.specs.kept.Order.{has_task, priorities_of}
 use Rattle.task_table.specs.declared.order.Order.{Order}
 use Rattle.dispatch.proofs.Choices.{chosen_is}
 use Rattle.dispatch.proofs.choose.Goals as goal

@@ -2,11 +2,11 @@ use Rattle.std.proofs.Common.{◌≡◌, ◌<◌, length, Some, ap, sym, ◌∙�
 use Rattle.std.proofs.lemmas.Bool.{false≢true}
 use Rattle.kernel_abi.specs.Arguments.{borrow_args}
 use Rattle.kernel_abi.specs.declared.arguments.BorrowArgs.{BorrowArgs}
-use Rattle.task_table.specs.Reading.{arguments, dead_code_for, taken_by}
-use Rattle.task_table.specs.Borrows.{borrowed}
-use Rattle.task_table.specs.Holds.{kept_call}
+use Rattle.task_table.specs.model.Reading.{arguments, dead_code_for, taken_by}
+use Rattle.task_table.specs.model.Borrows.{borrowed}
+use Rattle.task_table.specs.kept.Holds.{kept_call}
 use Rattle.task_table.specs.declared.slot.OpenCall.{OpenCall}
-use Rattle.task_table.proofs.Steps.{some_mapped, none_mapped}
+use Rattle.task_table.proofs.kept.Steps.{some_mapped, none_mapped}
 use Rattle.lease_core.specs.Loans.{way_of, IsLoanOf, IsHeldAfter}
 use Rattle.lease_core.specs.declared.Loan.{Loan}
 use Rattle.lease_core.proofs.Leases.{table_fits, of_lender}

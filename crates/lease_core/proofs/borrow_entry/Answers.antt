@@ -1,8 +1,8 @@
 use Rattle.std.proofs.Common.{◌≡◌, true, false, sym, subst, eqb, bit_and}
 use Rattle.std.proofs.lemmas.Bool.{eq-eqb}
-use Rattle.task_table.specs.Reading.{is_valid}
-use Rattle.task_table.specs.Borrows.{lease_range}
-use Rattle.task_table.specs.Holds.{Holds}
+use Rattle.task_table.specs.model.Reading.{is_valid}
+use Rattle.task_table.specs.model.Borrows.{lease_range}
+use Rattle.task_table.specs.kept.Holds.{Holds}
 use Rattle.lease_core.specs.Loans.{way_of}
 use Rattle.lease_core.proofs.Rows.{granted_invalid}
 use Rattle.lease_core.proofs.borrow_entry.Goals as goal

@@ -1,10 +1,10 @@
 use Rattle.std.proofs.Common.{◌≡◌, ◌+◌, ◌*◌, false, ap, leb, sym, subst}
 use Rattle.std.proofs.lemmas.Bool.{lt-leb}
 use Rattle.kernel_abi.specs.declared.LeaseEntry.{LeaseEntry}
-use Rattle.task_table.specs.Borrows.{part_of}
-use Rattle.task_table.specs.Holds.{Holds, kept_of}
+use Rattle.task_table.specs.model.Borrows.{part_of}
+use Rattle.task_table.specs.kept.Holds.{Holds, kept_of}
 use Rattle.task_table.specs.declared.slot.OpenCall.{OpenCall}
-use Rattle.task_table.proofs.Messages.{holds_looked}
+use Rattle.task_table.proofs.kept.Messages.{holds_looked}
 use Rattle.lease_core.specs.Loans.{way_of, IsGranted, target, IsClear}
 use Rattle.lease_core.proofs.Rows.{entry_bad, entry_good}
 use Rattle.lease_core.proofs.Stays.{held_on}

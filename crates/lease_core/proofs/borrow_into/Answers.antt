@@ -1,6 +1,6 @@
 use Rattle.std.proofs.Common.{◌≡◌, None, sym}
-use Rattle.task_table.specs.Reading.{bad_byte}
-use Rattle.task_table.specs.Borrows.{buffer_of}
+use Rattle.task_table.specs.model.Reading.{bad_byte}
+use Rattle.task_table.specs.model.Borrows.{buffer_of}
 use Rattle.lease_core.specs.Loans.{way_of}
 use Rattle.lease_core.proofs.Leases.{buffer_good}
 use Rattle.lease_core.proofs.borrow_into.Goals as goal

@@ -2,10 +2,10 @@ use Rattle.std.proofs.Common.{◌≡◌, ◌<◌, length, Some, ap, sym, ◌∙�
 use Rattle.std.proofs.lemmas.Bool.{false≢true}
 use Rattle.kernel_abi.specs.Arguments.{info_args}
 use Rattle.kernel_abi.specs.declared.arguments.InfoArgs.{InfoArgs}
-use Rattle.task_table.specs.Reading.{arguments, dead_code_for, taken_by}
-use Rattle.task_table.specs.Borrows.{informed}
-use Rattle.task_table.specs.Holds.{kept_call}
-use Rattle.task_table.proofs.Steps.{some_mapped, none_mapped}
+use Rattle.task_table.specs.model.Reading.{arguments, dead_code_for, taken_by}
+use Rattle.task_table.specs.model.Borrows.{informed}
+use Rattle.task_table.specs.kept.Holds.{kept_call}
+use Rattle.task_table.proofs.kept.Steps.{some_mapped, none_mapped}
 use Rattle.lease_core.specs.Loans.{IsHeldAfter}
 use Rattle.lease_core.proofs.Leases.{table_fits, of_lender}
 use Rattle.lease_core.proofs.Rows.{Informed}

@@ -1,7 +1,7 @@
 use Rattle.std.proofs.Common.{◌≡◌, true, false, sym, subst}
-use Rattle.task_table.specs.Reading.{is_valid}
-use Rattle.task_table.specs.Borrows.{lease_range}
-use Rattle.task_table.specs.Holds.{Holds}
+use Rattle.task_table.specs.model.Reading.{is_valid}
+use Rattle.task_table.specs.model.Borrows.{lease_range}
+use Rattle.task_table.specs.kept.Holds.{Holds}
 use Rattle.lease_core.proofs.Rows.{answered_invalid, answered_valid}
 use Rattle.lease_core.proofs.inform_entry.Goals as goal
 

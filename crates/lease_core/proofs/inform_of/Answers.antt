@@ -1,11 +1,11 @@
 use Rattle.std.proofs.Common.{◌≡◌, true, false, ap, leb, sym, subst}
 use Rattle.std.proofs.lemmas.Bool.{lt-leb}
 use Rattle.kernel_abi.specs.declared.LeaseEntry.{LeaseEntry}
-use Rattle.task_table.specs.Reading.{is_valid}
-use Rattle.task_table.specs.Borrows.{lease_range}
-use Rattle.task_table.specs.Holds.{Holds, kept_of}
+use Rattle.task_table.specs.model.Reading.{is_valid}
+use Rattle.task_table.specs.model.Borrows.{lease_range}
+use Rattle.task_table.specs.kept.Holds.{Holds, kept_of}
 use Rattle.task_table.specs.declared.slot.OpenCall.{OpenCall}
-use Rattle.task_table.proofs.Messages.{holds_looked}
+use Rattle.task_table.proofs.kept.Messages.{holds_looked}
 use Rattle.lease_core.proofs.Rows.{answered_bad, answered_good}
 use Rattle.lease_core.proofs.Stays.{held_on}
 use Rattle.lease_core.proofs.inform_of.Goals as goal

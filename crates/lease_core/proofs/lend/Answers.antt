@@ -1,6 +1,6 @@
 use Rattle.std.proofs.Common.{◌≡◌, ◌+◌, ◌-◌, sym, ◌∙◌, subst}
 use Rattle.std.specs.Prelude.{min}
-use Rattle.task_table.specs.Holds.{Holds}
+use Rattle.task_table.specs.kept.Holds.{Holds}
 use Rattle.lease_core.specs.Loans.{way_of}
 use Rattle.lease_core.proofs.Leases.{none_bad, moved_none}
 use Rattle.lease_core.proofs.Rows.{lent_good}

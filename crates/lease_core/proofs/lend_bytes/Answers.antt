@@ -1,6 +1,6 @@
 use Rattle.std.proofs.Common.{◌≡◌, None, Some, sym, subst}
-use Rattle.task_table.specs.Reading.{bad_byte}
-use Rattle.task_table.specs.Holds.{Holds}
+use Rattle.task_table.specs.model.Reading.{bad_byte}
+use Rattle.task_table.specs.kept.Holds.{Holds}
 use Rattle.lease_core.specs.Loans.{way_of}
 use Rattle.lease_core.proofs.Leases.{leased_good}
 use Rattle.lease_core.proofs.Rows.{lent_bad, lent_good}

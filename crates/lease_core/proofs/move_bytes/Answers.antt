@@ -1,7 +1,7 @@
-use Rattle.task_table.specs.State.{Read as Look, Leased, Own, Lease}
-use Rattle.task_table.specs.Effects.{looked}
-use Rattle.task_table.specs.Holds.{kept_of}
-use Rattle.task_table.proofs.Messages.{holds_looked}
+use Rattle.task_table.specs.model.State.{Read as Look, Leased, Own, Lease}
+use Rattle.task_table.specs.model.Effects.{looked}
+use Rattle.task_table.specs.kept.Holds.{kept_of}
+use Rattle.task_table.proofs.kept.Messages.{holds_looked}
 use Rattle.lease_core.proofs.Stays.{clear_met}
 use Rattle.lease_core.proofs.move_bytes.Goals as goal
 

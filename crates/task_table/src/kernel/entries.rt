@@ -7,12 +7,12 @@ use kernel_abi::LeaseEntry;
 impl Kernel {
     ghost use Rattle.std.specs.Prelude.{◌≡◌, ◌<◌, ℕ, Some, None, false, IfSome};
     ghost use Rattle.region_check.specs.declared.Right.TheVariants.{Read};
-    ghost use Rattle.task_table.specs.State.{Setup, Turn};
-    ghost use Rattle.task_table.specs.Reading.{bad_byte};
-    ghost use Rattle.task_table.specs.Entries.{kept_at, entry_at, meets, IsKeptFor};
-    ghost use Rattle.task_table.specs.Holds.{Holds, kept_of, task_count, memory_of, current_of, entries_of};
-    ghost use Rattle.task_table.specs.Messages.{IsRead};
-    ghost use Rattle.task_table.specs.Frames.{AddsNotes};
+    ghost use Rattle.task_table.specs.model.State.{Setup, Turn};
+    ghost use Rattle.task_table.specs.model.Reading.{bad_byte};
+    ghost use Rattle.task_table.specs.kept.Entries.{kept_at, entry_at, meets, IsKeptFor};
+    ghost use Rattle.task_table.specs.kept.Holds.{Holds, kept_of, task_count, memory_of, current_of, entries_of};
+    ghost use Rattle.task_table.specs.kept.Messages.{IsRead};
+    ghost use Rattle.task_table.specs.kept.Frames.{AddsNotes};
     ghost use Rattle.task_table.specs.declared.entry.KeptEntry.{KeptEntry};
     ghost use Rattle.task_table.specs.declared.slot.OpenCall.{OpenCall};
 

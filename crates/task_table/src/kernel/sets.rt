@@ -6,12 +6,12 @@ use crate::task_set::TaskSet;
 
 impl Kernel {
     ghost use Rattle.std.specs.Prelude.{◌≡◌, ◌<◌, ◌≤◌, ℕ, true, length};
-    ghost use Rattle.task_table.specs.State.{Setup, Turn};
-    ghost use Rattle.task_table.specs.Limits.{most_tasks};
-    ghost use Rattle.task_table.specs.Reading.{is_ready, offers};
-    ghost use Rattle.task_table.specs.TaskSets.{has};
-    ghost use Rattle.task_table.specs.Order.{priorities_of, AreAtPlaces, AreOrdered};
-    ghost use Rattle.task_table.specs.Holds.{Holds, Stands, order_of, task_count};
+    ghost use Rattle.task_table.specs.model.State.{Setup, Turn};
+    ghost use Rattle.task_table.specs.kept.Limits.{most_tasks};
+    ghost use Rattle.task_table.specs.model.Reading.{is_ready, offers};
+    ghost use Rattle.task_table.specs.kept.TaskSets.{has};
+    ghost use Rattle.task_table.specs.kept.Order.{priorities_of, AreAtPlaces, AreOrdered};
+    ghost use Rattle.task_table.specs.kept.Holds.{Holds, Stands, order_of, task_count};
 
     /// The order in which tasks are chosen: by priority number, and equal ones by index.
     #[inline(always)]

@@ -7,12 +7,12 @@ use mem_banks::RAM;
 
 impl Kernel {
     ghost use Rattle.std.specs.Prelude.{◌≡◌, ◌<◌, ◌≤◌, ◌∷◌, [], length, true};
-    ghost use Rattle.task_table.specs.State.{Setup, Turn};
+    ghost use Rattle.task_table.specs.model.State.{Setup, Turn};
     ghost use Rattle.mem_banks.specs.Memory.{is_held, with_bytes};
-    ghost use Rattle.task_table.specs.Effects.{changed};
-    ghost use Rattle.task_table.specs.Setting.{with_slot, IsTold};
-    ghost use Rattle.task_table.specs.Holds.{Holds, task_count, note_count, memory_of};
-    ghost use Rattle.task_table.specs.Frames.{AddsNotes};
+    ghost use Rattle.task_table.specs.model.Effects.{changed};
+    ghost use Rattle.task_table.specs.kept.Setting.{with_slot, IsTold};
+    ghost use Rattle.task_table.specs.kept.Holds.{Holds, task_count, note_count, memory_of};
+    ghost use Rattle.task_table.specs.kept.Frames.{AddsNotes};
 
     /// The time is so from now on.
     pub fn set_now(&mut self, time: u64)

@@ -9,11 +9,11 @@ use words_core::Flags;
 
 impl Kernel {
     ghost use Rattle.std.specs.Prelude.{◌≡◌, ◌<◌};
-    ghost use Rattle.task_table.specs.State.{Setup, State, Turn};
-    ghost use Rattle.task_table.specs.Reading.{IsSameBut, TimersAlike, DiffersInRest};
-    ghost use Rattle.task_table.specs.Effects.{changed, with_processor, reborn};
-    ghost use Rattle.task_table.specs.Holds.{Holds, IsKept, task_count, entries_of};
-    ghost use Rattle.task_table.specs.Frames.{AddsNotes};
+    ghost use Rattle.task_table.specs.model.State.{Setup, State, Turn};
+    ghost use Rattle.task_table.specs.model.Reading.{IsSameBut, TimersAlike, DiffersInRest};
+    ghost use Rattle.task_table.specs.model.Effects.{changed, with_processor, reborn};
+    ghost use Rattle.task_table.specs.kept.Holds.{Holds, IsKept, task_count, entries_of};
+    ghost use Rattle.task_table.specs.kept.Frames.{AddsNotes};
 
     /// Keeps this of a task but for its timer, which stays as it is; the sets of the tasks that are ready
     /// and that offer a call follow, and no entry is kept for it any more. Only here does its health or its

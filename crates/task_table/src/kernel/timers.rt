@@ -8,12 +8,12 @@ use kernel_abi::Timer;
 
 impl Kernel {
     ghost use Rattle.std.specs.Prelude.{◌≡◌, ◌<◌, ℕ, true, Option};
-    ghost use Rattle.task_table.specs.State.{Setup, Turn};
-    ghost use Rattle.task_table.specs.Effects.{with_timer};
-    ghost use Rattle.task_table.specs.TaskSets.{has};
-    ghost use Rattle.task_table.specs.Deadlines.{HasDue};
-    ghost use Rattle.task_table.specs.Holds.{Holds, task_count};
-    ghost use Rattle.task_table.specs.Frames.{AddsNotes};
+    ghost use Rattle.task_table.specs.model.State.{Setup, Turn};
+    ghost use Rattle.task_table.specs.model.Effects.{with_timer};
+    ghost use Rattle.task_table.specs.kept.TaskSets.{has};
+    ghost use Rattle.task_table.specs.kept.Deadlines.{HasDue};
+    ghost use Rattle.task_table.specs.kept.Holds.{Holds, task_count};
+    ghost use Rattle.task_table.specs.kept.Frames.{AddsNotes};
 
     /// The timer of a task is set from now on, or off; the sets of the tasks by their deadlines follow. Only here does it
     /// change.
@@ -39,7 +39,7 @@ impl Kernel {
 }
 
 ghost use Rattle.std.specs.Prelude.{◌≡◌};
-ghost use Rattle.task_table.specs.Deadlines.{wheel_set};
+ghost use Rattle.task_table.specs.kept.Deadlines.{wheel_set};
 
 /// The number of the set that a task with this timer is in, where it is set.
 #[inline(always)]

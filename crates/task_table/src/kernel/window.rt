@@ -1,4 +1,4 @@
-//! The bytes of three regions, handed to somebody for the time of one call.
+//! The bytes of four regions, handed to somebody for the time of one call.
 
 use super::Kernel;
 use mem_banks::WindowUser;
@@ -6,14 +6,14 @@ use region_check::Region;
 
 impl Kernel {
     ghost use Rattle.std.specs.Prelude.{◌≡◌, ◌<◌, ℕ, Some, true, false};
-    ghost use Rattle.task_table.specs.State.{Setup, Turn};
-    ghost use Rattle.task_table.specs.Reading.{setup_at};
-    ghost use Rattle.task_table.specs.Holds.{Holds, memory_of, current_of, setup_of, entries_of};
-    ghost use Rattle.task_table.specs.Entries.{kept_at, meets};
+    ghost use Rattle.task_table.specs.model.State.{Setup, Turn};
+    ghost use Rattle.task_table.specs.model.Reading.{setup_at};
+    ghost use Rattle.task_table.specs.kept.Holds.{Holds, memory_of, current_of, setup_of, entries_of};
+    ghost use Rattle.task_table.specs.kept.Entries.{kept_at, meets};
     ghost use Rattle.task_table.specs.declared.entry.KeptEntry.{KeptEntry};
-    ghost use Rattle.task_table.specs.Frames.{AddsNotes};
-    ghost use Rattle.task_table.specs.Openable.{AreUsable};
-    ghost use Rattle.task_table.specs.Window.{IsWindowOpened};
+    ghost use Rattle.task_table.specs.kept.Frames.{AddsNotes};
+    ghost use Rattle.task_table.specs.kept.Openable.{AreUsable};
+    ghost use Rattle.task_table.specs.kept.Window.{IsWindowOpened};
 
     /// As `touched`, of bytes of which there may be none. Most tasks have no area, and an entry may be kept where its empty
     /// region begins.
@@ -31,7 +31,7 @@ impl Kernel {
         }
     }
 
-    /// Opens the bytes of a region of code and of two of the RAM, where each has a bank of its own; one of
+    /// Opens the bytes of a region of code and of three of the RAM, where each has a bank of its own; each of
     /// those may be empty, and begin where the RAM does. Else the answer is false. Those of a task that lie
     /// so are opened. An entry of a lease table that has one of the bytes in the RAM is kept no more, since
     /// the user may write over it.
@@ -41,10 +41,11 @@ impl Kernel {
         flash: &Region,
         ram: &Region,
         area: &Region,
+        second: &Region,
         user: &mut B,
     ) -> bool
-        ensures opened { result ≡ true → IsWindowOpened B.did self.old flash.now ram.now area.now user.old user.new self.new }
-        ensures given { (task : ℕ) → AreUsable (setup_at (setup_of self.old) task).regions flash.now ram.now area.now → result ≡ true }
+        ensures opened { result ≡ true → IsWindowOpened B.did self.old flash.now ram.now area.now second.now user.old user.new self.new }
+        ensures given { (task : ℕ) → AreUsable (setup_at (setup_of self.old) task).regions flash.now ram.now area.now second.now → result ≡ true }
         ensures memory { result ≡ false → memory_of self.new ≡ memory_of self.old }
         ensures holds { result ≡ false → (g : Setup) (t : Turn) → Holds g self.old t → Holds g self.new t }
         ensures left { result ≡ false → user.new ≡ user.old }
@@ -53,10 +54,12 @@ impl Kernel {
     {
         self.touched(ram.base, ram.size as usize);
         self.area_touched(area.base, area.size as usize);
+        self.area_touched(second.base, second.size as usize);
         self.memory.open_window(
             (flash.base, flash.size),
             (ram.base, ram.size),
             (area.base, area.size),
+            (second.base, second.size),
             user,
         )
     }

@@ -1,6 +1,6 @@
 use Rattle.std.proofs.Common.{◌≡◌, true, false, ap, sym, ◌∙◌}
 use Rattle.task_table.specs.declared.Line.{Line}
-use Rattle.task_table.specs.Reading.{line_at}
+use Rattle.task_table.specs.model.Reading.{line_at}
 use Rattle.timer_irq.proofs.control.Goals as goal
 
 pub returns-then-not-enable-clause-holds : goal.returns-then-not-enable-clause-holds

@@ -1,10 +1,10 @@
 use Rattle.std.proofs.Common.{◌≡◌, ◌≤◌, length, subst, arith, ◌∙◌, ap, sym, List}
 use Rattle.std.specs.Prelude.{fold, filter}
 use Rattle.std.proofs.lemmas.List.{length-map}
-use Rattle.task_table.specs.State.{LineSetup, Turn}
-use Rattle.task_table.specs.Parts.{line_setup}
-use Rattle.task_table.specs.Rows.{owns_with, line_controlled}
-use Rattle.task_table.specs.Holds.{Holds}
+use Rattle.task_table.specs.model.State.{LineSetup, Turn}
+use Rattle.task_table.specs.kept.Parts.{line_setup}
+use Rattle.task_table.specs.model.Rows.{owns_with, line_controlled}
+use Rattle.task_table.specs.kept.Holds.{Holds}
 use Rattle.timer_irq.proofs.Lines.{fold_next, take_whole}
 use Rattle.timer_irq.proofs.control_all.Goals as goal
 

@@ -1,9 +1,9 @@
 use Rattle.std.proofs.Common.{◌*◌, take}
 use Rattle.std.specs.Prelude.{filter, fold}
-use Rattle.task_table.specs.State.{Setup, Turn}
-use Rattle.task_table.specs.Rows.{owns_with, line_controlled}
-use Rattle.task_table.specs.Holds.{Holds}
-use Rattle.task_table.specs.Frames.{AddsAtMost}
+use Rattle.task_table.specs.model.State.{Setup, Turn}
+use Rattle.task_table.specs.model.Rows.{owns_with, line_controlled}
+use Rattle.task_table.specs.kept.Holds.{Holds}
+use Rattle.task_table.specs.kept.Frames.{AddsAtMost}
 use Rattle.timer_irq.proofs.control_all.Given as goal
 
 -- so far the lines of the first owners are seen to

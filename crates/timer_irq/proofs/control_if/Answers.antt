@@ -1,6 +1,6 @@
 use Rattle.std.proofs.Common.{Bool, cond, subst}
-use Rattle.task_table.specs.Rows.{line_controlled}
-use Rattle.task_table.specs.Holds.{Holds}
+use Rattle.task_table.specs.model.Rows.{line_controlled}
+use Rattle.task_table.specs.kept.Holds.{Holds}
 use Rattle.timer_irq.proofs.control_if.Goals as goal
 
 pub returns-then-is_owner-clause-holds : goal.returns-then-is_owner-clause-holds

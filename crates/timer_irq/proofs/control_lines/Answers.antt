@@ -3,9 +3,9 @@ use Rattle.std.specs.Prelude.{fold, filter}
 use Rattle.std.specs.List.{list_any}
 use Rattle.kernel_abi.specs.Arguments.{irq_args}
 use Rattle.kernel_abi.specs.declared.arguments.IrqArgs.{IrqArgs}
-use Rattle.task_table.specs.Reading.{arguments}
-use Rattle.task_table.specs.Rows.{misused, goes_on, owns_with, line_controlled, irq_controlled}
-use Rattle.task_table.specs.Holds.{Holds}
+use Rattle.task_table.specs.model.Reading.{arguments}
+use Rattle.task_table.specs.model.Rows.{misused, goes_on, owns_with, line_controlled, irq_controlled}
+use Rattle.task_table.specs.kept.Holds.{Holds}
 use Rattle.timer_irq.proofs.control_lines.Goals as goal
 
 pub returns-then-owns-clause-holds : goal.returns-then-owns-clause-holds

@@ -1,9 +1,9 @@
 use Rattle.std.proofs.Common.{◌≡◌, ◌+◌, ◌-◌, ◌<◌, ◌≤◌, ◌∙◌, length, arith, sym, subst}
 use Rattle.std.specs.Prelude.{fold}
 use Rattle.std.specs.List.{range_with_len}
-use Rattle.task_table.specs.State.{Turn}
-use Rattle.task_table.specs.Events.{expired}
-use Rattle.task_table.specs.Holds.{Holds, task_count}
+use Rattle.task_table.specs.model.State.{Turn}
+use Rattle.task_table.specs.model.Events.{expired}
+use Rattle.task_table.specs.kept.Holds.{Holds, task_count}
 use Rattle.timer_irq.proofs.Lines.{fold_range_more}
 use Rattle.timer_irq.proofs.Idling.{skipped}
 use Rattle.timer_irq.proofs.expire_all.Goals as goal

@@ -1,10 +1,10 @@
 use Rattle.std.proofs.Common.{◌*◌, ◌-◌, ◌≤◌}
 use Rattle.std.specs.Prelude.{fold}
 use Rattle.std.specs.List.{range_with_len}
-use Rattle.task_table.specs.State.{Setup, Turn}
-use Rattle.task_table.specs.Events.{expired}
-use Rattle.task_table.specs.Holds.{Holds, task_count}
-use Rattle.task_table.specs.Frames.{AddsAtMost}
+use Rattle.task_table.specs.model.State.{Setup, Turn}
+use Rattle.task_table.specs.model.Events.{expired}
+use Rattle.task_table.specs.kept.Holds.{Holds, task_count}
+use Rattle.task_table.specs.kept.Frames.{AddsAtMost}
 use Rattle.timer_irq.specs.Midway.{AreNotPast}
 use Rattle.timer_irq.proofs.expire_all.Given as goal
 

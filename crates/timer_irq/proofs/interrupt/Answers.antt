@@ -1,7 +1,7 @@
 use Rattle.std.proofs.Common.{arith, sym}
-use Rattle.task_table.specs.Parts.{line_setup}
-use Rattle.task_table.specs.Events.{interrupted}
-use Rattle.task_table.proofs.Timing.{owner_there, sane-interrupted}
+use Rattle.task_table.specs.kept.Parts.{line_setup}
+use Rattle.task_table.specs.model.Events.{interrupted}
+use Rattle.task_table.proofs.model.Timing.{owner_there, sane-interrupted}
 use Rattle.timer_irq.proofs.interrupt.Goals as goal
 
 pub interrupt_owned-requires-clause-there : goal.interrupt_owned-requires-clause-there

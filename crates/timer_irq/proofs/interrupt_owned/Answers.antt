@@ -1,6 +1,6 @@
 use Rattle.std.proofs.Common.{◌≡◌, true, false, ap, sym, ◌∙◌}
 use Rattle.task_table.specs.declared.Line.{Line}
-use Rattle.task_table.specs.Reading.{line_at}
+use Rattle.task_table.specs.model.Reading.{line_at}
 use Rattle.timer_irq.proofs.interrupt_owned.Goals as goal
 
 pub returns-then-before-clause-holds : goal.returns-then-before-clause-holds

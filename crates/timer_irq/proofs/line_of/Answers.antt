@@ -1,6 +1,6 @@
 use Rattle.std.proofs.Common.{sym}
 use Rattle.std.proofs.lemmas.Option.{get_or_from_slice_get}
-use Rattle.task_table.specs.Reading.{line_at, no_line}
+use Rattle.task_table.specs.model.Reading.{line_at, no_line}
 use Rattle.timer_irq.proofs.Lines.{get_none}
 use Rattle.timer_irq.proofs.line_of.Goals as goal
 

@@ -1,9 +1,9 @@
 use Rattle.std.proofs.Common.{List, map, ap, ◌∙◌, arith}
 use Rattle.std.specs.Prelude.{filter}
 use Rattle.std.proofs.lemmas.List.{length-map}
-use Rattle.task_table.specs.State.{LineSetup}
-use Rattle.task_table.specs.Parts.{line_setup}
-use Rattle.task_table.specs.Rows.{owns_with}
+use Rattle.task_table.specs.model.State.{LineSetup}
+use Rattle.task_table.specs.kept.Parts.{line_setup}
+use Rattle.task_table.specs.model.Rows.{owns_with}
 use Rattle.timer_irq.specs.Midway.{lines_together, joined}
 use Rattle.timer_irq.proofs.Lines.{take_whole}
 use Rattle.timer_irq.proofs.Together.{more_owners}

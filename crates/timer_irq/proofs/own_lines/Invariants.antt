@@ -1,9 +1,9 @@
 use Rattle.std.proofs.Common.{◌≡◌, map, take}
 use Rattle.std.specs.Prelude.{filter}
-use Rattle.task_table.specs.State.{Setup, Turn}
-use Rattle.task_table.specs.Parts.{line_setup}
-use Rattle.task_table.specs.Rows.{owns_with}
-use Rattle.task_table.specs.Holds.{Holds}
+use Rattle.task_table.specs.model.State.{Setup, Turn}
+use Rattle.task_table.specs.kept.Parts.{line_setup}
+use Rattle.task_table.specs.model.Rows.{owns_with}
+use Rattle.task_table.specs.kept.Holds.{Holds}
 use Rattle.timer_irq.specs.Midway.{lines_together}
 use Rattle.timer_irq.proofs.own_lines.Given as goal
 

@@ -1,9 +1,9 @@
 use Rattle.std.proofs.Common.{ap, ◌∙◌}
 use Rattle.std.specs.Prelude.{slice_get}
 use Rattle.std.specs.Option.{option_map}
-use Rattle.task_table.specs.State.{LineSetup}
+use Rattle.task_table.specs.model.State.{LineSetup}
 use Rattle.std.proofs.Common.{List}
-use Rattle.task_table.specs.Parts.{line_setup}
+use Rattle.task_table.specs.kept.Parts.{line_setup}
 use Rattle.timer_irq.proofs.Lines.{get_mapped}
 use Rattle.timer_irq.proofs.owner_at.Goals as goal
 

@@ -3,9 +3,9 @@ use Rattle.std.specs.Prelude.{find}
 use Rattle.std.specs.Option.{option_map}
 use Rattle.std.proofs.lemmas.Bool.{eq-eqb, ne_eqb}
 use Rattle.task_table.specs.declared.start.LineStart.{LineStart}
-use Rattle.task_table.specs.State.{LineSetup}
-use Rattle.task_table.specs.Parts.{line_setup}
-use Rattle.task_table.specs.Events.{owner_of}
+use Rattle.task_table.specs.model.State.{LineSetup}
+use Rattle.task_table.specs.kept.Parts.{line_setup}
+use Rattle.task_table.specs.model.Events.{owner_of}
 use Rattle.timer_irq.proofs.Lines.{find_mapped, find_at, find_more, find_whole}
 use Rattle.timer_irq.proofs.owner_of.Goals as goal
 

@@ -1,7 +1,7 @@
 use Rattle.std.proofs.Common.{sym, ◌∙◌, ap}
 use Rattle.std.specs.List.{list_any}
-use Rattle.task_table.specs.Parts.{line_setup}
-use Rattle.task_table.specs.Rows.{owns_with}
+use Rattle.task_table.specs.kept.Parts.{line_setup}
+use Rattle.task_table.specs.model.Rows.{owns_with}
 use Rattle.timer_irq.proofs.Lines.{any_mapped}
 use Rattle.timer_irq.proofs.owns.Goals as goal
 

@@ -2,10 +2,10 @@ use Rattle.std.proofs.Common.{◌≡◌, true, false, not, cond, leb, None, Some
 use Rattle.std.proofs.lemmas.Bool.{le-leb, lt-leb}
 use Rattle.kernel_abi.specs.Arguments.{timer_args}
 use Rattle.kernel_abi.specs.declared.arguments.TimerArgs.{TimerArgs}
-use Rattle.task_table.specs.Reading.{arguments}
-use Rattle.task_table.specs.Effects.{posted, with_timer}
-use Rattle.task_table.specs.Rows.{goes_on, timer_set}
-use Rattle.task_table.specs.Holds.{Holds}
+use Rattle.task_table.specs.model.Reading.{arguments}
+use Rattle.task_table.specs.model.Effects.{posted, with_timer}
+use Rattle.task_table.specs.model.Rows.{goes_on, timer_set}
+use Rattle.task_table.specs.kept.Holds.{Holds}
 use Rattle.timer_irq.proofs.start_timer.Goals as goal
 
 pub returns-then-not-args-clause-holds : goal.returns-then-not-args-clause-holds

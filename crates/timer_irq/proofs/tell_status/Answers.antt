@@ -3,10 +3,10 @@ use Rattle.std.specs.List.{list_any}
 use Rattle.kernel_abi.specs.Arguments.{irq_args}
 use Rattle.kernel_abi.specs.declared.Note.TheVariants as note
 use Rattle.kernel_abi.specs.declared.arguments.IrqArgs.{IrqArgs}
-use Rattle.task_table.specs.Reading.{arguments}
-use Rattle.task_table.specs.Effects.{noted}
-use Rattle.task_table.specs.Rows.{misused, goes_on_with, owns_with, status_of_lines, irq_answered}
-use Rattle.task_table.specs.Holds.{Holds}
+use Rattle.task_table.specs.model.Reading.{arguments}
+use Rattle.task_table.specs.model.Effects.{noted}
+use Rattle.task_table.specs.model.Rows.{misused, goes_on_with, owns_with, status_of_lines, irq_answered}
+use Rattle.task_table.specs.kept.Holds.{Holds}
 use Rattle.timer_irq.proofs.tell_status.Goals as goal
 
 pub returns-then-owns-clause-holds : goal.returns-then-owns-clause-holds

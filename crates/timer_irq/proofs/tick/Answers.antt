@@ -1,6 +1,6 @@
-use Rattle.task_table.specs.Effects.{clocked}
-use Rattle.task_table.specs.Events.{ticked}
-use Rattle.task_table.proofs.Timing.{sane-ticked}
+use Rattle.task_table.specs.model.Effects.{clocked}
+use Rattle.task_table.specs.model.Events.{ticked}
+use Rattle.task_table.proofs.model.Timing.{sane-ticked}
 use Rattle.timer_irq.proofs.Idling.{length-clocked, not_past-clocked}
 use Rattle.timer_irq.proofs.tick.Goals as goal
 

@@ -1,7 +1,7 @@
 use Rattle.std.proofs.Common.{◌≡◌, ◌+◌, ◌-◌, ◌<◌, ℕ, Bool, true, false, length, sym, ◌∙◌, ap, arith}
 use Rattle.std.specs.Prelude.{find, unwrap_or}
 use Rattle.std.specs.List.{range_with_len}
-use Rattle.task_table.specs.Reading.{task_at, is_faulted}
+use Rattle.task_table.specs.model.Reading.{task_at, is_faulted}
 use Rattle.fault_supervisor.proofs.Searching.{found_next, none_next}
 use Rattle.fault_supervisor.proofs.message.first_faulted.Goals as goal
 

@@ -1,9 +1,9 @@
 use Rattle.std.proofs.Common.{◌≡◌, ◌-◌, ◌≤◌, None}
 use Rattle.std.specs.Prelude.{find}
 use Rattle.std.specs.List.{range_with_len}
-use Rattle.task_table.specs.State.{Setup, Turn}
-use Rattle.task_table.specs.Reading.{task_at, is_faulted}
-use Rattle.task_table.specs.Holds.{Holds}
+use Rattle.task_table.specs.model.State.{Setup, Turn}
+use Rattle.task_table.specs.model.Reading.{task_at, is_faulted}
+use Rattle.task_table.specs.kept.Holds.{Holds}
 use Rattle.fault_supervisor.proofs.message.first_faulted.Given as goal
 
 -- so far none has faulted

@@ -1,7 +1,7 @@
 use Rattle.std.proofs.Common.{◌≡◌, sym, ◌∙◌}
 use Rattle.kernel_abi.specs.declared.Health.TheVariants.{Well, Stopped, Faulted}
-use Rattle.task_table.specs.Reading.{task_at}
-use Rattle.task_table.specs.Orders.{injected}
+use Rattle.task_table.specs.model.Reading.{task_at}
+use Rattle.task_table.specs.model.Requests.{injected}
 use Rattle.fault_supervisor.proofs.message.inject.Goals as goal
 
 pub returns-in-Faulted-clause-holds : goal.returns-in-Faulted-clause-holds

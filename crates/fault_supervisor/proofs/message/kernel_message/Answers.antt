@@ -1,8 +1,12 @@
 use Rattle.std.proofs.Common.{◌<◌, length, arith}
-use Rattle.task_table.proofs.StepKeeps.{sane-ordered}
+use Rattle.task_table.proofs.model.StepKeeps.{sane-requested}
 use Rattle.fault_supervisor.proofs.message.kernel_message.Goals as goal
 
-pub returns-clause-stands : goal.returns-clause-stands
-returns-clause-stands c = λ g t h ready.
-    let inside : c.args.caller < length t.state.tasks = omega (arith, c.requires.there, h.holds.count) in
-    record { holds = c.take_order.ensures.holds g t h; sane = sane-ordered c.args.caller t h.sane inside }
+pub returns : goal.returns
+returns c =
+    record {
+      stands = λ g t h ready.
+          let inside : c.args.caller < length t.state.tasks = omega (arith, c.requires.there, h.holds.count) in
+          record { holds = c.take_request.ensures.holds g t h; sane = sane-requested c.args.caller t h.sane inside };
+      frame = c.take_request.ensures.frame;
+    }

@@ -1,6 +1,6 @@
 use Rattle.std.proofs.Common.{◌≡◌, true, false, sym}
-use Rattle.task_table.specs.Reading.{call_of, listen_of}
-use Rattle.task_table.specs.Effects.{is_to, awaits}
+use Rattle.task_table.specs.model.Reading.{call_of, listen_of}
+use Rattle.task_table.specs.model.Effects.{is_to, awaits}
 use Rattle.fault_supervisor.proofs.rebirth.answer_dead.Goals as goal
 
 pub returns-then-calls_to-clause-holds : goal.returns-then-calls_to-clause-holds

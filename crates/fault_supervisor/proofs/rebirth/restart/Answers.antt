@@ -1,5 +1,5 @@
 use Rattle.std.proofs.Common.{◌<◌, length, arith}
-use Rattle.task_table.proofs.Offering.{sane-restarted}
+use Rattle.task_table.proofs.model.Offering.{sane-restarted}
 use Rattle.fault_supervisor.proofs.rebirth.restart.Goals as goal
 
 pub returns-clause-stands : goal.returns-clause-stands

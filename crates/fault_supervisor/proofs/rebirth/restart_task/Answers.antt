@@ -2,8 +2,8 @@ use Rattle.std.proofs.Common.{◌≡◌, ◌≤◌, length, arith, ◌∙◌}
 use Rattle.std.specs.List.{range_with_len}
 use Rattle.kernel_abi.specs.declared.Ending.TheVariants.{Restart}
 use Rattle.kernel_abi.specs.declared.Note.TheVariants as note
-use Rattle.task_table.specs.Effects.{changed, closed, without_listen, reborn, restarted}
-use Rattle.task_table.proofs.Births.{few_sane}
+use Rattle.task_table.specs.model.Effects.{changed, closed, without_listen, reborn, restarted}
+use Rattle.task_table.proofs.kept.Births.{few_sane}
 use Rattle.fault_supervisor.proofs.Answering.{few-noted, few-closed, few-unlistened, few-reborn, few-all_answered, fold_range_more}
 use Rattle.fault_supervisor.proofs.rebirth.restart_task.Goals as goal
 

@@ -1,11 +1,11 @@
 use Rattle.std.proofs.Common.{◌*◌}
 use Rattle.std.specs.Prelude.{fold}
 use Rattle.std.specs.List.{range_with_len}
-use Rattle.task_table.specs.State.{Setup, Turn}
-use Rattle.task_table.specs.Effects.{dead_answered}
-use Rattle.task_table.specs.Holds.{Holds}
-use Rattle.task_table.specs.Frames.{AddsAtMost}
-use Rattle.task_table.specs.Waits.{AreFew}
+use Rattle.task_table.specs.model.State.{Setup, Turn}
+use Rattle.task_table.specs.model.Effects.{dead_answered}
+use Rattle.task_table.specs.kept.Holds.{Holds}
+use Rattle.task_table.specs.kept.Frames.{AddsAtMost}
+use Rattle.task_table.specs.kept.Waits.{AreFew}
 use Rattle.fault_supervisor.proofs.rebirth.restart_task.Given as goal
 
 -- so far the first tasks are answered

@@ -2,8 +2,8 @@ use Rattle.std.proofs.Common.{◌≡◌, false, true, ap, ◌∙◌, subst, arit
 use Rattle.std.proofs.lemmas.Bool.{le-leb, lt-leb}
 use Rattle.kernel_abi.specs.Arguments.{id_args}
 use Rattle.kernel_abi.specs.Ids.{index_of}
-use Rattle.task_table.specs.Reading.{arguments, is_out}
-use Rattle.task_table.specs.Sends.{refreshed}
+use Rattle.task_table.specs.model.Reading.{arguments, is_out}
+use Rattle.task_table.specs.model.Sends.{refreshed}
 use Rattle.ipc_core.proofs.Rows.{Refreshed}
 use Rattle.ipc_core.proofs.posting.answer_present_id.Goals as goal
 

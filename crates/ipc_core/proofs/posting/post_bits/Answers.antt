@@ -1,7 +1,7 @@
 use Rattle.std.proofs.Common.{◌≡◌, ap, ◌∙◌, subst}
 use Rattle.kernel_abi.specs.Arguments.{id_args}
-use Rattle.task_table.specs.Reading.{arguments, dead_code_for}
-use Rattle.task_table.specs.Sends.{post_made}
+use Rattle.task_table.specs.model.Reading.{arguments, dead_code_for}
+use Rattle.task_table.specs.model.Sends.{post_made}
 use Rattle.ipc_core.proofs.Rows.{PostMade}
 use Rattle.ipc_core.proofs.posting.post_bits.Goals as goal
 

@@ -2,8 +2,8 @@ use Rattle.std.proofs.Common.{◌≡◌, None, ap, sym, ◌∙◌, subst}
 use Rattle.kernel_abi.specs.Arguments.{recv_args}
 use Rattle.kernel_abi.specs.declared.arguments.RecvArgs.{RecvArgs}
 use Rattle.region_check.specs.declared.Right.TheVariants.{Write}
-use Rattle.task_table.specs.Reading.{arguments, bad_byte}
-use Rattle.task_table.specs.Rows.{buffer_of, received}
+use Rattle.task_table.specs.model.Reading.{arguments, bad_byte}
+use Rattle.task_table.specs.model.Rows.{buffer_of, received}
 use Rattle.ipc_core.specs.Named.{IsSender}
 use Rattle.ipc_core.proofs.Rows.{Received, no_misuse}
 use Rattle.ipc_core.proofs.receiving.receive.Goals as goal

@@ -1,7 +1,7 @@
 use Rattle.std.proofs.Common.{◌≡◌, true, false, eqb, bit_and}
 use Rattle.std.proofs.lemmas.Bool.{ne_eqb, eq-eqb}
 use Rattle.kernel_abi.specs.Arguments.{recv_args}
-use Rattle.task_table.specs.Reading.{task_at, arguments}
+use Rattle.task_table.specs.model.Reading.{task_at, arguments}
 use Rattle.ipc_core.proofs.receiving.receive_input.Goals as goal
 
 pub returns-then-posted_bits-mask-ne0-clause-holds : goal.returns-then-posted_bits-mask-ne0-clause-holds

@@ -1,4 +1,4 @@
-use Rattle.task_table.specs.Reading.{dead_code_for}
+use Rattle.task_table.specs.model.Reading.{dead_code_for}
 use Rattle.ipc_core.proofs.receiving.receive_message.Goals as goal
 
 pub returns-in-Some-clause-holds : goal.returns-in-Some-clause-holds

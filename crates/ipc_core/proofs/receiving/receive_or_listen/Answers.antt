@@ -1,7 +1,7 @@
 use Rattle.std.proofs.Common.{sym}
-use Rattle.task_table.specs.Reading.{offer_by}
-use Rattle.task_table.specs.Holds.{kept_call}
-use Rattle.task_table.proofs.Steps.{some_mapped, none_mapped}
+use Rattle.task_table.specs.model.Reading.{offer_by}
+use Rattle.task_table.specs.kept.Holds.{kept_call}
+use Rattle.task_table.proofs.kept.Steps.{some_mapped, none_mapped}
 use Rattle.ipc_core.proofs.receiving.receive_or_listen.Goals as goal
 
 pub receive-requires-clause-receivable : goal.receive-requires-clause-receivable

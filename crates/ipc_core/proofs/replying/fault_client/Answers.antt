@@ -1,5 +1,5 @@
 use Rattle.std.proofs.Common.{is_some, ap, sym, ◌∙◌}
-use Rattle.task_table.specs.Reading.{taken_by}
+use Rattle.task_table.specs.model.Reading.{taken_by}
 use Rattle.ipc_core.proofs.Rows.{kept_some, kept_none}
 use Rattle.ipc_core.proofs.replying.fault_client.Goals as goal
 

@@ -1,11 +1,15 @@
 use Rattle.std.proofs.Common.{◌<◌, length, arith}
-use Rattle.task_table.proofs.StepKeeps.{sane-replied}
+use Rattle.task_table.proofs.model.StepKeeps.{sane-replied}
 use Rattle.ipc_core.proofs.replying.reply.Goals as goal
 
 pub reply_by_id-requires-clause-stood : goal.reply_by_id-requires-clause-stood
 reply_by_id-requires-clause-stood c = let r = c.requires.ready in (r.0, r.1, r.2)
 
-pub returns-clause-stands : goal.returns-clause-stands
-returns-clause-stands c = λ g t h ready.
-    let inside : c.args.caller < length t.state.tasks = omega (arith, c.requires.there, h.holds.count) in
-    record { holds = c.reply_by_id.ensures.holds g t h; sane = sane-replied c.args.caller t h.sane inside }
+pub returns : goal.returns
+returns c =
+    record {
+      stands = λ g t h ready.
+          let inside : c.args.caller < length t.state.tasks = omega (arith, c.requires.there, h.holds.count) in
+          record { holds = c.reply_by_id.ensures.holds g t h; sane = sane-replied c.args.caller t h.sane inside };
+      frame = c.reply_by_id.ensures.frame;
+    }

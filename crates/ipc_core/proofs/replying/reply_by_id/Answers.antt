@@ -1,7 +1,7 @@
 use Rattle.std.proofs.Common.{◌≡◌, ap, ◌∙◌, subst}
 use Rattle.kernel_abi.specs.Arguments.{reply_args}
-use Rattle.task_table.specs.Reading.{arguments}
-use Rattle.task_table.specs.Sends.{replied}
+use Rattle.task_table.specs.model.Reading.{arguments}
+use Rattle.task_table.specs.model.Sends.{replied}
 use Rattle.ipc_core.proofs.Rows.{Replied}
 use Rattle.ipc_core.proofs.replying.reply_by_id.Goals as goal
 

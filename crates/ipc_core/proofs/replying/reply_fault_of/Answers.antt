@@ -1,7 +1,7 @@
 use Rattle.std.proofs.Common.{◌≡◌, false, None, ap, ◌∙◌, subst}
 use Rattle.kernel_abi.specs.Arguments.{reply_args}
-use Rattle.task_table.specs.Reading.{arguments, is_out}
-use Rattle.task_table.specs.Sends.{reply_faulted}
+use Rattle.task_table.specs.model.Reading.{arguments, is_out}
+use Rattle.task_table.specs.model.Sends.{reply_faulted}
 use Rattle.ipc_core.proofs.Rows.{ReplyFaulted, bad_reason, good_reason}
 use Rattle.ipc_core.proofs.replying.reply_fault_of.Goals.{in_default-None-via-in-Dead+in-None, in_default-None-via-in-Live+in-None}
 use Rattle.ipc_core.proofs.replying.reply_fault_of.Goals as goal

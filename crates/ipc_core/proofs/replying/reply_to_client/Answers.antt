@@ -1,7 +1,7 @@
 use Rattle.std.proofs.Common.{sym}
-use Rattle.task_table.specs.Reading.{taken_by}
-use Rattle.task_table.specs.Holds.{kept_call}
-use Rattle.task_table.proofs.Steps.{some_mapped, none_mapped}
+use Rattle.task_table.specs.model.Reading.{taken_by}
+use Rattle.task_table.specs.kept.Holds.{kept_call}
+use Rattle.task_table.proofs.kept.Steps.{some_mapped, none_mapped}
 use Rattle.ipc_core.proofs.replying.reply_to_client.Goals as goal
 
 pub reply_checked-requires-clause-taken : goal.reply_checked-requires-clause-taken

@@ -1,7 +1,7 @@
 use Rattle.std.proofs.Common.{◌≡◌, ap, ◌∙◌, subst}
 use Rattle.kernel_abi.specs.Arguments.{send_args}
-use Rattle.task_table.specs.Reading.{arguments}
-use Rattle.task_table.specs.Sends.{sent}
+use Rattle.task_table.specs.model.Reading.{arguments}
+use Rattle.task_table.specs.model.Sends.{sent}
 use Rattle.ipc_core.proofs.Rows.{Sent, is_other}
 use Rattle.ipc_core.proofs.sending.send_by.Goals as goal
 

@@ -1,7 +1,7 @@
 use Rattle.std.proofs.Common.{◌≡◌, ◌≢◌, false, eqb, sym, ◌∙◌}
 use Rattle.std.proofs.lemmas.Bool.{eq-eqb, false≢true, or_parts}
 use Rattle.kernel_abi.specs.Ids.{index_of}
-use Rattle.task_table.specs.Reading.{dead_code_for, is_out}
+use Rattle.task_table.specs.model.Reading.{dead_code_for, is_out}
 use Rattle.ipc_core.proofs.sending.send_checked.Goals as goal
 
 pub send-requires-clause-sendable : goal.send-requires-clause-sendable

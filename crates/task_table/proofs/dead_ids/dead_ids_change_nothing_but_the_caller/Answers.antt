@@ -1,4 +1,4 @@
-use Rattle.task_table.proofs.DeadRows as dead
+use Rattle.task_table.proofs.model.DeadRows as dead
 use Rattle.task_table.proofs.dead_ids.dead_ids_change_nothing_but_the_caller.Goals as goal
 
 pub returns-clause-send : goal.returns-clause-send

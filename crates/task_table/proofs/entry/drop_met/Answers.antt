@@ -1,5 +1,5 @@
 use Rattle.std.proofs.Common.{arith}
-use Rattle.task_table.proofs.Kept.{kept_there}
+use Rattle.task_table.proofs.kept.KeptEntries.{kept_there}
 use Rattle.task_table.proofs.entry.drop_met.Goals as goal
 
 pub returns : goal.returns

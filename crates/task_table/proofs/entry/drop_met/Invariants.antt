@@ -1,5 +1,5 @@
 use Rattle.std.proofs.Common.{◌≡◌, ◌<◌, ℕ, false, Some}
-use Rattle.task_table.specs.Entries.{kept_at, meets, IsWatched}
+use Rattle.task_table.specs.kept.Entries.{kept_at, meets, IsWatched}
 use Rattle.task_table.specs.declared.entry.KeptEntry.{KeptEntry}
 use Rattle.task_table.proofs.entry.drop_met.Given as goal
 

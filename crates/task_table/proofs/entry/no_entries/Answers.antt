@@ -1,6 +1,6 @@
 use Rattle.std.proofs.Common.{◌≡◌, ◌∙◌, ◌+◌, ◌++◌, ◌∷◌, [], zero, suc, ℕ, List, Option, None, refl, ap, arith, length}
 use Rattle.std.proofs.lemmas.List.{length_push}
-use Rattle.task_table.specs.Entries.{kept_at}
+use Rattle.task_table.specs.kept.Entries.{kept_at}
 use Rattle.task_table.specs.declared.entry.KeptEntry.{KeptEntry}
 use Rattle.task_table.proofs.entry.no_entries.Goals as goal
 

@@ -1,5 +1,5 @@
 use Rattle.std.proofs.Common.{◌≡◌, ℕ, None, length}
-use Rattle.task_table.specs.Entries.{kept_at}
+use Rattle.task_table.specs.kept.Entries.{kept_at}
 use Rattle.task_table.proofs.entry.no_entries.Given as goal
 
 -- so many, and each is none

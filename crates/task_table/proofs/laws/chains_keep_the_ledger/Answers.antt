@@ -1,5 +1,5 @@
-use Rattle.task_table.proofs.Lives.{as_noted-ledger}
-use Rattle.task_table.proofs.Ledgers.{as_noted-start, chain_as_noted}
+use Rattle.task_table.proofs.model.Lives.{as_noted-ledger}
+use Rattle.task_table.proofs.model.Ledgers.{as_noted-start, chain_as_noted}
 use Rattle.task_table.proofs.laws.chains_keep_the_ledger.Goals as goal
 
 pub returns-clause-start : goal.returns-clause-start

@@ -1,7 +1,7 @@
-use Rattle.task_table.proofs.Counting.{chain_counts}
-use Rattle.task_table.proofs.Noting.{step_noted, chain_noted}
-use Rattle.task_table.proofs.Quieting.{chain_quiet}
-use Rattle.task_table.proofs.StepKeeps.{chain_sane}
+use Rattle.task_table.proofs.model.Counting.{chain_counts}
+use Rattle.task_table.proofs.model.Noting.{step_noted, chain_noted}
+use Rattle.task_table.proofs.model.Quieting.{chain_quiet}
+use Rattle.task_table.proofs.model.StepKeeps.{chain_sane}
 use Rattle.task_table.proofs.laws.chains_keep_what_steps_keep.Goals as goal
 
 pub returns-clause-sane : goal.returns-clause-sane
@@ -17,4 +17,4 @@ pub returns-clause-few : goal.returns-clause-few
 returns-clause-few c = λ g s c u v x. step_noted g s c u v x
 
 pub returns-clause-quiet : goal.returns-clause-quiet
-returns-clause-quiet c = λ g s c u v x none. chain_quiet g s c u v x none
+returns-clause-quiet c = λ g s c u v x few. chain_quiet g s c u v x few

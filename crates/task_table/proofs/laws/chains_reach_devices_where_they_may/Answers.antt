@@ -1,4 +1,4 @@
-use Rattle.task_table.proofs.Reaching.{chain_reaches}
+use Rattle.task_table.proofs.model.Reaching.{chain_reaches}
 use Rattle.task_table.proofs.laws.chains_reach_devices_where_they_may.Goals as goal
 
 pub returns : goal.returns

@@ -1,6 +1,6 @@
-use Rattle.task_table.proofs.Grounding.{chain_honest, honest_alive}
-use Rattle.task_table.proofs.Writing.{chain_written}
-use Rattle.task_table.proofs.Closing.{chain_closed, chain_silent}
+use Rattle.task_table.proofs.model.Grounding.{chain_honest, honest_alive}
+use Rattle.task_table.proofs.model.Writing.{chain_written}
+use Rattle.task_table.proofs.model.Closing.{chain_closed, chain_silent}
 use Rattle.task_table.proofs.laws.chains_stand_on_their_grounds.Goals as goal
 
 pub returns-clause-grounded : goal.returns-clause-grounded

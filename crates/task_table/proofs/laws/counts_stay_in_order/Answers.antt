@@ -1,5 +1,5 @@
-use Rattle.task_table.proofs.Counting as counting
-use Rattle.task_table.proofs.RowChains.{chain-syscall_made}
+use Rattle.task_table.proofs.model.Counting as counting
+use Rattle.task_table.proofs.model.RowChains.{chain-syscall_made}
 use Rattle.task_table.proofs.laws.counts_stay_in_order.Goals as goal
 
 pub returns-clause-noted : goal.returns-clause-noted

@@ -1,5 +1,5 @@
-use Rattle.task_table.proofs.Sanity.{sane-noted, sane-processor, sane-stored, sane-current, sane-turn, sane-faulted}
-use Rattle.task_table.proofs.Posting.{sane-posted}
+use Rattle.task_table.proofs.model.Sanity.{sane-noted, sane-processor, sane-stored, sane-current, sane-turn, sane-faulted}
+use Rattle.task_table.proofs.model.Posting.{sane-posted}
 use Rattle.task_table.proofs.laws.effects_keep_sane.Goals as goal
 
 pub returns-clause-noted : goal.returns-clause-noted

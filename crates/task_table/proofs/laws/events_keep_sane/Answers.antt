@@ -1,5 +1,5 @@
-use Rattle.task_table.proofs.Equipped.{sane-fed}
-use Rattle.task_table.proofs.Timing.{sane-ticked, sane-interrupted}
+use Rattle.task_table.proofs.model.Equipped.{sane-fed}
+use Rattle.task_table.proofs.model.Timing.{sane-ticked, sane-interrupted}
 use Rattle.task_table.proofs.laws.events_keep_sane.Goals as goal
 
 pub returns-clause-ticked : goal.returns-clause-ticked

@@ -1,4 +1,4 @@
-use Rattle.task_table.proofs.Ranges as ranges
+use Rattle.task_table.proofs.model.Ranges as ranges
 use Rattle.task_table.proofs.laws.given_bytes_lie_in_memory.Goals as goal
 
 pub returns-clause-byte : goal.returns-clause-byte

@@ -1,5 +1,5 @@
-use Rattle.task_table.specs.Holds.{kept_of}
-use Rattle.task_table.proofs.Messages.{holds_looked}
+use Rattle.task_table.specs.kept.Holds.{kept_of}
+use Rattle.task_table.proofs.kept.Messages.{holds_looked}
 use Rattle.task_table.proofs.laws.reads_are_not_kept.Goals as goal
 
 pub returns : goal.returns

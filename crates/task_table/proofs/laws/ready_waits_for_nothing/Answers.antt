@@ -1,4 +1,4 @@
-use Rattle.task_table.proofs.Frames as frames
+use Rattle.task_table.proofs.model.Frames as frames
 use Rattle.task_table.proofs.laws.ready_waits_for_nothing.Goals as goal
 
 pub returns-clause-idle : goal.returns-clause-idle

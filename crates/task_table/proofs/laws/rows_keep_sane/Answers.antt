@@ -1,4 +1,4 @@
-use Rattle.task_table.proofs.StepKeeps.{sane-misused, sane-panicked, sane-syscall_noted, sane-timer_set, sane-timer_answered, sane-irq_controlled, sane-irq_answered, sane-received, sane-sent, sane-replied, sane-reply_faulted, sane-post_made, sane-refreshed, sane-read, sane-written, sane-informed, sane-ordered, sane-syscall_made}
+use Rattle.task_table.proofs.model.StepKeeps.{sane-misused, sane-panicked, sane-syscall_noted, sane-timer_set, sane-timer_answered, sane-irq_controlled, sane-irq_answered, sane-received, sane-sent, sane-replied, sane-reply_faulted, sane-post_made, sane-refreshed, sane-read, sane-written, sane-informed, sane-requested, sane-syscall_made}
 use Rattle.task_table.proofs.laws.rows_keep_sane.Goals as goal
 
 pub returns-clause-misused : goal.returns-clause-misused
@@ -52,5 +52,5 @@ returns-clause-written c = λ g c t h inside ready. sane-written c t h inside
 pub returns-clause-informed : goal.returns-clause-informed
 returns-clause-informed c = λ g c t h inside ready. sane-informed c t h inside
 
-pub returns-clause-ordered : goal.returns-clause-ordered
-returns-clause-ordered c = λ g c t h inside ready. sane-ordered c t h inside
+pub returns-clause-requested : goal.returns-clause-requested
+returns-clause-requested c = λ g c t h inside ready. sane-requested c t h inside

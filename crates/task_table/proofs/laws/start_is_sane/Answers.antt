@@ -1,4 +1,4 @@
-use Rattle.task_table.proofs.Starts.{sane-start, counted-start}
+use Rattle.task_table.proofs.kept.Starts.{sane-start, counted-start}
 use Rattle.task_table.proofs.laws.start_is_sane.Goals as goal
 
 pub returns-clause-sane : goal.returns-clause-sane

@@ -1,4 +1,4 @@
-use Rattle.task_table.proofs.RowChains.{chain-syscall_made}
+use Rattle.task_table.proofs.model.RowChains.{chain-syscall_made}
 use Rattle.task_table.proofs.laws.syscalls_are_chains_of_steps.Goals as goal
 
 pub returns : goal.returns

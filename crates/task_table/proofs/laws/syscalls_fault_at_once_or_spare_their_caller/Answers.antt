@@ -1,4 +1,4 @@
-use Rattle.task_table.proofs.RowChains.{comes-syscall_made}
+use Rattle.task_table.proofs.model.RowChains.{comes-syscall_made}
 use Rattle.task_table.proofs.laws.syscalls_fault_at_once_or_spare_their_caller.Goals as goal
 
 pub returns : goal.returns

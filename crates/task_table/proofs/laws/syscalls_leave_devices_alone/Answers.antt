@@ -1,4 +1,4 @@
-use Rattle.task_table.proofs.RowChains.{stay-syscall_made}
+use Rattle.task_table.proofs.model.RowChains.{stay-syscall_made}
 use Rattle.task_table.proofs.laws.syscalls_leave_devices_alone.Goals as goal
 
 pub returns : goal.returns

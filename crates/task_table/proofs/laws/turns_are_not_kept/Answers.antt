@@ -1,5 +1,5 @@
-use Rattle.task_table.specs.Holds.{kept_of}
-use Rattle.task_table.proofs.Steps.{holds_turn}
+use Rattle.task_table.specs.kept.Holds.{kept_of}
+use Rattle.task_table.proofs.kept.Steps.{holds_turn}
 use Rattle.task_table.proofs.laws.turns_are_not_kept.Goals as goal
 
 pub returns : goal.returns

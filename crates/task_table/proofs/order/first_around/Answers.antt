@@ -1,7 +1,7 @@
 use Rattle.std.proofs.Common.{arith, ◌≡◌, ◌≤◌, ◌/◌, ◌%◌, ◌*◌, ◌+◌}
-use Rattle.task_table.specs.Order.{IsKeyFrom, IsPlaceOf, key_in}
+use Rattle.task_table.specs.kept.Order.{IsKeyFrom, IsPlaceOf, key_in}
 use Rattle.std.proofs.lemmas.List.{get_or_read}
-use Rattle.task_table.proofs.Choices.{first_at_once, first_in_order, none_in_order}
+use Rattle.task_table.proofs.kept.Choices.{first_at_once, first_in_order, none_in_order}
 use Rattle.task_table.proofs.order.first_around.Goals as goal
 
 pub overflow_add-priority : goal.overflow_add-priority

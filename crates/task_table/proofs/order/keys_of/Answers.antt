@@ -1,7 +1,7 @@
 use Rattle.std.proofs.Common.{◌≡◌, ◌∙◌, ◌+◌, ◌*◌, ◌<◌, ◌∷◌, [], ◌++◌, ℕ, List, length, take, get_or, arith, ap, rules}
 use Rattle.std.proofs.lemmas.List.{length-take-le, take_more}
-use Rattle.task_table.specs.Order.{keyed}
-use Rattle.task_table.proofs.Ordered.{keyed_push}
+use Rattle.task_table.specs.kept.Order.{keyed}
+use Rattle.task_table.proofs.kept.Ordered.{keyed_push}
 use Rattle.task_table.proofs.order.keys_of.Goals as goal
 
 keyed_more : (ps : List ℕ) (i d : ℕ) → i < length ps → keyed 0 (take (i + 1) ps) ≡ keyed 0 (take i ps) ++ (1024 * get_or ps i d + i) ∷ []

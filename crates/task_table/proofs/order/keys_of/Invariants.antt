@@ -1,5 +1,5 @@
 use Rattle.std.proofs.Common.{◌≡◌, take}
-use Rattle.task_table.specs.Order.{keyed}
+use Rattle.task_table.specs.kept.Order.{keyed}
 use Rattle.task_table.proofs.order.keys_of.Given as goal
 
 abbrev pub invariant-loop-i : goal.invariant-loop-i

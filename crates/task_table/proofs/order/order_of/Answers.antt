@@ -1,5 +1,5 @@
 use Rattle.std.proofs.Common.{◌∙◌, ap, length, arith}
-use Rattle.task_table.proofs.Ordered.{as_many_priorities}
+use Rattle.task_table.proofs.kept.Ordered.{as_many_priorities}
 use Rattle.task_table.proofs.order.order_of.Goals as goal
 
 pub of-requires : goal.of-requires

@@ -1,4 +1,4 @@
-use Rattle.task_table.proofs.Searches.{place_found, place_between}
+use Rattle.task_table.proofs.kept.Searches.{place_found, place_between}
 use Rattle.task_table.proofs.order.place_of.Goals as goal
 
 pub returns-in-Ok : goal.returns-in-Ok

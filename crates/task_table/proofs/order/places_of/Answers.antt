@@ -1,6 +1,6 @@
 use Rattle.std.proofs.Common.{◌<◌, ◌%◌, ◌∙◌, length, arith, length-set}
-use Rattle.task_table.specs.Order.{key_in}
-use Rattle.task_table.proofs.Ordered.{placed_more}
+use Rattle.task_table.specs.kept.Order.{key_in}
+use Rattle.task_table.proofs.kept.Ordered.{placed_more}
 use Rattle.task_table.proofs.order.places_of.Goals as goal
 
 pub loop-place-preserved : goal.loop-place-preserved

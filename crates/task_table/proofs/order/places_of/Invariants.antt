@@ -1,5 +1,5 @@
 use Rattle.std.proofs.Common.{◌≡◌, length}
-use Rattle.task_table.specs.Order.{HavePlaces}
+use Rattle.task_table.specs.kept.Order.{HavePlaces}
 use Rattle.task_table.proofs.order.places_of.Given as goal
 
 abbrev pub invariant-loop-place : goal.invariant-loop-place

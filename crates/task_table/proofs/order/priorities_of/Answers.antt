@@ -1,8 +1,8 @@
 use Rattle.std.proofs.Common.{◌≡◌, ◌∙◌, ◌+◌, ◌<◌, ◌++◌, ◌∷◌, [], ℕ, List, ap, sym, length, get_or, map, take, take_all}
 use Rattle.std.proofs.lemmas.List.{map_more, map_push}
-use Rattle.task_table.specs.State.{TaskSetup}
-use Rattle.task_table.specs.Parts.{task_setup}
-use Rattle.task_table.specs.Order.{priorities_of}
+use Rattle.task_table.specs.model.State.{TaskSetup}
+use Rattle.task_table.specs.kept.Parts.{task_setup}
+use Rattle.task_table.specs.kept.Order.{priorities_of}
 use Rattle.task_table.specs.declared.start.TaskStart.{TaskStart}
 use Rattle.task_table.proofs.order.priorities_of.Goals as goal
 

@@ -1,6 +1,6 @@
 use Rattle.std.proofs.Common.{◌≡◌, map, take}
-use Rattle.task_table.specs.Parts.{task_setup}
-use Rattle.task_table.specs.Order.{priorities_of}
+use Rattle.task_table.specs.kept.Parts.{task_setup}
+use Rattle.task_table.specs.kept.Order.{priorities_of}
 use Rattle.task_table.proofs.order.priorities_of.Given as goal
 
 -- so far each number is that of its task

@@ -1,5 +1,5 @@
 use Rattle.std.proofs.Common.{◌≡◌, ◌∙◌, ◌<◌, ◌+◌, ℕ, zero, suc, false, List, [], ◌∷◌, ◌++◌, length, length-append, get_or, arith, ap}
-use Rattle.task_table.specs.TaskSets.{has}
+use Rattle.task_table.specs.kept.TaskSets.{has}
 use Rattle.task_table.specs.declared.task_set.TaskSet.{TaskSet}
 use Rattle.task_table.proofs.readiness.empty_sets.Goals as goal
 

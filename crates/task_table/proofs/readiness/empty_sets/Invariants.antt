@@ -1,6 +1,6 @@
 use Rattle.std.proofs.Common.{◌≡◌, ◌<◌, ℕ, false, length}
 use Rattle.std.specs.Prelude.{slice_index_or}
-use Rattle.task_table.specs.TaskSets.{has}
+use Rattle.task_table.specs.kept.TaskSets.{has}
 use Rattle.task_table.specs.declared.task_set.TaskSet.{TaskSet}
 use Rattle.task_table.proofs.readiness.empty_sets.Given as goal
 

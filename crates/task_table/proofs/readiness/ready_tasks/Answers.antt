@@ -2,8 +2,8 @@ use Rattle.std.proofs.Common.{◌≡◌, ◌<◌, ℕ, true, false, length, inl,
 use Rattle.std.proofs.lemmas.Bool.{eq-eqb, ne_eqb}
 use Rattle.std.proofs.lemmas.Bool.Decides.{eqb_tells}
 use Rattle.std.proofs.lemmas.List.{get_or_default}
-use Rattle.task_table.specs.Order.{place_in}
-use Rattle.task_table.specs.Readiness.{is_free}
+use Rattle.task_table.specs.kept.Order.{place_in}
+use Rattle.task_table.specs.kept.Readiness.{is_free}
 use Rattle.task_table.proofs.readiness.ready_tasks.Goals as goal
 
 pub place-requires : goal.place-requires

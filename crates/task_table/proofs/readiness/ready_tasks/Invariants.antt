@@ -1,8 +1,8 @@
 use Rattle.std.proofs.Common.{◌≡◌, ◌<◌, ◌≤◌, ℕ, false, length}
 use Rattle.std.specs.Prelude.{slice_index_or}
-use Rattle.task_table.specs.TaskSets.{has}
-use Rattle.task_table.specs.Order.{has_task}
-use Rattle.task_table.specs.Readiness.{is_free}
+use Rattle.task_table.specs.kept.TaskSets.{has}
+use Rattle.task_table.specs.kept.Order.{has_task}
+use Rattle.task_table.specs.kept.Readiness.{is_free}
 use Rattle.task_table.specs.declared.slot.Slot.{Slot}
 use Rattle.task_table.proofs.readiness.ready_tasks.Given as goal
 

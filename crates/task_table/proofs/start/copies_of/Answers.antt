@@ -1,7 +1,7 @@
 use Rattle.std.proofs.Common.{◌≡◌, ◌∙◌, ◌++◌, ◌∷◌, [], List, ap, sym, length, map, take, take_all}
 use Rattle.std.proofs.lemmas.List.{length-map, map_more, map-append}
-use Rattle.task_table.specs.State.{TaskSetup}
-use Rattle.task_table.specs.Parts.{task_setup}
+use Rattle.task_table.specs.model.State.{TaskSetup}
+use Rattle.task_table.specs.kept.Parts.{task_setup}
 use Rattle.task_table.proofs.start.copies_of.Goals as goal
 
 pub loop-task-init : goal.loop-task-init

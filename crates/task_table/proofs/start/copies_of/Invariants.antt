@@ -1,5 +1,5 @@
 use Rattle.std.proofs.Common.{◌≡◌, map, take}
-use Rattle.task_table.specs.Parts.{task_setup}
+use Rattle.task_table.specs.kept.Parts.{task_setup}
 use Rattle.task_table.proofs.start.copies_of.Given as goal
 
 -- so far each says the same

@@ -1,8 +1,8 @@
 use Rattle.std.proofs.Common.{◌≡◌, ◌∙◌, ◌+◌, ◌<◌, ◌++◌, ◌∷◌, [], ℕ, List, ap, sym, length, get_or, map, take, take_all}
 use Rattle.std.proofs.lemmas.List.{map_more}
-use Rattle.task_table.specs.Parts.{task_setup}
-use Rattle.task_table.specs.Start.{born}
-use Rattle.task_table.specs.Holds.{packed_task}
+use Rattle.task_table.specs.kept.Parts.{task_setup}
+use Rattle.task_table.specs.model.Start.{born}
+use Rattle.task_table.specs.kept.Holds.{packed_task}
 use Rattle.task_table.specs.declared.slot.Slot.{Slot}
 use Rattle.task_table.specs.declared.slot.Wait.TheVariants.{Nothing}
 use Rattle.task_table.specs.declared.start.TaskStart.{TaskStart}

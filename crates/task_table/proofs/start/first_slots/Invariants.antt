@@ -1,7 +1,7 @@
 use Rattle.std.proofs.Common.{◌≡◌, map, take}
-use Rattle.task_table.specs.Parts.{task_setup}
-use Rattle.task_table.specs.Start.{born}
-use Rattle.task_table.specs.Holds.{packed_task}
+use Rattle.task_table.specs.kept.Parts.{task_setup}
+use Rattle.task_table.specs.model.Start.{born}
+use Rattle.task_table.specs.kept.Holds.{packed_task}
 use Rattle.task_table.specs.declared.slot.Wait.TheVariants.{Nothing}
 use Rattle.task_table.proofs.start.first_slots.Given as goal
 

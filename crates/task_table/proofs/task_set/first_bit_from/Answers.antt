@@ -1,6 +1,6 @@
 use Rattle.std.proofs.Common.{refl, arith, ◌-◌, ◌*◌, ◌^◌, ◌%◌}
 use Rattle.std.proofs.lemmas.Nat.{and_le_l}
-use Rattle.task_table.proofs.Summaries.{first_bit, no_bit, low_bit}
+use Rattle.task_table.proofs.kept.Summaries.{first_bit, no_bit, low_bit}
 use Rattle.task_table.proofs.task_set.first_bit_from.Goals as goal
 
 pub returns-then-later-eq0-clause-first : goal.returns-then-later-eq0-clause-first

@@ -1,4 +1,4 @@
-use Rattle.task_table.proofs.Summaries.{lowest, low_bit}
+use Rattle.task_table.proofs.kept.Summaries.{lowest, low_bit}
 use Rattle.task_table.proofs.task_set.lowest_bit.Goals as goal
 
 pub returns : goal.returns

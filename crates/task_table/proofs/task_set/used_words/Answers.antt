@@ -1,5 +1,5 @@
 use Rattle.std.proofs.Common.{refl}
-use Rattle.task_table.proofs.Summaries.{used_of}
+use Rattle.task_table.proofs.kept.Summaries.{used_of}
 use Rattle.task_table.proofs.task_set.used_words.Goals as goal
 
 pub returns : goal.returns

@@ -1,6 +1,6 @@
 use Rattle.std.proofs.Common.{ap, ◌∙◌}
 use Rattle.std.specs.Prelude.{slice_range}
-use Rattle.task_table.specs.Reading.{arguments}
+use Rattle.task_table.specs.model.Reading.{arguments}
 use Rattle.task_table.specs.declared.slot.Slot.{Slot}
 use Rattle.task_table.proofs.kernel.Kernel.arguments.Goals as goal
 

@@ -1,5 +1,5 @@
 use Rattle.std.proofs.Common.{◌∙◌}
-use Rattle.task_table.proofs.Births.{awaits_kept}
+use Rattle.task_table.proofs.kept.Births.{awaits_kept}
 use Rattle.task_table.proofs.kernel.Kernel.awaits.Goals as goal
 
 pub returns : goal.returns

@@ -1,6 +1,6 @@
 use Rattle.std.proofs.Common.{ap, ◌∙◌}
 use Rattle.region_check.specs.Rights.{first_bad}
-use Rattle.task_table.specs.Reading.{bad_byte}
+use Rattle.task_table.specs.model.Reading.{bad_byte}
 use Rattle.task_table.proofs.kernel.Kernel.bad_byte.Goals as goal
 
 pub returns : goal.returns

@@ -1,8 +1,8 @@
 use Rattle.std.proofs.Common.{◌≡◌, ◌<◌, ◌≤◌, length, ap, arith, ◌∙◌}
 use Rattle.kernel_abi.specs.declared.TaskId.{TaskId}
-use Rattle.task_table.specs.Reading.{present, present_id}
-use Rattle.task_table.specs.Holds.{id_at, buffer_in}
-use Rattle.task_table.proofs.Delivery.{id_is, buffer_kept}
+use Rattle.task_table.specs.model.Reading.{present, present_id}
+use Rattle.task_table.specs.kept.Holds.{id_at, buffer_in}
+use Rattle.task_table.proofs.kept.Delivery.{id_is, buffer_kept}
 use Rattle.task_table.proofs.kernel.Kernel.buffer_for.Goals as goal
 
 pub returns : goal.returns

@@ -1,7 +1,7 @@
 use Rattle.std.proofs.Common.{◌≡◌, refl}
-use Rattle.task_table.specs.Reading.{present, present_id}
-use Rattle.task_table.specs.Holds.{id_at}
-use Rattle.task_table.proofs.Delivery.{id_is}
+use Rattle.task_table.specs.model.Reading.{present, present_id}
+use Rattle.task_table.specs.kept.Holds.{id_at}
+use Rattle.task_table.proofs.kept.Delivery.{id_is}
 use Rattle.task_table.proofs.kernel.Kernel.call_to.Goals as goal
 
 pub returns : goal.returns

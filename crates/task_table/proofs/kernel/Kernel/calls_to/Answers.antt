@@ -1,5 +1,5 @@
 use Rattle.std.proofs.Common.{◌∙◌}
-use Rattle.task_table.proofs.Births.{to_kept}
+use Rattle.task_table.proofs.kept.Births.{to_kept}
 use Rattle.task_table.proofs.kernel.Kernel.calls_to.Goals as goal
 
 pub returns : goal.returns

@@ -1,6 +1,6 @@
 use Rattle.std.proofs.Common.{arith}
-use Rattle.task_table.specs.Holds.{kept_of}
-use Rattle.task_table.proofs.Steps as steps
+use Rattle.task_table.specs.kept.Holds.{kept_of}
+use Rattle.task_table.proofs.kept.Steps as steps
 use Rattle.task_table.proofs.kernel.Kernel.clear_notes.Goals as goal
 
 pub returns-clause-holds : goal.returns-clause-holds

@@ -1,10 +1,10 @@
 use Rattle.std.proofs.Common.{◌<◌, ◌≤◌, length, arith, sym, subst}
-use Rattle.task_table.specs.State.{Setup}
-use Rattle.task_table.specs.Order.{AreOrdered, priorities_of}
-use Rattle.task_table.specs.Holds.{kept_of}
-use Rattle.task_table.specs.Readiness.{is_client_of, AreThose}
+use Rattle.task_table.specs.model.State.{Setup}
+use Rattle.task_table.specs.kept.Order.{AreOrdered, priorities_of}
+use Rattle.task_table.specs.kept.Holds.{kept_of}
+use Rattle.task_table.specs.kept.Readiness.{is_client_of, AreThose}
 use Rattle.task_table.specs.declared.task_set.TaskSet.{TaskSet}
-use Rattle.task_table.proofs.Members.{those_there, offers_kept}
+use Rattle.task_table.proofs.kept.Members.{those_there, offers_kept}
 use Rattle.task_table.proofs.kernel.Kernel.clients.Goals as goal
 
 clients_are : (c : goal.After-index) → AreThose (is_client_of c.args.server) c.args.self.now.slots.items c.args.self.now.order.places.items c.index.result.now.words

@@ -1,10 +1,10 @@
 use Rattle.std.proofs.Common.{◌≡◌, ap, sym, ◌∙◌}
-use Rattle.task_table.specs.Reading.{call_of}
-use Rattle.task_table.specs.Effects.{closed, noted}
-use Rattle.task_table.specs.Holds.{kept_call}
+use Rattle.task_table.specs.model.Reading.{call_of}
+use Rattle.task_table.specs.model.Effects.{closed, noted}
+use Rattle.task_table.specs.kept.Holds.{kept_call}
 use Rattle.task_table.specs.declared.slot.OpenCall.{OpenCall}
-use Rattle.task_table.proofs.Steps as steps
-use Rattle.task_table.proofs.Changes.{timers_same, task_at-without_call, same_but-without_call, closed_none}
+use Rattle.task_table.proofs.kept.Steps as steps
+use Rattle.task_table.proofs.model.Changes.{timers_same, task_at-without_call, same_but-without_call, closed_none}
 use Rattle.task_table.proofs.kernel.Kernel.close.Goals as goal
 
 pub returns-in-Some-clause-holds : goal.returns-in-Some-clause-holds

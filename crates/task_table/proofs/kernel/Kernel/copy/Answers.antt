@@ -1,12 +1,12 @@
 use Rattle.std.proofs.Common.{length, map, inl, ap, ◌∙◌}
 use Rattle.mem_banks.specs.Memory.{Opened, bytes_at, copied, IsWithinRam}
-use Rattle.task_table.specs.Holds.{kept_of, setup_of}
-use Rattle.task_table.proofs.Handing.{few_bytes}
-use Rattle.task_table.proofs.Ranges.{within_ram-front}
-use Rattle.task_table.proofs.Messages.{holds_copied, setup_copied}
-use Rattle.task_table.specs.Parts.{task_setup}
-use Rattle.task_table.proofs.Openings.{lendable_same}
-use Rattle.task_table.proofs.Kept.{fresh_stored}
+use Rattle.task_table.specs.kept.Holds.{kept_of, setup_of}
+use Rattle.task_table.proofs.model.Handing.{few_bytes}
+use Rattle.task_table.proofs.model.Ranges.{within_ram-front}
+use Rattle.task_table.proofs.kept.Messages.{holds_copied, setup_copied}
+use Rattle.task_table.specs.kept.Parts.{task_setup}
+use Rattle.task_table.proofs.kept.Openings.{lendable_same}
+use Rattle.task_table.proofs.kept.KeptEntries.{fresh_stored}
 use Rattle.task_table.proofs.kernel.Kernel.copy.Goals as goal
 
 pub copy-requires-clause-source : goal.copy-requires-clause-source

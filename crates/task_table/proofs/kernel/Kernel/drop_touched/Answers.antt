@@ -1,9 +1,9 @@
 use Rattle.std.proofs.Common.{◌≡◌, ℕ, false, List, Option, Some, length, map, sym, subst, arith, refl}
-use Rattle.task_table.specs.Parts.{task_setup}
-use Rattle.task_table.specs.Entries.{AreFresh, AreEntriesOf, kept_at, meets}
+use Rattle.task_table.specs.kept.Parts.{task_setup}
+use Rattle.task_table.specs.kept.Entries.{AreFresh, AreEntriesOf, kept_at, meets}
 use Rattle.task_table.specs.declared.entry.KeptEntry.{KeptEntry}
-use Rattle.task_table.proofs.Written.{front}
-use Rattle.task_table.proofs.Kept.{fresh_left, of_left}
+use Rattle.task_table.proofs.kept.Written.{front}
+use Rattle.task_table.proofs.kept.KeptEntries.{fresh_left, of_left}
 use Rattle.task_table.proofs.kernel.Kernel.drop_touched.Goals as goal
 
 pub invariant_of-self-clause-fresh : goal.invariant_of-self-clause-fresh

@@ -1,10 +1,10 @@
 use Rattle.std.proofs.Common.{◌≡◌, ◌<◌, ◌%◌, length, arith, sym, subst, true}
-use Rattle.task_table.specs.Limits.{wheel_sets}
-use Rattle.task_table.specs.TaskSets.{has}
-use Rattle.task_table.specs.Deadlines.{HasDue}
-use Rattle.task_table.specs.Holds.{kept_of}
+use Rattle.task_table.specs.kept.Limits.{wheel_sets}
+use Rattle.task_table.specs.kept.TaskSets.{has}
+use Rattle.task_table.specs.kept.Deadlines.{HasDue}
+use Rattle.task_table.specs.kept.Holds.{kept_of}
 use Rattle.task_table.specs.declared.task_set.TaskSet.{TaskSet}
-use Rattle.task_table.proofs.Deadlines.{timed_there, due_kept}
+use Rattle.task_table.proofs.kept.Deadlines.{timed_there, due_kept}
 use Rattle.task_table.proofs.kernel.Kernel.due.Goals as goal
 
 pub returns-clause-there : goal.returns-clause-there

@@ -1,5 +1,5 @@
 use Rattle.std.proofs.Common.{◌<◌, length, arith}
-use Rattle.task_table.proofs.Sanity.{sane-faulted}
+use Rattle.task_table.proofs.model.Sanity.{sane-faulted}
 use Rattle.task_table.proofs.kernel.Kernel.fault.Goals as goal
 
 pub returns-clause-holds : goal.returns-clause-holds

@@ -1,5 +1,5 @@
 use Rattle.std.proofs.lemmas.Bool.{ne_eqb, eq-eqb}
-use Rattle.task_table.specs.Effects.{faulted_as}
+use Rattle.task_table.specs.model.Effects.{faulted_as}
 use Rattle.task_table.proofs.kernel.Kernel.fault_as.Goals as goal
 
 pub returns-then-task-ne0-clause-holds : goal.returns-then-task-ne0-clause-holds

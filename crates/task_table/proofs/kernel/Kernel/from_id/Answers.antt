@@ -1,8 +1,8 @@
 use Rattle.std.proofs.Common.{ap}
 use Rattle.kernel_abi.specs.declared.TaskId.{TaskId}
-use Rattle.task_table.specs.Reading.{present, present_id}
+use Rattle.task_table.specs.model.Reading.{present, present_id}
 use Rattle.task_table.specs.declared.slot.FromId.TheVariants as from_id
-use Rattle.task_table.proofs.Delivery.{id_is}
+use Rattle.task_table.proofs.kept.Delivery.{id_is}
 use Rattle.task_table.proofs.kernel.Kernel.from_id.Goals as goal
 
 pub returns-in-One : goal.returns-in-One

@@ -1,10 +1,10 @@
 use Rattle.std.proofs.Common.{◌<◌, ℕ, List, ap, arith, length, ◌∙◌, refl}
-use Rattle.task_table.specs.State.{Task}
-use Rattle.task_table.specs.Reading.{task_at}
+use Rattle.task_table.specs.model.State.{Task}
+use Rattle.task_table.specs.model.Reading.{task_at}
 use Rattle.task_table.specs.declared.slot.Slot.{Slot}
-use Rattle.task_table.proofs.Steps as steps
-use Rattle.task_table.proofs.Changes.{same_but-with_task, waits_alike, timers_alike}
-use Rattle.task_table.specs.Effects.{given, with_results}
+use Rattle.task_table.proofs.kept.Steps as steps
+use Rattle.task_table.proofs.model.Changes.{same_but-with_task, waits_alike, timers_alike}
+use Rattle.task_table.specs.model.Effects.{given, with_results}
 use Rattle.task_table.proofs.kernel.Kernel.give.Goals as goal
 
 pub returns-clause-holds : goal.returns-clause-holds

@@ -1,9 +1,9 @@
 use Rattle.std.proofs.Math.Nat.{min-le_left, min-le_right}
-use Rattle.task_table.specs.State.{Read, MessageFront}
-use Rattle.task_table.specs.Effects.{looked, handed}
-use Rattle.task_table.specs.Holds.{kept_of}
-use Rattle.task_table.proofs.Messages.{within-front, holds_looked}
-use Rattle.task_table.proofs.Ranges.{within_ram-front}
+use Rattle.task_table.specs.model.State.{Read, MessageFront}
+use Rattle.task_table.specs.model.Effects.{looked, handed}
+use Rattle.task_table.specs.kept.Holds.{kept_of}
+use Rattle.task_table.proofs.kept.Messages.{within-front, holds_looked}
+use Rattle.task_table.proofs.model.Ranges.{within_ram-front}
 use Rattle.task_table.proofs.kernel.Kernel.hand_over.Goals as goal
 
 pub copy-requires-clause-source : goal.copy-requires-clause-source

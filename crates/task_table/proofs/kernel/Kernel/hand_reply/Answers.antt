@@ -1,13 +1,13 @@
 use Rattle.std.proofs.Common.{◌≡◌, ap}
-use Rattle.task_table.specs.State.{Birth, Reply}
-use Rattle.task_table.specs.Reading.{taken_by}
-use Rattle.task_table.specs.Sends.{reply_of}
-use Rattle.task_table.specs.Holds.{kept_call}
+use Rattle.task_table.specs.model.State.{Birth, Reply}
+use Rattle.task_table.specs.model.Reading.{taken_by}
+use Rattle.task_table.specs.model.Sends.{reply_of}
+use Rattle.task_table.specs.kept.Holds.{kept_call}
 use Rattle.task_table.specs.declared.slot.OpenCall.{OpenCall}
 use Rattle.region_check.specs.declared.Right.TheVariants.{Read}
-use Rattle.task_table.proofs.Clients.{taken_call}
-use Rattle.task_table.proofs.Ranges.{within-good, within_ram-front}
-use Rattle.task_table.proofs.Steps.{some_mapped}
+use Rattle.task_table.proofs.model.Clients.{taken_call}
+use Rattle.task_table.proofs.model.Ranges.{within-good, within_ram-front}
+use Rattle.task_table.proofs.kept.Steps.{some_mapped}
 use Rattle.task_table.proofs.kernel.Kernel.hand_reply.Goals as goal
 
 pub copy-requires-clause-source : goal.copy-requires-clause-source

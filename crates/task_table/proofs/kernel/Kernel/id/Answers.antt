@@ -1,5 +1,5 @@
 use Rattle.std.proofs.Common.{arith}
-use Rattle.task_table.specs.Reading.{present_id}
+use Rattle.task_table.specs.model.Reading.{present_id}
 use Rattle.task_table.proofs.kernel.Kernel.id.Goals as goal
 
 pub returns : goal.returns

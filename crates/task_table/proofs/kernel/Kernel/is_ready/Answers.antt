@@ -1,5 +1,5 @@
 use Rattle.std.proofs.Common.{◌∙◌}
-use Rattle.task_table.proofs.Steps as steps
+use Rattle.task_table.proofs.kept.Steps as steps
 use Rattle.task_table.proofs.kernel.Kernel.is_ready.Goals as goal
 
 pub returns : goal.returns

@@ -2,13 +2,13 @@ use Rattle.std.proofs.Common.{◌≡◌, ◌<◌, ◌≤◌, None, Some, refl, m
 use Rattle.std.proofs.lemmas.Grind.{get_or-set_at}
 use Rattle.std.proofs.lemmas.List.{get_or_default}
 use Rattle.region_check.specs.declared.Right.TheVariants.{Read}
-use Rattle.task_table.specs.Parts.{task_setup}
-use Rattle.task_table.specs.State.{Setup}
-use Rattle.task_table.specs.Reading.{bad_byte}
-use Rattle.task_table.specs.Holds.{setup_of}
-use Rattle.task_table.specs.Entries.{entry_at, IsEntryOf}
-use Rattle.task_table.proofs.Members.{no_slot}
-use Rattle.task_table.proofs.Kept.{fresh_set, of_set, of_taken}
+use Rattle.task_table.specs.kept.Parts.{task_setup}
+use Rattle.task_table.specs.model.State.{Setup}
+use Rattle.task_table.specs.model.Reading.{bad_byte}
+use Rattle.task_table.specs.kept.Holds.{setup_of}
+use Rattle.task_table.specs.kept.Entries.{entry_at, IsEntryOf}
+use Rattle.task_table.proofs.kept.Members.{no_slot}
+use Rattle.task_table.proofs.kept.KeptEntries.{fresh_set, of_set, of_taken}
 use Rattle.task_table.proofs.kernel.Kernel.keep_entry.Goals as goal
 
 pub returns-clause-kept : goal.returns-clause-kept

@@ -1,8 +1,8 @@
 use Rattle.std.proofs.Common.{◌≡◌, ◌<◌, Some, refl, sym, ◌∙◌, arith, length}
 use Rattle.std.proofs.lemmas.List.{get_or_default}
-use Rattle.task_table.specs.Entries.{kept_at}
-use Rattle.task_table.specs.Holds.{kept_of}
-use Rattle.task_table.proofs.Kept.{kept_tells}
+use Rattle.task_table.specs.kept.Entries.{kept_at}
+use Rattle.task_table.specs.kept.Holds.{kept_of}
+use Rattle.task_table.proofs.kept.KeptEntries.{kept_tells}
 use Rattle.task_table.proofs.kernel.Kernel.kept_entry.Goals as goal
 
 pub returns-then-kept-base-clause-kept : goal.returns-then-kept-base-clause-kept

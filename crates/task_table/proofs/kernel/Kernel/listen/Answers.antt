@@ -1,6 +1,6 @@
 use Rattle.std.proofs.Common.{◌<◌, length, arith}
-use Rattle.task_table.proofs.Messages.{arguments-past_syscall, from-past_syscall}
-use Rattle.task_table.proofs.Receives.{idle-past_syscall}
+use Rattle.task_table.proofs.kept.Messages.{arguments-past_syscall, from-past_syscall}
+use Rattle.task_table.proofs.model.Receives.{idle-past_syscall}
 use Rattle.task_table.proofs.kernel.Kernel.listen.Goals as goal
 
 pub returns-clause-holds : goal.returns-clause-holds

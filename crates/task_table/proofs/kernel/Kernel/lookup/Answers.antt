@@ -1,7 +1,7 @@
 use Rattle.std.proofs.Common.{◌≡◌, ◌≢◌, ◌%◌, ◌<◌, ap, sym, ◌∙◌, not, arith, length}
 use Rattle.std.proofs.lemmas.Bool.{le-leb, lt-leb, ne_eqb, eq-eqb}
 use Rattle.kernel_abi.specs.Ids.{index_of, generation_of}
-use Rattle.task_table.specs.Reading.{task_at, is_out, is_dead}
+use Rattle.task_table.specs.model.Reading.{task_at, is_out, is_dead}
 use Rattle.task_table.specs.declared.slot.Slot.{Slot}
 use Rattle.task_table.proofs.kernel.Kernel.lookup.Goals as goal
 

@@ -1,7 +1,7 @@
 use Rattle.std.proofs.Common.{◌≡◌, ap}
-use Rattle.task_table.specs.Reading.{task_at}
+use Rattle.task_table.specs.model.Reading.{task_at}
 use Rattle.task_table.specs.declared.slot.Slot.{Slot}
-use Rattle.task_table.specs.Effects.{returned}
+use Rattle.task_table.specs.model.Effects.{returned}
 use Rattle.task_table.proofs.kernel.Kernel.note_return.Goals as goal
 
 pub returns-clause-holds : goal.returns-clause-holds

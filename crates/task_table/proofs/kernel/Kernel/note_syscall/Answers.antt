@@ -1,8 +1,8 @@
 use Rattle.std.proofs.Common.{◌≡◌, ap}
-use Rattle.task_table.specs.Reading.{task_at}
+use Rattle.task_table.specs.model.Reading.{task_at}
 use Rattle.task_table.specs.declared.slot.Slot.{Slot}
-use Rattle.task_table.specs.Rows.{syscall_noted}
-use Rattle.task_table.specs.Reading.{register}
+use Rattle.task_table.specs.model.Rows.{syscall_noted}
+use Rattle.task_table.specs.model.Reading.{register}
 use Rattle.task_table.proofs.kernel.Kernel.note_syscall.Goals as goal
 
 pub returns-clause-holds : goal.returns-clause-holds

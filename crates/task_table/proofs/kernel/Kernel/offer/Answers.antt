@@ -1,11 +1,11 @@
 use Rattle.std.proofs.Common.{◌≡◌, ap}
 use Rattle.kernel_abi.specs.declared.Note.TheVariants as note
-use Rattle.task_table.specs.Holds.{IsKept}
-use Rattle.task_table.specs.Reading.{task_at, call_of, listen_of}
-use Rattle.task_table.specs.Effects.{offered, with_call}
+use Rattle.task_table.specs.kept.Holds.{IsKept}
+use Rattle.task_table.specs.model.Reading.{task_at, call_of, listen_of}
+use Rattle.task_table.specs.model.Effects.{offered, with_call}
 use Rattle.task_table.specs.declared.slot.OpenCall.{OpenCall}
-use Rattle.task_table.proofs.Changes.{timers_same}
-use Rattle.task_table.proofs.Delivery.{task_at-with_call, kept-with_call, same_but-with_call}
+use Rattle.task_table.proofs.model.Changes.{timers_same}
+use Rattle.task_table.proofs.kept.Delivery.{task_at-with_call, kept-with_call, same_but-with_call}
 use Rattle.task_table.proofs.kernel.Kernel.offer.Goals as goal
 
 pub returns-clause-holds : goal.returns-clause-holds

@@ -1,5 +1,5 @@
 use Rattle.std.proofs.Common.{◌≤◌, length, arith, ◌∙◌}
-use Rattle.task_table.proofs.Messages.{offered_kept}
+use Rattle.task_table.proofs.kept.Messages.{offered_kept}
 use Rattle.task_table.proofs.kernel.Kernel.offered.Goals as goal
 
 pub returns : goal.returns

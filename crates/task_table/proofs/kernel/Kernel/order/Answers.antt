@@ -1,6 +1,6 @@
 use Rattle.std.proofs.Common.{◌∙◌, arith}
-use Rattle.task_table.proofs.Members.{kernel_ordered}
-use Rattle.task_table.proofs.Ordered.{as_many_priorities}
+use Rattle.task_table.proofs.kept.Members.{kernel_ordered}
+use Rattle.task_table.proofs.kept.Ordered.{as_many_priorities}
 use Rattle.task_table.proofs.kernel.Kernel.order.Goals as goal
 
 pub returns-clause-few : goal.returns-clause-few

@@ -1,4 +1,4 @@
-use Rattle.task_table.specs.Rows.{panicked}
+use Rattle.task_table.specs.model.Rows.{panicked}
 use Rattle.task_table.proofs.kernel.Kernel.panic.Goals as goal
 
 pub returns-clause-stands : goal.returns-clause-stands

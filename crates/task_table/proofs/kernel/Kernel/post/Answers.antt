@@ -1,6 +1,6 @@
 use Rattle.std.proofs.Common.{◌<◌, length, arith}
-use Rattle.task_table.specs.Effects.{posted}
-use Rattle.task_table.proofs.Posting.{sane-posted}
+use Rattle.task_table.specs.model.Effects.{posted}
+use Rattle.task_table.proofs.model.Posting.{sane-posted}
 use Rattle.task_table.proofs.kernel.Kernel.post.Goals as goal
 
 pub returns-clause-holds : goal.returns-clause-holds

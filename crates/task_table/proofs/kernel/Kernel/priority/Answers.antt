@@ -1,7 +1,7 @@
 use Rattle.std.proofs.Common.{◌<◌, ap, sym, ◌∙◌, false, arith, length, []}
 use Rattle.std.proofs.lemmas.List.{get_or-map}
-use Rattle.task_table.specs.State.{TaskSetup}
-use Rattle.task_table.specs.Parts.{task_setup}
+use Rattle.task_table.specs.model.State.{TaskSetup}
+use Rattle.task_table.specs.kept.Parts.{task_setup}
 use Rattle.task_table.specs.declared.start.TaskStart.{TaskStart}
 use Rattle.task_table.proofs.kernel.Kernel.priority.Goals as goal
 

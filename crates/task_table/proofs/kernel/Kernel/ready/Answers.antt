@@ -1,9 +1,9 @@
 use Rattle.std.proofs.Common.{subst}
-use Rattle.task_table.specs.State.{Setup}
-use Rattle.task_table.specs.Order.{AreOrdered, priorities_of}
-use Rattle.task_table.specs.Holds.{kept_of}
-use Rattle.task_table.specs.Readiness.{is_free}
-use Rattle.task_table.proofs.Members.{those_there, ready_kept}
+use Rattle.task_table.specs.model.State.{Setup}
+use Rattle.task_table.specs.kept.Order.{AreOrdered, priorities_of}
+use Rattle.task_table.specs.kept.Holds.{kept_of}
+use Rattle.task_table.specs.kept.Readiness.{is_free}
+use Rattle.task_table.proofs.kept.Members.{those_there, ready_kept}
 use Rattle.task_table.proofs.kernel.Kernel.ready.Goals as goal
 
 pub returns-clause-there : goal.returns-clause-there

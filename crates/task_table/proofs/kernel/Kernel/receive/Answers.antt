@@ -1,14 +1,14 @@
 use Rattle.std.proofs.Common.{◌≡◌, ap, ◌∙◌, subst}
 use Rattle.kernel_abi.specs.Arguments.{recv_args}
-use Rattle.task_table.specs.State.{Birth, Own, Slice}
-use Rattle.task_table.specs.Reading.{arguments, offer_by}
-use Rattle.task_table.specs.Effects.{returned, past_syscall, handed}
-use Rattle.task_table.specs.Rows.{buffer_of}
-use Rattle.task_table.specs.Holds.{Holds, kept_call}
-use Rattle.task_table.proofs.Clients.{offered_call}
-use Rattle.task_table.proofs.Ranges.{within_ram-good}
-use Rattle.task_table.proofs.Receives.{memory-past_syscall}
-use Rattle.task_table.proofs.Steps.{some_mapped}
+use Rattle.task_table.specs.model.State.{Birth, Own, Slice}
+use Rattle.task_table.specs.model.Reading.{arguments, offer_by}
+use Rattle.task_table.specs.model.Effects.{returned, past_syscall, handed}
+use Rattle.task_table.specs.model.Rows.{buffer_of}
+use Rattle.task_table.specs.kept.Holds.{Holds, kept_call}
+use Rattle.task_table.proofs.model.Clients.{offered_call}
+use Rattle.task_table.proofs.model.Ranges.{within_ram-good}
+use Rattle.task_table.proofs.model.Receives.{memory-past_syscall}
+use Rattle.task_table.proofs.kept.Steps.{some_mapped}
 use Rattle.task_table.proofs.kernel.Kernel.receive.Goals as goal
 
 pub hand_over-requires-clause-source : goal.hand_over-requires-clause-source

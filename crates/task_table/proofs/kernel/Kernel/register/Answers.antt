@@ -1,6 +1,6 @@
 use Rattle.std.proofs.Common.{ap, get_or}
 use Rattle.task_table.specs.declared.slot.Slot.{Slot}
-use Rattle.task_table.specs.Reading.{register}
+use Rattle.task_table.specs.model.Reading.{register}
 use Rattle.task_table.proofs.kernel.Kernel.register.Goals as goal
 
 pub returns : goal.returns

@@ -1,9 +1,9 @@
 use Rattle.std.proofs.Common.{◌≡◌, ℕ, ap, ◌∙◌}
 use Rattle.kernel_abi.specs.Faults.{reason_number}
 use Rattle.kernel_abi.specs.declared.Fault.{Fault}
-use Rattle.task_table.specs.State.{Birth}
-use Rattle.task_table.specs.Sends.{reply_fault_of}
-use Rattle.task_table.proofs.Clients.{taken_call}
+use Rattle.task_table.specs.model.State.{Birth}
+use Rattle.task_table.specs.model.Sends.{reply_fault_of}
+use Rattle.task_table.proofs.model.Clients.{taken_call}
 use Rattle.task_table.proofs.kernel.Kernel.reply_fault.Goals as goal
 
 pub returns-clause-holds : goal.returns-clause-holds

@@ -2,14 +2,14 @@ use Rattle.std.proofs.Common.{◌≡◌, ◌+◌, ◌%◌, ◌<◌, ap, sym, ◌
 use Rattle.std.proofs.lemmas.List.{get_or-map}
 use Rattle.kernel_abi.specs.declared.Health.{Health}
 use Rattle.kernel_abi.specs.declared.Health.TheVariants.{Well, Stopped}
-use Rattle.task_table.specs.State.{Task, TaskSetup}
-use Rattle.task_table.specs.Reading.{task_at, setup_at}
-use Rattle.task_table.specs.Parts.{task_setup}
-use Rattle.task_table.specs.Effects.{at_birth, reborn, with_task, with_timer}
+use Rattle.task_table.specs.model.State.{Task, TaskSetup}
+use Rattle.task_table.specs.model.Reading.{task_at, setup_at}
+use Rattle.task_table.specs.kept.Parts.{task_setup}
+use Rattle.task_table.specs.model.Effects.{at_birth, reborn, with_task, with_timer}
 use Rattle.task_table.specs.declared.slot.Slot.{Slot}
-use Rattle.task_table.proofs.Steps as steps
-use Rattle.task_table.proofs.Changes.{task_at-with_task, same_but-with_task_again}
-use Rattle.task_table.proofs.Births.{born_as}
+use Rattle.task_table.proofs.kept.Steps as steps
+use Rattle.task_table.proofs.model.Changes.{task_at-with_task, same_but-with_task_again}
+use Rattle.task_table.proofs.kept.Births.{born_as}
 use Rattle.task_table.proofs.kernel.Kernel.reset_task.Goals as goal
 
 -- a task that is not there

@@ -1,15 +1,15 @@
 use Rattle.std.proofs.Common.{◌≡◌, ◌<◌, length, Some, None, ap, sym, ◌∙◌, arith, refl}
 use Rattle.region_check.specs.declared.Right.TheVariants.{Read}
-use Rattle.task_table.specs.State.{Message}
-use Rattle.task_table.specs.Reading.{present, listen_of}
-use Rattle.task_table.specs.Effects.{past_syscall}
-use Rattle.task_table.specs.Sends.{call_made, message_of}
-use Rattle.task_table.specs.Messages.{buffer_for}
+use Rattle.task_table.specs.model.State.{Message}
+use Rattle.task_table.specs.model.Reading.{present, listen_of}
+use Rattle.task_table.specs.model.Effects.{past_syscall}
+use Rattle.task_table.specs.model.Sends.{call_made, message_of}
+use Rattle.task_table.specs.kept.Messages.{buffer_for}
 use Rattle.task_table.specs.declared.slot.OpenCall.{OpenCall}
-use Rattle.task_table.proofs.Delivery.{taken_into, not_taken_into, listener_ram, listen_of-past_syscall, next_call-past_syscall, memory-offered}
-use Rattle.task_table.proofs.Messages.{present-past_syscall}
-use Rattle.task_table.proofs.Ranges.{within-good}
-use Rattle.task_table.proofs.Receives.{idle-past_syscall, memory-past_syscall}
+use Rattle.task_table.proofs.kept.Delivery.{taken_into, not_taken_into, listener_ram, listen_of-past_syscall, next_call-past_syscall, memory-offered}
+use Rattle.task_table.proofs.kept.Messages.{present-past_syscall}
+use Rattle.task_table.proofs.model.Ranges.{within-good}
+use Rattle.task_table.proofs.model.Receives.{idle-past_syscall, memory-past_syscall}
 use Rattle.task_table.proofs.kernel.Kernel.send.Goals as goal
 
 pub offer-requires-clause-number : goal.offer-requires-clause-number

@@ -1,9 +1,9 @@
 use Rattle.std.proofs.Common.{◌≡◌, ◌∷◌, [], ◌∙◌, ap, length, map, true}
 use Rattle.mem_banks.specs.Memory.{Opened, is_held, with_bytes}
-use Rattle.task_table.specs.Holds.{kept_of}
-use Rattle.task_table.specs.Parts.{task_setup}
-use Rattle.task_table.proofs.Openings.{lendable_same}
-use Rattle.task_table.proofs.Setting.{held_within, fresh_byte, ram_byte, holds_set_byte}
+use Rattle.task_table.specs.kept.Holds.{kept_of}
+use Rattle.task_table.specs.kept.Parts.{task_setup}
+use Rattle.task_table.proofs.kept.Openings.{lendable_same}
+use Rattle.task_table.proofs.kept.Setting.{held_within, fresh_byte, ram_byte, holds_set_byte}
 use Rattle.task_table.proofs.kernel.Kernel.set_byte.Goals as goal
 
 pub store-requires : goal.store-requires

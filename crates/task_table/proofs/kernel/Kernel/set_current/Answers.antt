@@ -1,6 +1,6 @@
 use Rattle.std.proofs.Common.{refl, arith}
-use Rattle.task_table.specs.Holds.{kept_of}
-use Rattle.task_table.proofs.Steps as steps
+use Rattle.task_table.specs.kept.Holds.{kept_of}
+use Rattle.task_table.proofs.kept.Steps as steps
 use Rattle.task_table.proofs.kernel.Kernel.set_current.Goals as goal
 
 pub invariant_of-self : goal.invariant_of-self

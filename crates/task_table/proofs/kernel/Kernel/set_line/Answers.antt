@@ -1,6 +1,6 @@
 use Rattle.std.proofs.Common.{◌≡◌, ◌∙◌, ◌≤◌, ℕ, length, ap, arith, length-set}
-use Rattle.task_table.specs.Holds.{kept_of, setup_of}
-use Rattle.task_table.proofs.Steps as steps
+use Rattle.task_table.specs.kept.Holds.{kept_of, setup_of}
+use Rattle.task_table.proofs.kept.Steps as steps
 use Rattle.task_table.proofs.kernel.Kernel.set_line.Goals as goal
 
 pub returns-then-number-lt-LINES-clause-holds : goal.returns-then-number-lt-LINES-clause-holds

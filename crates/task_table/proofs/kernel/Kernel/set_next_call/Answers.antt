@@ -1,6 +1,6 @@
 use Rattle.std.proofs.Common.{refl, arith}
-use Rattle.task_table.specs.Holds.{kept_of}
-use Rattle.task_table.proofs.Setting.{holds_set_next_call}
+use Rattle.task_table.specs.kept.Holds.{kept_of}
+use Rattle.task_table.proofs.kept.Setting.{holds_set_next_call}
 use Rattle.task_table.proofs.kernel.Kernel.set_next_call.Goals as goal
 
 pub returns-clause-holds : goal.returns-clause-holds

@@ -1,9 +1,9 @@
 use Rattle.std.proofs.Common.{◌≡◌, ◌∙◌, sym, ap, length, map, refl}
 use Rattle.mem_banks.specs.Memory.{Memory, Opened}
-use Rattle.task_table.specs.Holds.{kept_of}
-use Rattle.task_table.specs.Parts.{task_setup}
-use Rattle.task_table.proofs.Openings.{lendable_same}
-use Rattle.task_table.proofs.Setting.{fresh_ram, holds_set_ram}
+use Rattle.task_table.specs.kept.Holds.{kept_of}
+use Rattle.task_table.specs.kept.Parts.{task_setup}
+use Rattle.task_table.proofs.kept.Openings.{lendable_same}
+use Rattle.task_table.proofs.kept.Setting.{fresh_ram, holds_set_ram}
 use Rattle.task_table.proofs.kernel.Kernel.set_ram.Goals as goal
 
 pub returns-clause-holds : goal.returns-clause-holds

@@ -1,12 +1,12 @@
 use Rattle.std.proofs.Common.{refl, sym, ◌∙◌, arith, map, length-set, ◌≤◌, ℕ, subst}
-use Rattle.task_table.specs.Limits.{most_tasks}
-use Rattle.task_table.specs.Holds.{kept_of}
-use Rattle.task_table.proofs.Steps as steps
-use Rattle.task_table.specs.Readiness.{is_free}
-use Rattle.task_table.proofs.Written.{those_same, offers_same}
-use Rattle.task_table.specs.Parts.{task_setup}
-use Rattle.task_table.proofs.Kept.{of_same}
-use Rattle.task_table.proofs.Deadlines.{timed_same}
+use Rattle.task_table.specs.kept.Limits.{most_tasks}
+use Rattle.task_table.specs.kept.Holds.{kept_of}
+use Rattle.task_table.proofs.kept.Steps as steps
+use Rattle.task_table.specs.kept.Readiness.{is_free}
+use Rattle.task_table.proofs.kept.Written.{those_same, offers_same}
+use Rattle.task_table.specs.kept.Parts.{task_setup}
+use Rattle.task_table.proofs.kept.KeptEntries.{of_same}
+use Rattle.task_table.proofs.kept.Deadlines.{timed_same}
 use Rattle.task_table.proofs.kernel.Kernel.set_rest.Goals as goal
 
 pub returns-clause-holds : goal.returns-clause-holds

@@ -1,15 +1,15 @@
 use Rattle.std.proofs.Common.{◌≡◌, ◌<◌, refl, ap, sym, subst, ◌∙◌, arith, length, map, get_or, set, length-set, ◌≤◌, ℕ}
-use Rattle.task_table.specs.Limits.{most_tasks}
+use Rattle.task_table.specs.kept.Limits.{most_tasks}
 use Rattle.task_table.specs.declared.slot.Slot.{Slot}
-use Rattle.task_table.specs.Holds.{kept_of}
-use Rattle.task_table.proofs.Steps as steps
-use Rattle.task_table.specs.TaskSets.{has}
-use Rattle.task_table.specs.Readiness.{is_client_of, is_free, is_at, AreOffers}
-use Rattle.task_table.proofs.Members.{kernel_places}
-use Rattle.task_table.proofs.Written.{front, those_set, offers_set}
-use Rattle.task_table.specs.Parts.{task_setup}
-use Rattle.task_table.proofs.Kept.{fresh_cleared, of_cleared}
-use Rattle.task_table.proofs.Deadlines.{timed_same}
+use Rattle.task_table.specs.kept.Holds.{kept_of}
+use Rattle.task_table.proofs.kept.Steps as steps
+use Rattle.task_table.specs.kept.TaskSets.{has}
+use Rattle.task_table.specs.kept.Readiness.{is_client_of, is_free, is_at, AreOffers}
+use Rattle.task_table.proofs.kept.Members.{kernel_places}
+use Rattle.task_table.proofs.kept.Written.{front, those_set, offers_set}
+use Rattle.task_table.specs.kept.Parts.{task_setup}
+use Rattle.task_table.proofs.kept.KeptEntries.{fresh_cleared, of_cleared}
+use Rattle.task_table.proofs.kept.Deadlines.{timed_same}
 use Rattle.task_table.proofs.kernel.Kernel.set_slot.Goals as goal
 
 pub place-place-requires : goal.place-place-requires

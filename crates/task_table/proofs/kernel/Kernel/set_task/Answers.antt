@@ -1,8 +1,8 @@
 use Rattle.std.proofs.Common.{◌<◌, arith, length, refl}
-use Rattle.task_table.specs.State.{Task}
-use Rattle.task_table.specs.Reading.{task_at}
-use Rattle.task_table.specs.Effects.{with_timer}
-use Rattle.task_table.proofs.Setting.{same_but-with_slot, kept-with_slot, timers-with_slot}
+use Rattle.task_table.specs.model.State.{Task}
+use Rattle.task_table.specs.model.Reading.{task_at}
+use Rattle.task_table.specs.model.Effects.{with_timer}
+use Rattle.task_table.proofs.kept.Setting.{same_but-with_slot, kept-with_slot, timers-with_slot}
 use Rattle.task_table.proofs.kernel.Kernel.set_task.Goals as goal
 
 pub returns-clause-holds : goal.returns-clause-holds

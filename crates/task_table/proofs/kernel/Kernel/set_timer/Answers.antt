@@ -1,18 +1,18 @@
 use Rattle.std.proofs.Common.{◌≡◌, ◌<◌, ap, sym, ◌∙◌, subst, arith, length, map, set, length-set, refl, ◌≤◌, ℕ}
-use Rattle.task_table.specs.Limits.{most_tasks}
-use Rattle.task_table.specs.State.{Task}
-use Rattle.task_table.specs.Reading.{task_at}
+use Rattle.task_table.specs.kept.Limits.{most_tasks}
+use Rattle.task_table.specs.model.State.{Task}
+use Rattle.task_table.specs.model.Reading.{task_at}
 use Rattle.task_table.specs.declared.slot.Slot.{Slot}
-use Rattle.task_table.specs.Holds.{IsKept, kept_of}
-use Rattle.task_table.proofs.Steps as steps
-use Rattle.task_table.proofs.Changes.{same_but-with_task}
-use Rattle.task_table.specs.Readiness.{is_at, is_free}
-use Rattle.task_table.specs.Deadlines.{is_timed_at, AreTimed}
-use Rattle.task_table.proofs.Written.{front, those_same, offers_same}
-use Rattle.task_table.specs.Parts.{task_setup}
-use Rattle.task_table.proofs.Kept.{of_same}
-use Rattle.task_table.proofs.Deadlines.{timed_set}
-use Rattle.task_table.specs.Effects.{with_timer}
+use Rattle.task_table.specs.kept.Holds.{IsKept, kept_of}
+use Rattle.task_table.proofs.kept.Steps as steps
+use Rattle.task_table.proofs.model.Changes.{same_but-with_task}
+use Rattle.task_table.specs.kept.Readiness.{is_at, is_free}
+use Rattle.task_table.specs.kept.Deadlines.{is_timed_at, AreTimed}
+use Rattle.task_table.proofs.kept.Written.{front, those_same, offers_same}
+use Rattle.task_table.specs.kept.Parts.{task_setup}
+use Rattle.task_table.proofs.kept.KeptEntries.{of_same}
+use Rattle.task_table.proofs.kept.Deadlines.{timed_set}
+use Rattle.task_table.specs.model.Effects.{with_timer}
 use Rattle.task_table.proofs.kernel.Kernel.set_timer.Goals as goal
 
 pub returns-clause-holds : goal.returns-clause-holds

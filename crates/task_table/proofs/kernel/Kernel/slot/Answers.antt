@@ -1,5 +1,5 @@
 use Rattle.std.proofs.Common.{sym, subst}
-use Rattle.task_table.specs.Holds.{IsKept}
+use Rattle.task_table.specs.kept.Holds.{IsKept}
 use Rattle.task_table.proofs.kernel.Kernel.slot.Goals as goal
 
 pub returns : goal.returns

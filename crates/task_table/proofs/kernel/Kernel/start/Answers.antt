@@ -1,20 +1,20 @@
 use Rattle.std.proofs.Common.{rules, ◌≡◌, ◌<◌, ◌≤◌, ◌∙◌, ℕ, refl, ap, sym, subst, map, length, List}
 use Rattle.std.proofs.lemmas.List.{length-map}
 use Rattle.std.proofs.lemmas.Result.{IfOk-from_err}
-use Rattle.task_table.specs.State.{Setup, TaskSetup, LineSetup}
-use Rattle.task_table.specs.Parts.{setup_of_parts, task_setup, line_setup}
-use Rattle.task_table.specs.Start.{born}
-use Rattle.task_table.specs.Holds.{packed_task}
+use Rattle.task_table.specs.model.State.{Setup, TaskSetup, LineSetup}
+use Rattle.task_table.specs.kept.Parts.{setup_of_parts, task_setup, line_setup}
+use Rattle.task_table.specs.model.Start.{born}
+use Rattle.task_table.specs.kept.Holds.{packed_task}
 use Rattle.task_table.specs.declared.slot.Wait.TheVariants.{Nothing}
-use Rattle.task_table.specs.Order.{AreOrdered, priorities_of}
-use Rattle.task_table.specs.Limits.{most_tasks, board_lines}
-use Rattle.task_table.specs.Readiness.{is_free, AreThose}
+use Rattle.task_table.specs.kept.Order.{AreOrdered, priorities_of}
+use Rattle.task_table.specs.kept.Limits.{most_tasks, board_lines}
+use Rattle.task_table.specs.kept.Readiness.{is_free, AreThose}
 use Rattle.task_table.specs.declared.slot.Slot.{Slot}
 use Rattle.task_table.specs.declared.start.TaskStart.{TaskStart}
-use Rattle.task_table.proofs.Members.{no_offers}
-use Rattle.task_table.proofs.Ordered.{as_many_priorities, own_places}
-use Rattle.task_table.proofs.Deadlines.{none_timed}
-use Rattle.task_table.proofs.Starts.{shows_start, sane-begun}
+use Rattle.task_table.proofs.kept.Members.{no_offers}
+use Rattle.task_table.proofs.kept.Ordered.{as_many_priorities, own_places}
+use Rattle.task_table.proofs.kept.Deadlines.{none_timed}
+use Rattle.task_table.proofs.kept.Starts.{shows_start, sane-begun}
 use Rattle.task_table.proofs.kernel.Kernel.start.Goals as goal
 
 -- as many slots as tasks

@@ -1,15 +1,15 @@
 use Rattle.std.proofs.Common.{◌≡◌, refl, ap, ◌∙◌}
 use Rattle.kernel_abi.specs.Arguments.{recv_args}
 use Rattle.kernel_abi.specs.declared.arguments.RecvArgs.{RecvArgs}
-use Rattle.task_table.specs.State.{Listen}
-use Rattle.task_table.specs.Reading.{arguments}
-use Rattle.task_table.specs.Rows.{buffer_of}
-use Rattle.task_table.specs.Messages.{from_of}
-use Rattle.task_table.specs.Holds.{kept_listen, from_id_of}
+use Rattle.task_table.specs.model.State.{Listen}
+use Rattle.task_table.specs.model.Reading.{arguments}
+use Rattle.task_table.specs.model.Rows.{buffer_of}
+use Rattle.task_table.specs.kept.Messages.{from_of}
+use Rattle.task_table.specs.kept.Holds.{kept_listen, from_id_of}
 use Rattle.task_table.specs.declared.slot.Wait.TheVariants as wait
-use Rattle.task_table.proofs.Changes.{timers_same}
-use Rattle.task_table.proofs.Messages.{kept-with_listen, answered_as}
-use Rattle.task_table.proofs.Waiting.{task_at-with_listen, same_but-with_listen}
+use Rattle.task_table.proofs.model.Changes.{timers_same}
+use Rattle.task_table.proofs.kept.Messages.{kept-with_listen, answered_as}
+use Rattle.task_table.proofs.model.Waiting.{task_at-with_listen, same_but-with_listen}
 use Rattle.task_table.proofs.kernel.Kernel.start_listening.Goals as goal
 
 pub returns-clause-holds : goal.returns-clause-holds

@@ -1,6 +1,6 @@
 use Rattle.std.proofs.Common.{is_some, ap, sym, ◌∙◌}
-use Rattle.task_table.proofs.Steps as steps
-use Rattle.task_table.proofs.Changes.{timers_same, task_at-without_listen, same_but-without_listen, without_listen_none}
+use Rattle.task_table.proofs.kept.Steps as steps
+use Rattle.task_table.proofs.model.Changes.{timers_same, task_at-without_listen, same_but-without_listen, without_listen_none}
 use Rattle.task_table.proofs.kernel.Kernel.stop_listening.Goals as goal
 
 pub returns-then-is_some-clause-holds : goal.returns-then-is_some-clause-holds

@@ -1,10 +1,10 @@
 use Rattle.std.proofs.Common.{◌≤◌, length, map, arith, inl, ap, ◌∙◌}
 use Rattle.mem_banks.specs.Memory.{Opened, IsWithinRam}
-use Rattle.task_table.specs.Holds.{kept_of, setup_of}
-use Rattle.task_table.specs.Parts.{task_setup}
-use Rattle.task_table.proofs.Openings.{lendable_same}
-use Rattle.task_table.proofs.Kept.{fresh_stored}
-use Rattle.task_table.proofs.Steps as steps
+use Rattle.task_table.specs.kept.Holds.{kept_of, setup_of}
+use Rattle.task_table.specs.kept.Parts.{task_setup}
+use Rattle.task_table.proofs.kept.Openings.{lendable_same}
+use Rattle.task_table.proofs.kept.KeptEntries.{fresh_stored}
+use Rattle.task_table.proofs.kept.Steps as steps
 use Rattle.task_table.proofs.kernel.Kernel.store.Goals as goal
 
 pub store-requires : goal.store-requires

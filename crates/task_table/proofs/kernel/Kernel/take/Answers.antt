@@ -1,6 +1,6 @@
-use Rattle.task_table.proofs.Changes.{timers_same}
-use Rattle.task_table.proofs.Messages.{kept_taken}
-use Rattle.task_table.proofs.Waiting.{task_at-with_taken, same_but-with_taken}
+use Rattle.task_table.proofs.model.Changes.{timers_same}
+use Rattle.task_table.proofs.kept.Messages.{kept_taken}
+use Rattle.task_table.proofs.model.Waiting.{task_at-with_taken, same_but-with_taken}
 use Rattle.task_table.proofs.kernel.Kernel.take.Goals as goal
 
 pub returns-clause-holds : goal.returns-clause-holds

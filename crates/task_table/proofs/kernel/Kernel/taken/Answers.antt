@@ -1,5 +1,5 @@
 use Rattle.std.proofs.Common.{◌≤◌, length, arith, ◌∙◌}
-use Rattle.task_table.proofs.Delivery.{taken_kept}
+use Rattle.task_table.proofs.kept.Delivery.{taken_kept}
 use Rattle.task_table.proofs.kernel.Kernel.taken.Goals as goal
 
 pub returns : goal.returns

@@ -1,4 +1,4 @@
-use Rattle.task_table.proofs.Kept.{none_met}
+use Rattle.task_table.proofs.kept.KeptEntries.{none_met}
 use Rattle.task_table.proofs.kernel.Kernel.touched.Goals as goal
 
 pub returns-else-catches-clause-apart : goal.returns-else-catches-clause-apart

@@ -1,6 +1,6 @@
 use Rattle.std.proofs.Common.{refl, arith}
-use Rattle.task_table.specs.Holds.{kept_of}
-use Rattle.task_table.proofs.Steps.{holds_next_call}
+use Rattle.task_table.specs.kept.Holds.{kept_of}
+use Rattle.task_table.proofs.kept.Steps.{holds_next_call}
 use Rattle.task_table.proofs.kernel.Kernel.use_number.Goals as goal
 
 pub returns-clause-holds : goal.returns-clause-holds

@@ -1,10 +1,10 @@
 use Rattle.std.proofs.Common.{◌≡◌, ap, sym, ◌∙◌}
 use Rattle.std.proofs.lemmas.Bool.{ne_eqb}
-use Rattle.task_table.specs.Reading.{listen_of}
-use Rattle.task_table.specs.Effects.{woken}
-use Rattle.task_table.specs.Holds.{kept_listen}
+use Rattle.task_table.specs.model.Reading.{listen_of}
+use Rattle.task_table.specs.model.Effects.{woken}
+use Rattle.task_table.specs.kept.Holds.{kept_listen}
 use Rattle.task_table.specs.declared.slot.Listening.{Listening}
-use Rattle.task_table.proofs.Steps as steps
+use Rattle.task_table.proofs.kept.Steps as steps
 use Rattle.task_table.proofs.kernel.Kernel.wake.Goals as goal
 
 pub returns-then-under-ne0-clause-holds : goal.returns-then-under-ne0-clause-holds

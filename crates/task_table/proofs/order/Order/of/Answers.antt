@@ -1,5 +1,5 @@
 use Rattle.std.proofs.Common.{arith}
-use Rattle.task_table.proofs.Ordered.{keys_fit, once_in, ordered}
+use Rattle.task_table.proofs.kept.Ordered.{keys_fit, once_in, ordered}
 use Rattle.task_table.proofs.order.Order.of.Goals as goal
 
 pub places_of-requires-clause-few : goal.places_of-requires-clause-few

@@ -1,7 +1,7 @@
 use Rattle.std.proofs.Common.{◌<◌, ◌/◌, length, sym}
 use Rattle.std.proofs.lemmas.Bool.{ltb-true, ltb-false}
 use Rattle.std.proofs.lemmas.List.{get_or_read}
-use Rattle.task_table.proofs.TaskSets.{has_read, has_past}
+use Rattle.task_table.proofs.kept.TaskSets.{has_read, has_past}
 use Rattle.task_table.proofs.task_set.TaskSet.contains.Goals as goal
 
 pub returns-in-Some : goal.returns-in-Some

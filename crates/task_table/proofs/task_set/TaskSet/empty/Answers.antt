@@ -1,7 +1,7 @@
 use Rattle.std.proofs.Common.{refl}
-use Rattle.task_table.specs.Limits.{task_words}
-use Rattle.task_table.proofs.TaskSets.{has_none}
-use Rattle.task_table.proofs.Summaries.{summary_of_none}
+use Rattle.task_table.specs.kept.Limits.{task_words}
+use Rattle.task_table.proofs.kept.TaskSets.{has_none}
+use Rattle.task_table.proofs.kept.Summaries.{summary_of_none}
 use Rattle.task_table.proofs.task_set.TaskSet.empty.Goals as goal
 
 pub invariant_of-result : goal.invariant_of-result

@@ -1,5 +1,5 @@
 use Rattle.std.proofs.Common.{arith}
-use Rattle.task_table.proofs.Summaries.{none_after, found_after, told_some, there_of}
+use Rattle.task_table.proofs.kept.Summaries.{none_after, found_after, told_some, there_of}
 use Rattle.task_table.proofs.task_set.TaskSet.first_after.Goals as goal
 
 pub lowest_bit-requires : goal.lowest_bit-requires

@@ -1,6 +1,6 @@
 use Rattle.std.proofs.Common.{arith}
-use Rattle.task_table.proofs.TaskSets.{has_past}
-use Rattle.task_table.proofs.Summaries.{found_here, found_behind}
+use Rattle.task_table.proofs.kept.TaskSets.{has_past}
+use Rattle.task_table.proofs.kept.Summaries.{found_here, found_behind}
 use Rattle.task_table.proofs.task_set.TaskSet.first_from.Goals as goal
 
 pub returns-then-word-ge-TASK_WORDS : goal.returns-then-word-ge-TASK_WORDS

@@ -1,6 +1,6 @@
 use Rattle.std.proofs.Common.{◌<◌, ◌/◌, length, arith, ◌∙◌, length-set}
-use Rattle.task_table.proofs.TaskSets.{has_inserted}
-use Rattle.task_table.proofs.Summaries.{summary_inserted}
+use Rattle.task_table.proofs.kept.TaskSets.{has_inserted}
+use Rattle.task_table.proofs.kept.Summaries.{summary_inserted}
 use Rattle.task_table.proofs.task_set.TaskSet.insert.Goals as goal
 
 pub invariant_of-self : goal.invariant_of-self

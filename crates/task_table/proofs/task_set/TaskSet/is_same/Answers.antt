@@ -1,8 +1,8 @@
 use Rattle.std.proofs.Common.{◌≡◌, ◌/◌, ℕ, get_or, ◌≤◌, arith, inl, inr, sym, subst, ◌∙◌, ap}
 use Rattle.std.proofs.lemmas.Bool.{cases_lt, false≢true}
-use Rattle.task_table.specs.TaskSets.{IsUsed}
+use Rattle.task_table.specs.kept.TaskSets.{IsUsed}
 use Rattle.task_table.specs.declared.task_set.TaskSet.{TaskSet}
-use Rattle.task_table.proofs.Summaries.{used_there, beyond_used, same_word}
+use Rattle.task_table.proofs.kept.Summaries.{used_there, beyond_used, same_word}
 use Rattle.task_table.proofs.task_set.TaskSet.is_same.Goals as goal
 
 pub loop-word-init : goal.loop-word-init

@@ -1,0 +1,17 @@
+pub mod Steps
+pub mod Members
+pub mod Deadlines
+pub mod Written
+pub mod Messages
+pub mod Delivery
+pub mod KeptEntries
+pub mod Openings
+pub mod Starts
+pub mod Births
+pub mod TaskSets
+pub mod Summaries
+pub mod Choices
+pub mod Searches
+pub mod Ordered
+pub mod Setting
+pub mod KeptAlike

@@ -1,0 +1,16 @@
+pub mod Limits
+pub mod TaskSets
+pub mod Readiness
+pub mod Order
+pub mod Deadlines
+pub mod Entries
+pub mod Parts
+pub mod Holds
+pub mod Frames
+pub mod Found
+pub mod Messages
+pub mod Waits
+pub mod Openable
+pub mod Window
+pub mod Setting
+pub mod Calls

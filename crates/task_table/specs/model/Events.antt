@@ -1,0 +1,50 @@
+-- What comes from outside within a turn: ticks of the clock, interrupts and bytes for devices. (Hubris Reference: timers,
+-- interrupts; that a timer is due at its deadline, and that an interrupt on a disabled line is held once, is this project's profile.)
+use Rattle.std.specs.Prelude.{ℕ, length, Option, None, Some, true, false, ◌==◌, nat_le, if◌then◌else◌, find, fold}
+use Rattle.std.specs.List.{range_with_len}
+use Rattle.kernel_abi.specs.declared.Handled.TheVariants.{Posted, Held, Unowned}
+use Rattle.kernel_abi.specs.declared.Note.TheVariants as note
+use Rattle.kernel_abi.specs.declared.Timer.{Timer}
+use Rattle.kernel_abi.specs.Devices.{devices_fed, feed_answer}
+use Rattle.task_table.specs.model.State.{Setup, LineSetup, Turn}
+use Rattle.task_table.specs.model.Reading.{task_at, line_at, line_off}
+use Rattle.task_table.specs.model.Effects.{◌⨾◌, noted, posted, with_timer, clocked, with_line, with_devices}
+
+-- ## a tick
+
+-- the timer of a task that is due is off, and its bits are posted
+abbrev pub expired_by : ℕ → Option Timer → Turn → Turn
+expired_by i None t = t
+expired_by i (Some x) t =
+    if nat_le x.deadline t.state.now then (t ⨾ with_timer i None ⨾ posted i x.bits) else t
+
+abbrev pub expired : Turn → ℕ → Turn
+expired t i = t ⨾ expired_by i (task_at t.state i).timer
+
+-- the time goes on by one, then each task in order whose timer is due is posted
+unfoldable pub ticked : Turn → Turn
+ticked t = fold expired (clocked t) (range_with_len 0 (length t.state.tasks))
+
+-- ## a byte for a device
+
+-- it is put into the device's queue, where there is such a device, it is a port and has room
+unfoldable pub fed : ℕ → ℕ → Turn → Turn
+fed device byte t =
+    t ⨾ with_devices (devices_fed t.state.devices device byte) ⨾ noted (note.In device byte (feed_answer t.state.devices device))
+
+-- ## an interrupt
+
+-- the owner of a line
+unfoldable pub owner_of : Setup → ℕ → Option LineSetup
+owner_of g k = find (λ o. o.line == k) g.lines
+
+-- an enabled line posts and is disabled; a disabled one is pending, once; one without an owner does nothing
+abbrev pub interrupted_by : ℕ → Option LineSetup → Turn → Turn
+interrupted_by k None t = t ⨾ noted (note.Irq k Unowned)
+interrupted_by k (Some o) t =
+    if (line_at t.state k).enabled
+    then (t ⨾ noted (note.Irq k Posted) ⨾ with_line k (line_off false) ⨾ posted o.owner o.bits)
+    else (t ⨾ noted (note.Irq k Held) ⨾ with_line k (line_off true))
+
+unfoldable pub interrupted : Setup → ℕ → Turn → Turn
+interrupted g k t = t ⨾ interrupted_by k (owner_of g k)
