@@ -2,7 +2,7 @@
 use Rattle.std.proofs.Common.{◌≡◌, ◌∙◌, ◌<◌, ◌≤◌, ℕ, zero, suc, true, eqb, Option, Some, None, refl, sym, ap, arith}
 use Rattle.std.proofs.lemmas.Bool.{eq-eqb}
 use Rattle.mem_banks.specs.Memory.{byte_at}
-use Rattle.task_table.specs.State.{State, Turn}
+use Rattle.task_table.specs.model.State.{State, Turn}
 use Rattle.board_model.specs.declared.outcomes.Level.TheVariants.{Calls}
 use Rattle.board_model.specs.Script.{Scenario}
 use Rattle.board_model.specs.Turn.{turn, turned}

@@ -2,11 +2,11 @@
 use Rattle.std.proofs.Common.{◌≡◌, ◌∙◌, ◌%◌, ◌*◌, ◌+◌, ◌<◌, ◌≤◌, ℕ, zero, suc, Bool, false, ◌&&◌, List, length, ap, arith, inl, inr, is_none, sym}
 use Rattle.std.proofs.lemmas.Bool.{cases_lt}
 use Rattle.std.proofs.lemmas.List.{get_or_past, length-map}
-use Rattle.task_table.specs.State.{Setup, State, Task, TaskSetup}
-use Rattle.task_table.specs.Reading.{call_of, is_ready, is_well, listen_of, no_task, task_at}
-use Rattle.task_table.specs.TaskSets.{has}
+use Rattle.task_table.specs.model.State.{Setup, State, Task, TaskSetup}
+use Rattle.task_table.specs.model.Reading.{call_of, is_ready, is_well, listen_of, no_task, task_at}
+use Rattle.task_table.specs.kept.TaskSets.{has}
 use Rattle.task_table.specs.declared.order.Order.{Order}
-use Rattle.task_table.specs.Order.{AreAtPlaces, AreOrdered, key_in, place_in, priorities_of, priority_at}
+use Rattle.task_table.specs.kept.Order.{AreAtPlaces, AreOrdered, key_in, place_in, priorities_of, priority_at}
 
 -- where two orders have the same keys before a place, the second's there is none above the first's
 no_later : (ps ks ls ms ns : List ℕ) (p : ℕ) → AreOrdered ps ks ls → AreOrdered ps ms ns → p < length ps → ((q : ℕ) → q < p → key_in ks q ≡ key_in ms q) → key_in ms p ≤ key_in ks p

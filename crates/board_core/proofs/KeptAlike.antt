@@ -4,16 +4,16 @@ use Rattle.std.proofs.lemmas.Bool.Decides.{eqb_tells}
 use Rattle.run_script.specs.Scripts.{IsNext}
 use Rattle.thumb_exec.specs.declared.cpu.Cpu.{Cpu}
 use Rattle.words_core.specs.declared.Flags.{Flags}
-use Rattle.task_table.specs.State.{Setup, State, Task, Turn}
-use Rattle.task_table.specs.Reading.{task_at, call_of, listen_of, is_ready, is_faulted}
-use Rattle.task_table.specs.Effects.{with_task, with_processor}
-use Rattle.task_table.specs.Holds.{Holds as KernelHolds, kept_of, packed, packed_task, wait_of}
-use Rattle.task_table.specs.Sane.{Sane, IsCounted}
-use Rattle.task_table.specs.Setting.{AreKeptAlike}
+use Rattle.task_table.specs.model.State.{Setup, State, Task, Turn}
+use Rattle.task_table.specs.model.Reading.{task_at, call_of, listen_of, is_ready, is_faulted}
+use Rattle.task_table.specs.model.Effects.{with_task, with_processor}
+use Rattle.task_table.specs.kept.Holds.{Holds as KernelHolds, kept_of, packed, packed_task, wait_of}
+use Rattle.task_table.specs.model.Sane.{Sane, IsCounted}
+use Rattle.task_table.specs.kept.Setting.{AreKeptAlike}
 use Rattle.task_table.specs.declared.kernel.Kernel.{Kernel}
 use Rattle.task_table.specs.declared.slot.Slot.{Slot}
-use Rattle.task_table.proofs.Changes.{call_of-with_task, listen_of-with_task, length-with_task}
-use Rattle.task_table.proofs.KeptAlike.{alone_of, packed_other, packed_own, shows_alike, ready_alike}
+use Rattle.task_table.proofs.model.Changes.{call_of-with_task, listen_of-with_task, length-with_task}
+use Rattle.task_table.proofs.kept.KeptAlike.{alone_of, packed_other, packed_own, shows_alike, ready_alike}
 use Rattle.board_model.specs.Script.{Scenario}
 use Rattle.board_model.proofs.Quiet.{chosen_by}
 use Rattle.board_core.specs.declared.board.Board.{Board}

@@ -10,8 +10,8 @@ use Rattle.image_format.specs.Facts.{Facts}
 use Rattle.image_format.specs.Loners.{regions_by_task, own_regions, regions_beside, is_loner, loners}
 use Rattle.image_format.specs.Picture.{Picture, TaskPicture, no_task, regions_in}
 use Rattle.image_format.proofs.Ranges.{all_of, kept_is}
-use Rattle.task_table.specs.State.{TaskSetup}
-use Rattle.task_table.specs.Reading.{setup_at}
+use Rattle.task_table.specs.model.State.{TaskSetup}
+use Rattle.task_table.specs.model.Reading.{setup_at}
 use Rattle.board_model.specs.Loners.{IsLoner}
 use Rattle.board_core.specs.Opened.{setup_of_image, setup_of_task}
 use Rattle.board_core.proofs.Opens.{setup_is}

@@ -11,12 +11,12 @@ use Rattle.thumb_insn.specs.declared.Insn.{Insn}
 use Rattle.kernel_abi.specs.declared.Note.{Note}
 use Rattle.task_table.specs.declared.kernel.Kernel.{Kernel}
 use Rattle.mem_banks.specs.Memory.{Memory, is_ram}
-use Rattle.task_table.specs.State.{Setup, State, Task, Own, Turn}
-use Rattle.task_table.specs.Reading.{register, task_at, call_of, listen_of, is_ready, no_task}
-use Rattle.task_table.specs.Effects.{with_task, noted, stored, with_processor, with_devices, given_out, device_stored, device_taken}
-use Rattle.task_table.specs.Holds.{Holds, Stands, notes_of, setup_of, current_of, task_count, memory_of}
-use Rattle.task_table.specs.Start.{begun}
-use Rattle.task_table.proofs.Changes.{task_at-with_task}
+use Rattle.task_table.specs.model.State.{Setup, State, Task, Own, Turn}
+use Rattle.task_table.specs.model.Reading.{register, task_at, call_of, listen_of, is_ready, no_task}
+use Rattle.task_table.specs.model.Effects.{with_task, noted, stored, with_processor, with_devices, given_out, device_stored, device_taken}
+use Rattle.task_table.specs.kept.Holds.{Holds, Stands, notes_of, setup_of, current_of, task_count, memory_of}
+use Rattle.task_table.specs.model.Start.{begun}
+use Rattle.task_table.proofs.model.Changes.{task_at-with_task}
 use Rattle.thumb_exec.specs.Bytes.{bytes_of}
 use Rattle.board_model.specs.Turn.{refusals, is_device, held, cpu_of, put, took, moved, acted, with_current}
 use Rattle.board_core.specs.Machine.{with_cpu, ReachHolds, shown_by, IsLoaded, HoldsBy, IsReady, MachineStands, HasContext}

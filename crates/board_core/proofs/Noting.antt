@@ -5,15 +5,15 @@ use Rattle.kernel_abi.specs.Devices.{DeviceData}
 use Rattle.thumb_exec.specs.declared.cpu.Cpu.{Cpu}
 use Rattle.task_table.specs.declared.kernel.Kernel.{Kernel}
 use Rattle.board_core.specs.declared.reach.Reach.{Reach}
-use Rattle.task_table.specs.State.{Setup, Turn}
-use Rattle.task_table.specs.Reading.{is_ready, task_at}
-use Rattle.task_table.specs.Effects.{noted}
-use Rattle.task_table.specs.Rows.{syscall_noted}
-use Rattle.task_table.specs.Syscalls.{syscall_made}
-use Rattle.task_table.specs.Holds.{Holds, Stands}
-use Rattle.task_table.proofs.RowChains.{stay-syscall_made}
-use Rattle.task_table.proofs.Sanity.{sane-noted}
-use Rattle.task_table.proofs.StepKeeps.{sane-syscall_noted}
+use Rattle.task_table.specs.model.State.{Setup, Turn}
+use Rattle.task_table.specs.model.Reading.{is_ready, task_at}
+use Rattle.task_table.specs.model.Effects.{noted}
+use Rattle.task_table.specs.model.Rows.{syscall_noted}
+use Rattle.task_table.specs.model.Syscalls.{syscall_made}
+use Rattle.task_table.specs.kept.Holds.{Holds, Stands}
+use Rattle.task_table.proofs.model.RowChains.{stay-syscall_made}
+use Rattle.task_table.proofs.model.Sanity.{sane-noted}
+use Rattle.task_table.proofs.model.StepKeeps.{sane-syscall_noted}
 use Rattle.board_core.specs.declared.machine.Machine.{Machine}
 use Rattle.board_model.specs.declared.outcomes.Level.{Level}
 use Rattle.board_model.specs.declared.outcomes.Level.TheVariants.{Calls, All}

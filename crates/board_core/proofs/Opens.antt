@@ -7,15 +7,15 @@ use Rattle.std.proofs.lemmas.List.{length-map, length-replicate, take_more, take
 use Rattle.region_check.specs.declared.Region.{Region}
 use Rattle.image_format.specs.Picture.{Picture, TaskPicture, LinePicture, no_task, no_line, task_in, regions_in}
 use Rattle.image_format.specs.Facts.{Facts}
-use Rattle.task_table.specs.Limits.{most_tasks, board_lines}
+use Rattle.task_table.specs.kept.Limits.{most_tasks, board_lines}
 use Rattle.mem_banks.specs.Memory.{Memory, AreAllBytes, AreRegions}
-use Rattle.task_table.specs.State.{Setup, TaskSetup, LineSetup}
-use Rattle.task_table.specs.Reading.{setup_at}
-use Rattle.task_table.specs.Start.{start}
-use Rattle.task_table.specs.Parts.{IsSound, setup_of_parts, task_setup, line_setup}
+use Rattle.task_table.specs.model.State.{Setup, TaskSetup, LineSetup}
+use Rattle.task_table.specs.model.Reading.{setup_at}
+use Rattle.task_table.specs.model.Start.{start}
+use Rattle.task_table.specs.kept.Parts.{IsSound, setup_of_parts, task_setup, line_setup}
 use Rattle.task_table.specs.declared.start.TaskStart.{TaskStart}
 use Rattle.task_table.specs.declared.start.LineStart.{LineStart}
-use Rattle.task_table.specs.Openable.{AreOpenable}
+use Rattle.task_table.specs.kept.Openable.{AreOpenable}
 use Rattle.board_core.specs.Regions.{ArePlaces, HavePlaces}
 use Rattle.board_core.specs.Opened.{setup_of_image, setup_of_task, setup_of_line}
 

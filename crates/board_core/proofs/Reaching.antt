@@ -8,12 +8,12 @@ use Rattle.kernel_abi.specs.Devices.{DeviceData, device_number, devices_stored, 
 use Rattle.thumb_exec.specs.Bytes.{bytes_of}
 use Rattle.mem_banks.specs.Memory.{Memory, number_at, is_ram}
 use Rattle.task_table.specs.declared.kernel.Kernel.{Kernel}
-use Rattle.task_table.specs.State.{Setup, Own, Turn}
-use Rattle.task_table.specs.Reading.{task_at, call_of, listen_of}
-use Rattle.task_table.specs.Effects.{noted, stored, with_devices, given_out, device_stored, device_taken}
-use Rattle.task_table.specs.Events.{fed}
-use Rattle.task_table.specs.Holds.{Holds, Kept, Shows as ShowsTurn, kept_of, memory_of}
-use Rattle.task_table.proofs.Steps.{kept_same}
+use Rattle.task_table.specs.model.State.{Setup, Own, Turn}
+use Rattle.task_table.specs.model.Reading.{task_at, call_of, listen_of}
+use Rattle.task_table.specs.model.Effects.{noted, stored, with_devices, given_out, device_stored, device_taken}
+use Rattle.task_table.specs.model.Events.{fed}
+use Rattle.task_table.specs.kept.Holds.{Holds, Kept, Shows as ShowsTurn, kept_of, memory_of}
+use Rattle.task_table.proofs.kept.Steps.{kept_same}
 use Rattle.board_model.specs.Turn.{put, took, is_device, or_zero}
 use Rattle.board_core.specs.declared.reach.Reach.{Reach}
 use Rattle.board_core.specs.Data.{Shows, data_of}

@@ -14,18 +14,18 @@ use Rattle.thumb_exec.specs.declared.cpu.Outcome.TheVariants as outcome
 use Rattle.kernel_abi.specs.Devices.{DeviceData, AreFresh, device_number}
 use Rattle.thumb_exec.specs.Effect.{Effect, Next, Syscall, Trap, Move, Puts, Takes, Moves, Acts, effect}
 use Rattle.task_table.specs.declared.kernel.Kernel.{Kernel}
-use Rattle.task_table.specs.State.{Setup, State, Turn}
-use Rattle.task_table.specs.Reading.{task_at, call_of, listen_of, is_ready, chosen}
-use Rattle.task_table.specs.Effects.{with_devices}
-use Rattle.task_table.proofs.Equipped.{sane-devices}
-use Rattle.task_table.proofs.Starts.{counted-start}
+use Rattle.task_table.specs.model.State.{Setup, State, Turn}
+use Rattle.task_table.specs.model.Reading.{task_at, call_of, listen_of, is_ready, chosen}
+use Rattle.task_table.specs.model.Effects.{with_devices}
+use Rattle.task_table.proofs.model.Equipped.{sane-devices}
+use Rattle.task_table.proofs.kept.Starts.{counted-start}
 use Rattle.kernel_abi.proofs.Devices.{fresh_sane}
-use Rattle.task_table.specs.Holds.{Holds, Stands, setup_of, current_of, memory_of, notes_of, kept_of, note_count}
-use Rattle.task_table.specs.Limits.{turn_notes}
+use Rattle.task_table.specs.kept.Holds.{Holds, Stands, setup_of, current_of, memory_of, notes_of, kept_of, note_count}
+use Rattle.task_table.specs.kept.Limits.{turn_notes}
 use Rattle.mem_banks.specs.Memory.{Memory, number_at}
-use Rattle.task_table.specs.Start.{begun, start}
-use Rattle.task_table.specs.Sane.{Sane, IsCounted}
-use Rattle.task_table.proofs.Steps.{holds_turn}
+use Rattle.task_table.specs.model.Start.{begun, start}
+use Rattle.task_table.specs.model.Sane.{Sane, IsCounted}
+use Rattle.task_table.proofs.kept.Steps.{holds_turn}
 use Rattle.board_core.specs.declared.reach.Reach.{Reach}
 use Rattle.board_model.specs.Turn.{refusals, is_device, or_zero, held, cpu_of, put, took, moved}
 use Rattle.board_core.specs.Machine.{ReachHolds, IsStored, IsTaken, shown_by}

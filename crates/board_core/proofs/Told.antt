@@ -3,16 +3,16 @@ use Rattle.std.proofs.Common.{◌≡◌, ◌≤◌, ◌∙◌, ℕ, false, List,
 use Rattle.kernel_abi.specs.Devices.{DeviceData}
 use Rattle.mem_banks.specs.Memory.{Memory, with_bytes}
 use Rattle.mem_banks.proofs.Copies.{with_bytes_ram}
-use Rattle.task_table.specs.State.{Setup, State, Turn, Call, Listen}
-use Rattle.task_table.specs.Reading.{task_at, call_of, listen_of, is_ready, chosen}
-use Rattle.task_table.specs.Effects.{with_task, without_call, without_listen, with_listen}
-use Rattle.task_table.specs.Setting.{with_slot, with_wait, with_open_call, call_told, listen_told}
+use Rattle.task_table.specs.model.State.{Setup, State, Turn, Call, Listen}
+use Rattle.task_table.specs.model.Reading.{task_at, call_of, listen_of, is_ready, chosen}
+use Rattle.task_table.specs.model.Effects.{with_task, without_call, without_listen, with_listen}
+use Rattle.task_table.specs.kept.Setting.{with_slot, with_wait, with_open_call, call_told, listen_told}
 use Rattle.task_table.specs.declared.Line.{Line}
 use Rattle.task_table.specs.declared.kernel.Kernel.{Kernel}
 use Rattle.task_table.specs.declared.slot.Slot.{Slot}
 use Rattle.task_table.specs.declared.slot.Wait.{Wait}
 use Rattle.task_table.specs.declared.slot.Wait.TheVariants as wait
-use Rattle.task_table.specs.Holds.{Holds as KernelHolds, memory_of}
+use Rattle.task_table.specs.kept.Holds.{Holds as KernelHolds, memory_of}
 use Rattle.board_model.specs.Script.{Scenario}
 use Rattle.board_core.specs.declared.board.Board.{Board}
 use Rattle.board_core.specs.declared.choice.Choice.{Choice}
@@ -20,7 +20,7 @@ use Rattle.board_core.specs.Kept.{IsChoice}
 use Rattle.board_core.specs.Machine.{ReachHolds}
 use Rattle.board_core.specs.Setting.{with_flash}
 use Rattle.std.specs.Prelude.{map, vec_items}
-use Rattle.board_core.specs.Ports.{AllPorts}
+use Rattle.board_core.specs.fast.Ports.{AllPorts}
 use Rattle.board_core.specs.Stands.{Holds}
 use Rattle.board_core.proofs.Loading.{unloaded_by}
 use Rattle.board_core.proofs.Turning.{rested, rested_as}

@@ -5,10 +5,10 @@ use Rattle.kernel_abi.specs.declared.Note.{Note}
 use Rattle.run_script.specs.Events.{script_data}
 use Rattle.run_script.specs.Scripts.{ScriptData, events_of}
 use Rattle.run_script.proofs.Each.{each_turn}
-use Rattle.task_table.specs.State.{Setup, State, Turn}
-use Rattle.task_table.specs.Reading.{chosen}
-use Rattle.task_table.specs.Holds.{notes_of, note_count}
-use Rattle.task_table.specs.Sane.{Sane}
+use Rattle.task_table.specs.model.State.{Setup, State, Turn}
+use Rattle.task_table.specs.model.Reading.{chosen}
+use Rattle.task_table.specs.kept.Holds.{notes_of, note_count}
+use Rattle.task_table.specs.model.Sane.{Sane}
 use Rattle.board_core.specs.declared.machine.Machine.{Machine}
 use Rattle.board_core.specs.declared.choice.Choice.{Choice}
 use Rattle.board_core.specs.declared.board.Board.{Board}
@@ -64,10 +64,10 @@ module _ {X : Type 0} {H : X → Type 0} (shown : Shows X H) (level : Level) (x 
   unfolding turn ended
   turn_notes h = noted_in shown x.setup m (turn_of level x.setup (chosen x.setup (after_events x s).state) (after_events x s)) h
 
-  -- where it noted nothing, the choice after the events is the one after the turn
-  pub choice_kept : (kept : Choice) → Sane x.setup s → HasTurned → IsChoice x.setup (after_events x s).state kept → notes_of m.reach.kernel ≡ [] → IsChoice x.setup (turn level x s).state kept
-  choice_kept kept sane h is none =
-      let same = quiet-turn level x s (sane-after_events x s sane) (sym (turn_notes h) ∙ none) in
+  -- where it noted nothing after its events, the choice after them is the one after the turn
+  pub choice_kept : (kept : Choice) → Sane x.setup s → HasTurned → IsChoice x.setup (after_events x s).state kept → length (notes_of m.reach.kernel) ≤ length (after_events x s).notes → IsChoice x.setup (turn level x s).state kept
+  choice_kept kept sane h is few =
+      let same = quiet-turn level x s (sane-after_events x s sane) (rw (sym (turn_notes h)) few) in
       record {
         next = is.next ∙ sym same.next;
         order = is.order;

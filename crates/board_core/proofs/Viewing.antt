@@ -3,11 +3,11 @@ use Rattle.std.proofs.Common.{◌≡◌, ◌≢◌, ◌⊎◌, inl, inr, ◌%◌
 use Rattle.std.specs.Option.{option_map}
 use Rattle.std.proofs.lemmas.Bool.{false≢true}
 use Rattle.thumb_exec.specs.declared.cpu.Cpu.{Cpu}
-use Rattle.task_table.specs.State.{Setup, Task, Turn}
-use Rattle.task_table.specs.Reading.{task_at}
-use Rattle.task_table.specs.Effects.{with_task, with_processor}
-use Rattle.task_table.specs.Holds.{Holds, current_of}
-use Rattle.task_table.proofs.Changes.{task_at-with_task, task_at-with_task_other, call_of-with_task, listen_of-with_task, length-with_task}
+use Rattle.task_table.specs.model.State.{Setup, Task, Turn}
+use Rattle.task_table.specs.model.Reading.{task_at}
+use Rattle.task_table.specs.model.Effects.{with_task, with_processor}
+use Rattle.task_table.specs.kept.Holds.{Holds, current_of}
+use Rattle.task_table.proofs.model.Changes.{task_at-with_task, task_at-with_task_other, call_of-with_task, listen_of-with_task, length-with_task}
 use Rattle.board_core.specs.declared.views.TaskView.{TaskView}
 use Rattle.board_core.specs.declared.reach.Reach.{Reach}
 use Rattle.board_core.specs.Views.{IsTask}

@@ -1,10 +1,10 @@
 -- What a board keeps of a state between turns.
 use Rattle.std.specs.Prelude.{◌≡◌}
-use Rattle.task_table.specs.State.{Setup, State}
-use Rattle.task_table.specs.Reading.{chosen, is_ready}
-use Rattle.task_table.specs.Order.{AreAtPlaces}
+use Rattle.task_table.specs.model.State.{Setup, State}
+use Rattle.task_table.specs.model.Reading.{chosen, is_ready}
+use Rattle.task_table.specs.kept.Order.{AreAtPlaces}
 use Rattle.task_table.specs.declared.order.Order.{Order}
-use Rattle.task_table.specs.Sane.{Sane}
+use Rattle.task_table.specs.model.Sane.{Sane}
 use Rattle.board_core.specs.declared.choice.Choice.{Choice}
 use Rattle.board_model.specs.Run.{is_down}
 

@@ -5,13 +5,14 @@ use Rattle.mem_banks.specs.Memory.{number_at}
 use Rattle.region_check.specs.declared.Right.{Right}
 use Rattle.thumb_exec.specs.declared.cpu.Cpu.{Cpu}
 use Rattle.task_table.specs.declared.kernel.Kernel.{Kernel}
-use Rattle.task_table.specs.State.{Setup, State, Turn}
-use Rattle.task_table.specs.Reading.{is_ready, chosen}
-use Rattle.task_table.specs.Effects.{with_processor, device_stored}
-use Rattle.task_table.specs.Start.{start, begun}
-use Rattle.task_table.specs.Sane.{Sane}
-use Rattle.task_table.specs.Holds.{Holds, Stands, setup_of, current_of, task_count, note_count, memory_of}
-use Rattle.task_table.specs.Limits.{turn_notes}
+use Rattle.task_table.specs.model.State.{Setup, State, Turn}
+use Rattle.task_table.specs.model.Reading.{is_ready, chosen}
+use Rattle.task_table.specs.model.Effects.{with_processor, device_stored}
+use Rattle.task_table.specs.model.Start.{start, begun}
+use Rattle.task_table.specs.model.Sane.{Sane}
+use Rattle.task_table.specs.model.Syscalls.{Meaning}
+use Rattle.task_table.specs.kept.Holds.{Holds, Stands, setup_of, current_of, task_count, note_count, memory_of}
+use Rattle.task_table.specs.kept.Limits.{syscall_notes, turn_notes}
 use Rattle.board_core.specs.declared.machine.Machine.{Machine}
 use Rattle.board_core.specs.declared.reach.Reach.{Reach}
 use Rattle.board_model.specs.Turn.{put, took, is_device, or_zero, refusals, with_current}
@@ -107,3 +108,20 @@ HasNumber s = s.next_call + 1 < 2 ^ 32
 -- the kernel stands for the start of a run
 pub record IsStarted (g : Setup) (k : Kernel) : Type 0 where
   pub stands : Stands g k (begun (start g))
+
+-- ## what the current task does, whose context is loaded
+
+-- it may act: a further call has a number, and the turn has room for n notes
+pub record MayAct {X : Type 0} {H : X → Type 0} (shown : Shows X H) (m : Machine X H) (n : ℕ) : Type 0 where
+  pub ready : (g : Setup) × (t : Turn) × IsReady shown g m t × HasNumber t.state
+  pub room : note_count m.reach.kernel + n ≤ turn_notes
+
+-- it did so, and noted n things or fewer
+pub record HasActed {X : Type 0} {H : X → Type 0} (shown : Shows X H) (does : Meaning) (n : ℕ) (old new : Machine X H) : Type 0 where
+  pub holds : (g : Setup) (t : Turn) → IsReady shown g old t → MachineHolds shown g new (does g t.state.current t)
+  pub count : note_count new.reach.kernel ≤ note_count old.reach.kernel + n
+
+-- the task that is chosen, where there is one, may have its turn
+pub record MayTurn {X : Type 0} {H : X → Type 0} (shown : Shows X H) (m : Machine X H) (choice : Option ℕ) : Type 0 where
+  pub next : (g : Setup) × (t : Turn) × IsNext shown g m t choice × HasNumber t.state
+  pub room : note_count m.reach.kernel + (syscall_notes + 4) ≤ turn_notes

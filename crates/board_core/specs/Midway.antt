@@ -1,9 +1,9 @@
 -- A turn between its events and what the chosen task does.
 use Rattle.std.specs.Prelude.{◌+◌, ◌≡◌, map, vec_items}
-use Rattle.task_table.specs.State.{State}
-use Rattle.task_table.specs.Start.{begun}
-use Rattle.task_table.specs.Sane.{IsCounted}
-use Rattle.task_table.specs.Holds.{note_count}
+use Rattle.task_table.specs.model.State.{State}
+use Rattle.task_table.specs.model.Start.{begun}
+use Rattle.task_table.specs.model.Sane.{IsCounted}
+use Rattle.task_table.specs.kept.Holds.{note_count}
 use Rattle.run_script.specs.Events.{script_data}
 use Rattle.run_script.specs.Scripts.{IsNext}
 use Rattle.board_core.specs.declared.board.Board.{Board}
@@ -11,7 +11,7 @@ use Rattle.board_model.specs.Script.{Scenario}
 use Rattle.board_model.specs.Turn.{after_events}
 use Rattle.board_core.specs.Kept.{IsChoice, WasChoice}
 use Rattle.board_core.specs.Machine.{MachineStands}
-use Rattle.board_core.specs.Ports.{AllPorts}
+use Rattle.board_core.specs.fast.Ports.{AllPorts}
 use Rattle.board_core.specs.Data.{Shows}
 
 -- the board before the events of the turn: nothing is noted as yet

@@ -2,8 +2,8 @@
 use Rattle.std.specs.Prelude.{List, map}
 use Rattle.kernel_abi.specs.Devices.{DeviceData}
 use Rattle.image_format.specs.Picture.{Picture, TaskPicture, LinePicture}
-use Rattle.task_table.specs.Limits.{board_lines}
-use Rattle.task_table.specs.State.{Setup, TaskSetup, LineSetup}
+use Rattle.task_table.specs.kept.Limits.{board_lines}
+use Rattle.task_table.specs.model.State.{Setup, TaskSetup, LineSetup}
 use Rattle.run_script.specs.Scripts.{ScriptData}
 use Rattle.board_model.specs.Script.{Scenario}
 

@@ -1,9 +1,9 @@
 -- Which states a board stands for, in which run.
 use Rattle.std.specs.Prelude.{ℕ, ◌≡◌, List, [], map, vec_items}
 use Rattle.kernel_abi.specs.declared.Note.{Note}
-use Rattle.task_table.specs.State.{State}
-use Rattle.task_table.specs.Sane.{Sane, IsCounted}
-use Rattle.task_table.specs.Holds.{notes_of as kernel_notes, task_count}
+use Rattle.task_table.specs.model.State.{State}
+use Rattle.task_table.specs.model.Sane.{Sane, IsCounted}
+use Rattle.task_table.specs.kept.Holds.{notes_of as kernel_notes, task_count}
 use Rattle.run_script.specs.Events.{script_data}
 use Rattle.run_script.specs.declared.script.Script.{Script}
 use Rattle.run_script.specs.Scripts.{IsNext}
@@ -11,7 +11,7 @@ use Rattle.board_core.specs.declared.board.Board.{Board}
 use Rattle.board_model.specs.Script.{Scenario}
 use Rattle.board_core.specs.Kept.{IsChoice}
 use Rattle.board_core.specs.Machine.{MachineHolds}
-use Rattle.board_core.specs.Ports.{AllPorts}
+use Rattle.board_core.specs.fast.Ports.{AllPorts}
 use Rattle.board_core.specs.Data.{Shows}
 
 -- what is shown of a board whatever it stands for: the notes of its last turn, how many turns it

@@ -1,9 +1,9 @@
 -- What is shown of a state.
 use Rattle.std.specs.Prelude.{ℕ, ◌≡◌, ◌%◌, ◌<◌, ◌≤◌, length, Option, Some, None}
 use Rattle.std.specs.Option.{option_map}
-use Rattle.task_table.specs.State.{State}
-use Rattle.task_table.specs.Reading.{task_at, call_of, listen_of}
-use Rattle.task_table.specs.Holds.{wait_of}
+use Rattle.task_table.specs.model.State.{State}
+use Rattle.task_table.specs.model.Reading.{task_at, call_of, listen_of}
+use Rattle.task_table.specs.kept.Holds.{wait_of}
 use Rattle.board_core.specs.declared.views.TaskView.{TaskView}
 
 -- a view has the parts of the task; there is none past the last task

@@ -1,11 +1,11 @@
 //! The board and one turn of it.
-ghost use Rattle.std.specs.Prelude.{ℕ, ◌≡◌, ◌≢◌, ◌<◌, ◌≤◌, ◌+◌, ◌-◌, ◌*◌, ◌&&◌, not, [], Option, Some, None, is_some, length, map, true, false, IfOk};
+ghost use Rattle.std.specs.Prelude.{ℕ, ◌≡◌, ◌≢◌, ◌<◌, ◌≤◌, ◌+◌, ◌-◌, ◌*◌, ◌&&◌, [], Option, Some, None, is_some, length, map, true, false, IfOk};
 ghost use Rattle.image_format.specs.Images.{picture};
 ghost use Rattle.kernel_abi.specs.Devices.{AreFresh};
 ghost use Rattle.mem_banks.specs.Memory.{byte_at};
-ghost use Rattle.task_table.specs.State.{Setup, State, Turn};
-ghost use Rattle.task_table.specs.Reading.{chosen};
-ghost use Rattle.task_table.specs.Limits.{syscall_notes, turn_notes};
+ghost use Rattle.task_table.specs.model.State.{Setup, State, Turn};
+ghost use Rattle.task_table.specs.model.Reading.{chosen};
+ghost use Rattle.task_table.specs.kept.Limits.{syscall_notes, turn_notes};
 ghost use Rattle.run_script.specs.Events.{script_data};
 ghost use Rattle.run_script.specs.Scripts.{lasts};
 ghost use Rattle.board_model.specs.declared.outcomes.Level.TheVariants.{All, Calls};
@@ -21,16 +21,16 @@ ghost use Rattle.board_core.specs.Opened.{scenario_of};
 ghost use Rattle.board_core.specs.Stands.{Stands, Stood, notes_of, turns_of};
 ghost use Rattle.board_core.specs.Machine.{MachineHolds, MachineStands};
 ghost use Rattle.board_core.specs.Kept.{IsChoice, WasChoice};
-ghost use Rattle.board_core.specs.Advanced.{IsAdvanced, IsStopped, HasGlidden, WentFar, WentFarOn, IsCall, IsToCall, NeededTurn, WaitedFor};
-ghost use Rattle.board_core.specs.Breakpoints.{is_hit, hit_of};
+ghost use Rattle.board_core.specs.fast.Advanced.{IsAdvanced, IsStopped, HasMade, WentFar, IsCall, IsToCall, MayGoFast, MayGoFastBy, WentFast, WentFastBy, NeededTurn, WaitedFor};
+ghost use Rattle.board_core.specs.fast.Breakpoints.{is_hit, hit_of};
 ghost use Rattle.board_core.specs.Changes.{change_in};
-ghost use Rattle.board_core.specs.Stops.{Stops, stops_at};
-ghost use Rattle.board_core.specs.Skipped.{IsIdleUntil};
+ghost use Rattle.board_core.specs.fast.Stops.{Stops, stops_at};
+ghost use Rattle.board_core.specs.fast.Skipped.{IsIdleUntil};
 ghost use Rattle.board_core.specs.Midway.{IsDue, IsMidway};
 
-use crate::breakpoints::hit_of;
 use crate::changes::{Change, change_by, runner_of};
 use crate::choice::{Choice, choice_of, renew_choice};
+use crate::fast_way::breakpoints::hit_of;
 use crate::list::Devices;
 use crate::machine::Machine;
 use crate::opening::{kernel, ports};
@@ -51,6 +51,9 @@ pub struct Board {
     pub(crate) choice: Choice,
     pub(crate) script: Script,
     pub(crate) due: Option<u32>,
+
+    /// Most often where the first listed event from that turn on stands; it is tried, and a wrong one costs a search.
+    pub(crate) first_listed: usize,
 
     /// The regions of devices that each task may read.
     pub(crate) ports: Vec<Vec<Region>>,
@@ -85,6 +88,7 @@ impl Board {
             choice,
             script,
             due,
+            first_listed: 0,
             ports,
         })
     }
@@ -145,8 +149,9 @@ impl Board {
     {
         self.begin();
         self.turns += 1;
+        let noted = self.notes().len();
         let turned = self.machine.turn(level, self.choice.next);
-        self.renew();
+        self.renew(noted);
         turned
     }
 
@@ -269,12 +274,8 @@ impl Board {
     /// goes there; or all idle ones, where no task is ready.
     #[inline(always)]
     fn glide(&mut self, breakpoints: &[u32], watched: Option<u32>, until: u32) -> Option<usize>
-        requires stood { Stood shown self.old }
-        requires few { until ≤ 1000000000 }
-        requires later { (turn : ℕ) → turn < until → self.old.due ≢ Some turn }
-        ensures glided { (x : Scenario) (s : State) → Stands shown x self.old s → HasGlidden shown (stops_at breakpoints.now watched) x s (turns_of self.new - turns_of self.old) self.new }
-        ensures more { turns_of self.old ≤ turns_of self.new }
-        ensures within { turns_of self.old ≤ until → turns_of self.new ≤ until }
+        requires { MayGoFast shown self.old until }
+        ensures fast { WentFast shown (stops_at breakpoints.now watched) until self.old self.new }
         ensures stays { until ≤ turns_of self.old → self.new ≡ self.old }
 
         // It stops before only where the next instruction is a system call, faults, is at a breakpoint or reaches beyond the window, or
@@ -311,18 +312,8 @@ impl Board {
         task: usize,
         until: u32,
     ) -> bool
-        requires stood { Stood shown self.old }
-        requires next { self.old.choice.next ≡ Some task }
-        requires up { self.old.choice.down ≡ false }
-        requires left { turns_of self.old < until }
-        requires few { until ≤ 1000000000 }
-        requires later { (turn : ℕ) → turn < until → self.old.due ≢ Some turn }
-        ensures glided { (x : Scenario) (s : State) → Stands shown x self.old s → HasGlidden shown (stops_at breakpoints.now watched) x s (turns_of self.new - turns_of self.old) self.new }
-        ensures more { turns_of self.old ≤ turns_of self.new }
-        ensures within { turns_of self.new ≤ until }
-        ensures far { WentFarOn shown (stops_at breakpoints.now watched) task until self.old self.new result }
-        ensures calls { result ≡ true → IsToCall shown (stops_at breakpoints.now watched) task self.old self.new }
-        ensures before { result ≡ true → turns_of self.new < until }
+        requires { MayGoFastBy shown self.old (Some task) until }
+        ensures { WentFastBy shown (stops_at breakpoints.now watched) task until self.old self.new result }
     {
         if !self.ports[task].is_empty() {
             return self.poll_on(breakpoints, watched, task, until);
@@ -345,18 +336,8 @@ impl Board {
         task: usize,
         until: u32,
     ) -> bool
-        requires stood { Stood shown self.old }
-        requires next { self.old.choice.next ≡ Some task }
-        requires up { self.old.choice.down ≡ false }
-        requires left { turns_of self.old < until }
-        requires few { until ≤ 1000000000 }
-        requires later { (turn : ℕ) → turn < until → self.old.due ≢ Some turn }
-        ensures glided { (x : Scenario) (s : State) → Stands shown x self.old s → HasGlidden shown (stops_at breakpoints.now watched) x s (turns_of self.new - turns_of self.old) self.new }
-        ensures more { turns_of self.old ≤ turns_of self.new }
-        ensures within { turns_of self.new ≤ until }
-        ensures far { WentFarOn shown (stops_at breakpoints.now watched) task until self.old self.new result }
-        ensures calls { result ≡ true → IsToCall shown (stops_at breakpoints.now watched) task self.old self.new }
-        ensures before { result ≡ true → turns_of self.new < until }
+        requires { MayGoFastBy shown self.old (Some task) until }
+        ensures { WentFastBy shown (stops_at breakpoints.now watched) task until self.old self.new result }
     {
         self.machine.begin();
         let ports = &mut self.ports[task];
@@ -372,28 +353,20 @@ impl Board {
     fn call(&mut self, task: usize)
         requires few { turns_of self.old < 1000000000 }
         requires stood { (x : Scenario) × (s : State) × Stands shown x self.old s × IsCall x s task }
-        ensures model { (x : Scenario) (s : State) → Stands shown x self.old s → IsCall x s task → Stands shown x self.new (turn Calls x s).state }
-        ensures notes { (x : Scenario) (s : State) → Stands shown x self.old s → IsCall x s task → notes_of self.new ≡ (turn Calls x s).notes }
+        ensures made { (x : Scenario) (s : State) → Stands shown x self.old s → IsCall x s task → HasMade shown Calls x s self.new }
         ensures few { length (notes_of self.new) ≤ turn_notes }
         ensures turns { turns_of self.new ≡ turns_of self.old + 1 }
     {
         self.machine.begin();
         self.turns += 1;
         self.machine.call(task);
-        self.renew();
+        self.renew(0);
     }
 
     /// The same, where no task is ready.
     fn idle_on(&mut self, until: u32)
-        requires stood { Stood shown self.old }
-        requires none { self.old.choice.next ≡ None }
-        requires up { self.old.choice.down ≡ false }
-        requires left { turns_of self.old < until }
-        requires few { until ≤ 1000000000 }
-        requires later { (turn : ℕ) → turn < until → self.old.due ≢ Some turn }
-        ensures glided { (stops : Stops) (x : Scenario) (s : State) → Stands shown x self.old s → HasGlidden shown stops x s (turns_of self.new - turns_of self.old) self.new }
-        ensures more { turns_of self.old ≤ turns_of self.new }
-        ensures within { turns_of self.new ≤ until }
+        requires { MayGoFastBy shown self.old None until }
+        ensures fast { (stops : Stops) → WentFast shown stops until self.old self.new }
         ensures idle { (x : Scenario) (s : State) → Stands shown x self.old s → lasts x.script until ≡ true → until ≤ turns_of self.new }
     {
         if self.script.lasts(until) {
@@ -441,27 +414,29 @@ impl Board {
         ensures few { length (notes_of self.new) ≤ 9 * syscall_notes }
         ensures turns { turns_of self.new ≡ turns_of self.old }
     {
-        self.machine.happen_all(&self.script, self.turns);
+        let first = self.script.first_listed(self.first_listed, self.turns);
+        self.machine.happen_all(&self.script, first, self.turns);
         self.machine.save_context();
         renew_choice(&self.machine.reach.kernel, &mut self.choice);
-        self.due = self.script.next(self.turns + 1);
+        self.first_listed = self.script.first_listed_after(first, self.turns);
+        self.due = self.script.next_from(self.first_listed, self.turns + 1);
     }
 
-    /// What is known of the choice is brought up to date where the last turn noted something: a turn that
-    /// notes nothing leaves each task as ready as it was.
+    /// What is known of the choice is brought up to date where the last turn noted something behind its first `noted` notes, those
+    /// of its events: a turn that notes nothing after them leaves each task as ready as it was.
     #[inline(always)]
-    fn renew(&mut self)
+    fn renew(&mut self, noted: usize)
         requires { (g : Setup) × (t : Turn) × MachineStands shown g self.old.machine t }
         ensures holds { (g : Setup) (t : Turn) → MachineHolds shown g self.old.machine t → MachineHolds shown g self.new.machine t }
-        ensures choice { (g : Setup) (t : Turn) → MachineStands shown g self.old.machine t → WasChoice g self.old.choice → (t.notes ≡ [] → IsChoice g t.state self.old.choice) → IsChoice g t.state self.new.choice }
+        ensures choice { (g : Setup) (t : Turn) → MachineStands shown g self.old.machine t → WasChoice g self.old.choice → (length t.notes ≤ noted → IsChoice g t.state self.old.choice) → IsChoice g t.state self.new.choice }
         ensures count { length (notes_of self.new) ≡ length (notes_of self.old) }
         ensures turns { turns_of self.new ≡ turns_of self.old }
         ensures script { self.new.script ≡ self.old.script }
         ensures ports { self.new.ports ≡ self.old.ports }
         ensures due { self.new.due ≡ self.old.due }
-        ensures kept { notes_of self.new ≡ [] → self.new.choice ≡ self.old.choice }
+        ensures kept { length (notes_of self.new) ≤ noted → self.new.choice ≡ self.old.choice }
     {
-        if !self.notes().is_empty() {
+        if self.notes().len() > noted {
             self.machine.save_context();
             renew_choice(&self.machine.reach.kernel, &mut self.choice);
         }

@@ -1,9 +1,9 @@
 //! What is kept of a state between turns, since most turns leave it.
 ghost use Rattle.std.specs.Prelude.{◌≡◌, ◌<◌, ℕ, true, Some};
-ghost use Rattle.task_table.specs.State.{Setup, Turn};
-ghost use Rattle.task_table.specs.Reading.{is_faulted, task_at};
-ghost use Rattle.task_table.specs.Holds.{Holds, task_count};
-ghost use Rattle.task_table.specs.TaskSets.{has};
+ghost use Rattle.task_table.specs.model.State.{Setup, Turn};
+ghost use Rattle.task_table.specs.model.Reading.{is_faulted, task_at};
+ghost use Rattle.task_table.specs.kept.Holds.{Holds, task_count};
+ghost use Rattle.task_table.specs.kept.TaskSets.{has};
 ghost use Rattle.board_core.specs.Kept.{IsChoice, WasChoice};
 
 use dispatch::choose;

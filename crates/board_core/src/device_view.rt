@@ -2,7 +2,7 @@
 ghost use Rattle.std.specs.Prelude.{◌≡◌, ◌<◌, length, slice_get, take};
 ghost use Rattle.std.specs.Option.{option_map};
 ghost use Rattle.kernel_abi.specs.Devices.{device_at};
-ghost use Rattle.task_table.specs.State.{State};
+ghost use Rattle.task_table.specs.model.State.{State};
 ghost use Rattle.board_model.specs.Script.{Scenario};
 ghost use Rattle.board_core.specs.Data.{data_of};
 ghost use Rattle.board_core.specs.DeviceViews.{device_told};

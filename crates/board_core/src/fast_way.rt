@@ -1,14 +1,18 @@
 //! Instructions on end of the task that is chosen, the fast way.
 ghost use Rattle.std.specs.Prelude.{◌≡◌, ◌≤◌, ◌<◌, [], length, true, false};
-ghost use Rattle.task_table.specs.State.{Setup, Turn};
-ghost use Rattle.task_table.specs.Reading.{is_ready};
-ghost use Rattle.task_table.specs.Holds.{task_count, note_count};
+ghost use Rattle.task_table.specs.model.State.{Setup, Turn};
+ghost use Rattle.task_table.specs.model.Reading.{is_ready};
+ghost use Rattle.task_table.specs.kept.Holds.{task_count, note_count};
 ghost use Rattle.board_core.specs.Machine.{MachineHolds, HasContext};
-ghost use Rattle.board_core.specs.Gliding.{GlidesFrom};
-ghost use Rattle.board_core.specs.Stops.{stops_at};
+ghost use Rattle.board_core.specs.fast.Gliding.{GlidesFrom};
+ghost use Rattle.board_core.specs.fast.Stops.{stops_at};
 
-use crate::breakpoints::stretch_of;
-use crate::glider::aim_window;
+pub mod breakpoints;
+pub mod glider;
+pub mod poller;
+
+use crate::fast_way::breakpoints::stretch_of;
+use crate::fast_way::glider::aim_window;
 use crate::machine::{Machine, load};
 use region_check::Region;
 use std::mem::swap;
@@ -68,16 +72,25 @@ impl Machine {
         self.take_context(task);
         let pc = self.glider.runner.processor.regs.get(PROGRAM_COUNTER);
         let sp = self.glider.runner.processor.regs.get(STACK_POINTER);
-        let Some((flash, ram, area)) = self.reach.window(task, pc, sp, watched) else {
+        let Some(regions) = self.reach.window(task, pc, sp, watched) else {
             return none_made();
         };
-        let code = stretch_of(breakpoints, &flash, pc);
-        self.glider.aim(&flash, code, &ram, &area, most);
-        if !self
-            .reach
-            .kernel
-            .open_window(&flash, &ram, &area, &mut self.glider)
-        {
+        let code = stretch_of(breakpoints, &regions.flash, pc);
+        self.glider.aim(
+            &regions.flash,
+            code,
+            &regions.ram,
+            &regions.area,
+            &regions.second,
+            most,
+        );
+        if !self.reach.kernel.open_window(
+            &regions.flash,
+            &regions.ram,
+            &regions.area,
+            &regions.second,
+            &mut self.glider,
+        ) {
             return none_made();
         }
         let made = self.glider.made;
@@ -114,19 +127,29 @@ impl Machine {
         self.take_context(task);
         let pc = self.glider.runner.processor.regs.get(PROGRAM_COUNTER);
         let sp = self.glider.runner.processor.regs.get(STACK_POINTER);
-        let Some((flash, ram, area)) = self.reach.window(task, pc, sp, watched) else {
+        let Some(regions) = self.reach.window(task, pc, sp, watched) else {
             return none_made();
         };
-        let code = stretch_of(breakpoints, &flash, pc);
-        aim_window(&mut self.poller.seen.window, &flash, code, &ram, &area);
+        let code = stretch_of(breakpoints, &regions.flash, pc);
+        aim_window(
+            &mut self.poller.seen.window,
+            &regions.flash,
+            code,
+            &regions.ram,
+            &regions.area,
+            &regions.second,
+        );
         self.poller.most = most;
         self.poller.processor = self.glider.runner.processor;
         swap(&mut self.poller.seen.devices, &mut self.reach.devices);
         swap(&mut self.poller.seen.ports, ports);
-        let opened = self
-            .reach
-            .kernel
-            .open_window(&flash, &ram, &area, &mut self.poller);
+        let opened = self.reach.kernel.open_window(
+            &regions.flash,
+            &regions.ram,
+            &regions.area,
+            &regions.second,
+            &mut self.poller,
+        );
         swap(&mut self.poller.seen.ports, ports);
         swap(&mut self.poller.seen.devices, &mut self.reach.devices);
         if !opened {

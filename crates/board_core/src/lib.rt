@@ -2,17 +2,14 @@
 #![tactic(auto)]
 
 mod board;
-mod breakpoints;
 mod changes;
 mod choice;
 mod device_view;
 mod fast_way;
-mod glider;
 mod list;
 mod loners;
 mod machine;
 mod opening;
-mod poller;
 mod reach;
 mod setting;
 mod setting_laws;

@@ -1,6 +1,6 @@
 //! The boxes of devices that a board was handed.
-ghost use Rattle.std.specs.Prelude.{◌≡◌, ◌≢◌, ◌<◌, ◌≤◌, ◌+◌, ◌-◌, ◌*◌, ◌%◌, ◌^◌, ◌⊎◌, [], true, false, length, map, slice_get, None, MatchOption};
-ghost use Rattle.kernel_abi.specs.Devices.{DeviceData, looked, after_load, after_store, given_out, after_input, fed_by, IsSettable, is_behind, behind, device_at, offset_in, with_device, device_number, devices_loaded, devices_stored, device_out, devices_fed, feed_answer};
+ghost use Rattle.std.specs.Prelude.{◌≡◌, ◌≢◌, ◌<◌, ◌+◌, ◌-◌, ◌*◌, ◌%◌, ◌^◌, ◌⊎◌, [], true, false, length, map, slice_get, None, MatchOption};
+ghost use Rattle.kernel_abi.specs.Devices.{looked, after_load, after_store, given_out, after_input, fed_by, IsSettable, is_behind, behind, device_at, with_device, device_number, devices_loaded, devices_stored, device_out, devices_fed, feed_answer};
 ghost use Rattle.board_core.specs.Data.{data_of, IsPlace, IsOffset};
 
 use devices::Device;

@@ -1,24 +1,24 @@
 //! The kernel as the bus of its current task, and one instruction of that task.
-ghost use Rattle.std.specs.Prelude.{◌≡◌, ◌≢◌, ◌⊎◌, ◌&&◌, ◌+◌, ◌*◌, ◌≤◌, ◌<◌, ◌^◌, ◌/◌, [], length, Option, Some, true, false, fold, take, drop, slice_get, None};
+ghost use Rattle.std.specs.Prelude.{◌≡◌, ◌≢◌, ◌⊎◌, ◌+◌, ◌*◌, ◌≤◌, ◌<◌, ◌^◌, Option, Some, true, false, fold, take, drop, slice_get, None};
 ghost use Rattle.run_script.specs.Events.{script_data};
-ghost use Rattle.run_script.specs.Scripts.{events_of};
-ghost use Rattle.task_table.specs.State.{Setup, Turn};
-ghost use Rattle.task_table.specs.Reading.{is_ready, task_at, setup_at};
-ghost use Rattle.task_table.specs.Start.{begun};
-ghost use Rattle.task_table.specs.Effects.{faulted};
-ghost use Rattle.task_table.specs.Rows.{syscall_noted};
-ghost use Rattle.task_table.specs.Syscalls.{syscall_made};
-ghost use Rattle.task_table.specs.Holds.{Holds, task_count, note_count, current_of, setup_of};
-ghost use Rattle.task_table.specs.Limits.{syscall_notes, turn_notes};
-ghost use Rattle.task_table.specs.Frames.{AddsNotes};
+ghost use Rattle.run_script.specs.Scripts.{IsFirstListed, events_of};
+ghost use Rattle.task_table.specs.model.State.{Setup, Turn};
+ghost use Rattle.task_table.specs.model.Reading.{is_ready, task_at};
+ghost use Rattle.task_table.specs.model.Start.{begun};
+ghost use Rattle.task_table.specs.model.Effects.{faulted};
+ghost use Rattle.task_table.specs.model.Rows.{syscall_noted};
+ghost use Rattle.task_table.specs.model.Syscalls.{syscall_made};
+ghost use Rattle.task_table.specs.kept.Holds.{Holds, task_count, note_count, current_of};
+ghost use Rattle.task_table.specs.kept.Limits.{syscall_notes, turn_notes};
+ghost use Rattle.task_table.specs.kept.Frames.{AddsNotes};
 ghost use Rattle.thumb_insn.specs.Range.{IsCoded};
 ghost use Rattle.board_model.specs.Turn.{with_current, noted_at, happened, stepped, executed, cpu_of, with_registers_noted, turn_of, turned_of, happened_next};
-ghost use Rattle.board_core.specs.Machine.{IsReady, IsNext, HasNumber, ReachHolds, MachineHolds, MachineStands, IsLoaded};
-ghost use Rattle.board_core.specs.Windowed.{IsCalling};
+ghost use Rattle.board_core.specs.Machine.{IsReady, IsNext, ReachHolds, MachineHolds, MachineStands, IsLoaded, MayAct, HasActed, MayTurn};
+ghost use Rattle.board_core.specs.fast.Windowed.{IsCalling};
 
-use crate::glider::Glider;
+use crate::fast_way::glider::Glider;
+use crate::fast_way::poller::Poller;
 use crate::list::Devices;
-use crate::poller::Poller;
 use crate::reach::Reach;
 use crate::syscalls::syscall;
 use board_model::{Level, Turned};
@@ -148,14 +148,15 @@ impl Machine {
     }
 
     /// The k-th event of a turn happens; where there is none, the answer is false.
-    fn happen_at(&mut self, script: &Script, turn: u32, k: u32) -> bool
+    fn happen_at(&mut self, script: &Script, first: usize, turn: u32, k: u32) -> bool
+        requires first { IsFirstListed (script_data script.now) turn first }
         requires stands { (g : Setup) × (t : Turn) × MachineStands shown g self.old t × (t.state.now + 1 < 2 ^ 64) }
         requires room { note_count self.old.reach.kernel + syscall_notes ≤ turn_notes }
         ensures stands { (g : Setup) (t : Turn) → MachineStands shown g self.old t → MachineStands shown g self.new (happened_next g (slice_get (events_of (script_data script.now) turn) k) t) }
         ensures count { note_count self.new.reach.kernel ≤ note_count self.old.reach.kernel + syscall_notes }
         ensures over { result ≡ false → slice_get (events_of (script_data script.now) turn) k ≡ None }
     {
-        match script.event_at(turn, k) {
+        match script.event_from(first, turn, k) {
             None => false,
             Some(event) => {
                 self.happen(event);
@@ -165,7 +166,8 @@ impl Machine {
     }
 
     /// What happens from outside in a turn, in the order of the script.
-    pub fn happen_all(&mut self, script: &Script, turn: u32)
+    pub fn happen_all(&mut self, script: &Script, first: usize, turn: u32)
+        requires first { IsFirstListed (script_data script.now) turn first }
         requires stands { (g : Setup) × (t : Turn) × MachineStands shown g self.old t × (t.state.now + 9 < 2 ^ 64) }
         requires room { note_count self.old.reach.kernel ≡ 0 }
         ensures stands { (g : Setup) (t : Turn) → MachineStands shown g self.old t → MachineStands shown g self.new (fold (happened g) t (events_of (script_data script.now) turn)) }
@@ -173,7 +175,7 @@ impl Machine {
     {
         script.facts();
         for k in 0..9 {
-            if !self.happen_at(script, turn, k) {
+            if !self.happen_at(script, first, turn, k) {
                 return;
             }
         }
@@ -266,10 +268,8 @@ impl Machine {
     /// One instruction of the current task, with its effect on the task and on memory.
     fn execute(&mut self, insn: &Insn)
         requires coded { IsCoded insn.now }
-        requires ready { (g : Setup) × (t : Turn) × IsReady shown g self.old t × HasNumber t.state }
-        requires room { note_count self.old.reach.kernel + syscall_notes + 1 ≤ turn_notes }
-        ensures holds { (g : Setup) (t : Turn) → IsReady shown g self.old t → MachineHolds shown g self.new (executed g t.state.current insn.now t) }
-        ensures count { note_count self.new.reach.kernel ≤ note_count self.old.reach.kernel + syscall_notes + 1 }
+        requires may_act { MayAct shown self.old (syscall_notes + 1) }
+        ensures { HasActed shown (λ g i. executed g i insn.now) (syscall_notes + 1) self.old self.new }
     {
         match insn {
             Insn::Svc { .. } => self.syscall(),
@@ -280,10 +280,8 @@ impl Machine {
     /// The same of an instruction that is no call.
     fn execute_own(&mut self, insn: &Insn)
         requires coded { IsCoded insn.now }
-        requires ready { (g : Setup) × (t : Turn) × IsReady shown g self.old t × HasNumber t.state }
-        requires room { note_count self.old.reach.kernel + syscall_notes + 1 ≤ turn_notes }
-        ensures holds { (g : Setup) (t : Turn) → IsReady shown g self.old t → MachineHolds shown g self.new (executed g t.state.current insn.now t) }
-        ensures count { note_count self.new.reach.kernel ≤ note_count self.old.reach.kernel + syscall_notes + 1 }
+        requires may_act { MayAct shown self.old (syscall_notes + 1) }
+        ensures { HasActed shown (λ g i. executed g i insn.now) (syscall_notes + 1) self.old self.new }
     {
         match exec(&mut self.glider.runner.processor, insn, &mut self.reach) {
             Outcome::Next => {}
@@ -294,10 +292,8 @@ impl Machine {
 
     /// The current task makes a system call.
     fn syscall(&mut self)
-        requires ready { (g : Setup) × (t : Turn) × IsReady shown g self.old t × HasNumber t.state }
-        requires room { note_count self.old.reach.kernel + syscall_notes + 1 ≤ turn_notes }
-        ensures holds { (g : Setup) (t : Turn) → IsReady shown g self.old t → MachineHolds shown g self.new (syscall_made g t.state.current (syscall_noted t.state.current t)) }
-        ensures count { note_count self.new.reach.kernel ≤ note_count self.old.reach.kernel + syscall_notes + 1 }
+        requires { MayAct shown self.old (syscall_notes + 1) }
+        ensures { HasActed shown (λ g i t. syscall_made g i (syscall_noted i t)) (syscall_notes + 1) self.old self.new }
     {
         self.save_context();
         let task = self.reach.kernel.current();
@@ -310,8 +306,7 @@ impl Machine {
         requires from_one { 1 ≤ fault.number }
         requires to_ten { fault.number ≤ 10 }
         requires room { note_count self.old.reach.kernel + 4 ≤ turn_notes }
-        ensures holds { (g : Setup) (t : Turn) → IsReady shown g self.old t → MachineHolds shown g self.new (faulted g t.state.current fault t) }
-        ensures count { note_count self.new.reach.kernel ≤ note_count self.old.reach.kernel + 4 }
+        ensures { HasActed shown (λ g i. faulted g i fault) 4 self.old self.new }
     {
         self.save_context();
         let task = self.reach.kernel.current();
@@ -321,10 +316,8 @@ impl Machine {
     /// One instruction of the current task: fetched, decoded, carried out.
     #[inline(never)]
     pub fn step(&mut self, level: Level)
-        requires ready { (g : Setup) × (t : Turn) × IsReady shown g self.old t × HasNumber t.state }
-        requires room { note_count self.old.reach.kernel + syscall_notes + 2 ≤ turn_notes }
-        ensures holds { (g : Setup) (t : Turn) → IsReady shown g self.old t → MachineHolds shown g self.new (stepped level g t.state.current t) }
-        ensures count { note_count self.new.reach.kernel ≤ note_count self.old.reach.kernel + syscall_notes + 2 }
+        requires { MayAct shown self.old (syscall_notes + 2) }
+        ensures { HasActed shown (stepped level) (syscall_notes + 2) self.old self.new }
     {
         let at = self.glider.runner.processor.regs.get(PROGRAM_COUNTER);
         match fetch(&self.reach, at) {
@@ -341,8 +334,7 @@ impl Machine {
     /// What the task that is chosen does, once the events of the turn have happened: one instruction; or
     /// nothing where none is chosen.
     pub fn turn(&mut self, level: Level, next: Option<usize>) -> Turned
-        requires next { (g : Setup) × (t : Turn) × IsNext shown g self.old t next × HasNumber t.state }
-        requires room { note_count self.old.reach.kernel + syscall_notes + 4 ≤ turn_notes }
+        requires { MayTurn shown self.old next }
         ensures holds { (g : Setup) (t : Turn) → IsNext shown g self.old t next → MachineHolds shown g self.new (turn_of level g next t) }
         ensures turned { (g : Setup) (t : Turn) → IsNext shown g self.old t next → result ≡ turned_of t.state next }
         ensures count { note_count self.new.reach.kernel ≤ note_count self.old.reach.kernel + syscall_notes + 4 }
@@ -368,8 +360,7 @@ impl Machine {
     /// A turn of a task whose instruction is known to be a system call: it is not fetched and decoded again.
     #[inline(always)]
     pub fn call(&mut self, task: usize)
-        requires next { (g : Setup) × (t : Turn) × IsNext shown g self.old t (Some task) × HasNumber t.state }
-        requires room { note_count self.old.reach.kernel + syscall_notes + 4 ≤ turn_notes }
+        requires { MayTurn shown self.old (Some task) }
         ensures holds { (g : Setup) (t : Turn) → IsNext shown g self.old t (Some task) → IsCalling g task t.state → MachineHolds shown g self.new (turn_of Level.Calls g (Some task) t) }
         ensures count { note_count self.new.reach.kernel ≤ note_count self.old.reach.kernel + syscall_notes + 4 }
     {

@@ -3,14 +3,14 @@ ghost use Rattle.std.specs.Prelude.{◌≡◌, ◌<◌, ◌+◌, ◌-◌, length
 ghost use Rattle.image_format.specs.Images.{picture};
 ghost use Rattle.image_format.specs.Picture.{task_in, line_in};
 ghost use Rattle.mem_banks.specs.Memory.{Memory};
-ghost use Rattle.task_table.specs.Start.{start};
-ghost use Rattle.task_table.specs.Parts.{task_setup, line_setup};
-ghost use Rattle.task_table.specs.Holds.{task_count, setup_of};
+ghost use Rattle.task_table.specs.model.Start.{start};
+ghost use Rattle.task_table.specs.kept.Parts.{task_setup, line_setup};
+ghost use Rattle.task_table.specs.kept.Holds.{task_count, setup_of};
 ghost use Rattle.board_core.specs.Regions.{ArePlaces, HavePlaces};
 ghost use Rattle.board_core.specs.Opened.{setup_of_image, setup_of_task, setup_of_line};
 ghost use Rattle.board_core.specs.Machine.{IsStarted};
-ghost use Rattle.board_core.specs.Sights.{is_port};
-ghost use Rattle.board_core.specs.Ports.{ArePorts};
+ghost use Rattle.board_core.specs.fast.Sights.{is_port};
+ghost use Rattle.board_core.specs.fast.Ports.{ArePorts};
 
 use image_format::Image;
 use region_check::Region;

@@ -1,18 +1,18 @@
 //! What the current task reaches of the kernel's memory: the bus of its processor.
-ghost use Rattle.std.specs.Prelude.{◌≡◌, ◌&&◌, ◌+◌, ◌*◌, ◌≤◌, ◌<◌, ◌%◌, ◌^◌, Option, Some, true, false, None, IfSome, MatchOption, MatchResult, Contains};
+ghost use Rattle.std.specs.Prelude.{◌≡◌, ◌&&◌, ◌+◌, ◌*◌, ◌≤◌, ◌<◌, ◌^◌, Option, Some, true, false, None, IfSome, MatchOption, Contains};
 ghost use Rattle.std.specs.List.{list_any};
 ghost use Rattle.region_check.specs.declared.Right.TheVariants.{Execute, Read};
-ghost use Rattle.board_core.specs.Reached.{is_flash_at, is_ram_at, is_area, IsStackRegion, IsAreaRegion, AreReached, AreLent, no_region, unwatched};
-ghost use Rattle.task_table.specs.Reading.{setup_at};
+ghost use Rattle.board_core.specs.fast.Reached.{is_flash_at, is_ram_at, is_area, is_second, IsStackRegion, IsAreaRegion, IsSecondRegion, AreReached, MakeWindow, no_region, unwatched, without_watched};
+ghost use Rattle.task_table.specs.model.Reading.{setup_at};
 ghost use Rattle.mem_banks.specs.Windows.{IsNoRegion};
-ghost use Rattle.task_table.specs.Openable.{span_of};
+ghost use Rattle.task_table.specs.kept.Openable.{span_of};
 ghost use Rattle.kernel_abi.specs.Devices.{device_number};
 ghost use Rattle.kernel_abi.specs.declared.Note.TheVariants.{Out};
-ghost use Rattle.task_table.specs.State.{Setup, Turn};
-ghost use Rattle.task_table.specs.Effects.{noted};
-ghost use Rattle.task_table.specs.Holds.{Holds, setup_of, current_of, note_count};
-ghost use Rattle.task_table.specs.Limits.{turn_notes};
-ghost use Rattle.task_table.specs.Frames.{AddsAtMost};
+ghost use Rattle.task_table.specs.model.State.{Setup, Turn};
+ghost use Rattle.task_table.specs.model.Effects.{noted};
+ghost use Rattle.task_table.specs.kept.Holds.{Holds, setup_of, current_of, note_count};
+ghost use Rattle.task_table.specs.kept.Limits.{turn_notes};
+ghost use Rattle.task_table.specs.kept.Frames.{AddsAtMost};
 ghost use Rattle.thumb_exec.specs.Sizes.{IsSize};
 ghost use Rattle.board_model.specs.Turn.{is_device, or_zero};
 ghost use Rattle.board_core.specs.Data.{data_of};
@@ -188,15 +188,28 @@ fn unwatched(watched: Option<u32>, region: Region) -> Region
     }
 }
 
-/// The region of the stack and a further one, each an empty one where it has the byte that is watched.
-#[inline(always)]
-fn lent(watched: Option<u32>, stack: Region, further: Region) -> (Region, Region)
-    ensures ram { result.0 ≡ unwatched watched stack }
-    ensures area { result.1 ≡ unwatched watched further }
-{
-    let ram = unwatched(watched, stack);
-    let area = unwatched(watched, further);
-    (ram, area)
+/// The regions that make a window: that of the flash which has the instruction at PC, and three of the RAM, which may be empty.
+#[derive(Clone, Copy)]
+pub struct WindowRegions {
+    pub flash: Region,
+    pub ram: Region,
+    pub area: Region,
+    pub second: Region,
+}
+
+impl WindowRegions {
+    /// The same, but each of the RAM is an empty one where it has the byte that is watched.
+    #[inline(always)]
+    fn without(self, watched: Option<u32>) -> WindowRegions
+        ensures { result ≡ without_watched watched self }
+    {
+        WindowRegions {
+            flash: self.flash,
+            ram: unwatched(watched, self.ram),
+            area: unwatched(watched, self.area),
+            second: unwatched(watched, self.second),
+        }
+    }
 }
 
 /// One of some regions that is of the flash and has the instruction at an address.
@@ -235,11 +248,35 @@ fn area_of(regions: &[Region], stack: &Region) -> Region
     no_region()
 }
 
-/// The region that has the instruction at PC, that of the stack and a further one, where the first of some has that instruction and
-/// the second one the stack, as those of a task are laid out: then neither is looked for.
+/// Whether a region may be an area and is not this one.
+fn is_second(region: &Region, stack: &Region, area: &Region) -> bool
+    ensures { result ≡ is_second stack.now area.now region.now }
+{
+    is_area(region, stack) && !(region.base == area.base && region.size == area.size)
+}
+
+/// The first of some regions that may be an area and is not the first area; an empty one where none is. Where there is no first area,
+/// there is no second one, so that most tasks are not searched again.
+fn second_of(regions: &[Region], stack: &Region, area: &Region) -> Region
+    requires { IsAreaRegion regions.now stack.now area.now }
+    ensures { IsSecondRegion regions.now stack.now area.now result }
+{
+    if area.size == 0 {
+        return no_region();
+    }
+    for region in regions {
+        if is_second(region, stack, area) {
+            return *region;
+        }
+    }
+    no_region()
+}
+
+/// The region that has the instruction at PC, that of the stack and two further ones, where the first of some has that instruction
+/// and the second one the stack, as those of a task are laid out: then neither is looked for.
 #[inline(always)]
-fn laid_out(regions: &[Region], pc: u32, sp: u32) -> Option<(Region, Region, Region)>
-    ensures { IfSome result (λ w. AreReached regions.now pc sp w.0 w.1 w.2) }
+fn laid_out(regions: &[Region], pc: u32, sp: u32) -> Option<WindowRegions>
+    ensures { IfSome result (AreReached regions.now pc sp) }
 {
     if regions.len() < 2 {
         return None;
@@ -249,25 +286,37 @@ fn laid_out(regions: &[Region], pc: u32, sp: u32) -> Option<(Region, Region, Reg
     if !is_flash_at(flash, pc) || !is_ram_at(stack, sp) {
         return None;
     }
-    let further = area_of(&regions[2..], stack);
-    Some((*flash, *stack, further))
+    let area = area_of(&regions[2..], stack);
+    let second = second_of(&regions[2..], stack, &area);
+    Some(WindowRegions {
+        flash: *flash,
+        ram: *stack,
+        area,
+        second,
+    })
 }
 
 /// The same, wherever among them they are.
 #[inline(never)]
-fn looked_up(regions: &[Region], pc: u32, sp: u32) -> Option<(Region, Region, Region)>
-    ensures { MatchOption result (list_any (is_flash_at pc) regions.now ≡ false) (λ w. AreReached regions.now pc sp w.0 w.1 w.2) }
+fn looked_up(regions: &[Region], pc: u32, sp: u32) -> Option<WindowRegions>
+    ensures { MatchOption result (list_any (is_flash_at pc) regions.now ≡ false) (AreReached regions.now pc sp) }
 {
     let flash = flash_at(regions, pc)?;
-    let stack = ram_at(regions, sp);
-    let further = area_of(regions, &stack);
-    Some((flash, stack, further))
+    let ram = ram_at(regions, sp);
+    let area = area_of(regions, &ram);
+    let second = second_of(regions, &ram, &area);
+    Some(WindowRegions {
+        flash,
+        ram,
+        area,
+        second,
+    })
 }
 
 impl Reach {
-    /// The three regions in which a task may make many instructions on end: that of the flash that has its PC, that of the RAM
-    /// that has its stack, and the first further one of the RAM that it may read. Each of these two may be an empty one, and is
-    /// where the region has the byte that is watched.
+    /// The four regions in which a task may make many instructions on end: that of the flash that has its PC, that of the RAM
+    /// that has its stack, and the first two further ones of the RAM that it may read. Each of these three may be an empty one,
+    /// and is where the region has the byte that is watched.
     #[inline(always)]
     pub fn window(
         &self,
@@ -275,17 +324,15 @@ impl Reach {
         pc: u32,
         sp: u32,
         watched: Option<u32>,
-    ) -> Option<(Region, Region, Region)>
-        ensures { let regions = (setup_at (setup_of self.now.kernel) task).regions in MatchOption result (list_any (is_flash_at pc) regions ≡ false) (λ w. AreLent watched regions pc sp w.0 w.1 w.2) }
+    ) -> Option<WindowRegions>
+        ensures { let regions = (setup_at (setup_of self.now.kernel) task).regions in MatchOption result (list_any (is_flash_at pc) regions ≡ false) (MakeWindow watched regions pc sp) }
     {
         let regions = self.kernel.regions(task);
-        if let Some((flash, stack, further)) = laid_out(regions, pc, sp) {
-            let (ram, area) = lent(watched, stack, further);
-            return Some((flash, ram, area));
+        if let Some(window) = laid_out(regions, pc, sp) {
+            return Some(window.without(watched));
         }
-        let (flash, stack, further) = looked_up(regions, pc, sp)?;
-        let (ram, area) = lent(watched, stack, further);
-        Some((flash, ram, area))
+        let window = looked_up(regions, pc, sp)?;
+        Some(window.without(watched))
     }
 }
 

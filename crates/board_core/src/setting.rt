@@ -7,8 +7,8 @@ ghost use Rattle.std.specs.Prelude.{◌≡◌, ◌<◌, ◌≤◌, ◌^◌, ◌�
 ghost use Rattle.std.specs.Option.{option_map};
 ghost use Rattle.kernel_abi.specs.Devices.{device_at, with_device, IsSettable};
 ghost use Rattle.mem_banks.specs.Memory.{with_bytes, is_held};
-ghost use Rattle.task_table.specs.State.{State};
-ghost use Rattle.task_table.specs.Setting.{with_slot, IsTold};
+ghost use Rattle.task_table.specs.model.State.{State};
+ghost use Rattle.task_table.specs.kept.Setting.{with_slot, IsTold};
 ghost use Rattle.run_script.specs.Events.{script_data};
 ghost use Rattle.board_model.specs.Laid.{with_script};
 ghost use Rattle.board_model.specs.Script.{Scenario};

@@ -1,7 +1,7 @@
 //! A law of boards that were set part by part. Nothing runs here.
-ghost use Rattle.task_table.specs.State.{State};
-ghost use Rattle.task_table.specs.Sane.{Sane, IsCounted};
-ghost use Rattle.task_table.specs.Setting.{AreKeptAlike};
+ghost use Rattle.task_table.specs.model.State.{State};
+ghost use Rattle.task_table.specs.model.Sane.{Sane, IsCounted};
+ghost use Rattle.task_table.specs.kept.Setting.{AreKeptAlike};
 ghost use Rattle.board_model.specs.Script.{Scenario};
 ghost use Rattle.board_core.specs.Stands.{Holds, Stands};
 

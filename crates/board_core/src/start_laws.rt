@@ -6,8 +6,8 @@ ghost use Rattle.mem_banks.specs.Memory.{AreAllBytes};
 ghost use Rattle.image_format.specs.Facts.{Facts};
 ghost use Rattle.image_format.specs.Picture.{Picture};
 ghost use Rattle.run_script.specs.Scripts.{ScriptData};
-ghost use Rattle.task_table.specs.Parts.{IsSound};
-ghost use Rattle.task_table.specs.Sane.{Sane};
+ghost use Rattle.task_table.specs.kept.Parts.{IsSound};
+ghost use Rattle.task_table.specs.model.Sane.{Sane};
 ghost use Rattle.board_model.specs.Script.{start_of};
 ghost use Rattle.board_core.specs.Opened.{setup_of_image, scenario_of};
 

@@ -1,14 +1,12 @@
 //! The system calls of a task, by the number in its r11.
-ghost use Rattle.std.specs.Prelude.{◌≡◌, ◌+◌, ◌≤◌, ◌<◌, ◌^◌, true};
+ghost use Rattle.std.specs.Prelude.{◌+◌, ◌<◌, ◌^◌};
 ghost use Rattle.kernel_abi.specs.Syscalls.{syscall_number};
 ghost use Rattle.kernel_abi.specs.declared.syscalls.Syscall.TheVariants.{Send};
-ghost use Rattle.task_table.specs.State.{Setup, Turn};
-ghost use Rattle.task_table.specs.Reading.{is_ready, best_sender};
-ghost use Rattle.task_table.specs.Rows.{received};
-ghost use Rattle.task_table.specs.Syscalls.{meaning_among, syscalls, syscall_made};
-ghost use Rattle.task_table.specs.Holds.{Stands, task_count, note_count, next_call_of};
-ghost use Rattle.task_table.specs.Limits.{syscall_notes, turn_notes};
-ghost use Rattle.task_table.specs.Frames.{AddsAtMost};
+ghost use Rattle.task_table.specs.model.Reading.{best_sender};
+ghost use Rattle.task_table.specs.model.Rows.{received};
+ghost use Rattle.task_table.specs.model.Syscalls.{meaning_among, syscalls, syscall_made};
+ghost use Rattle.task_table.specs.kept.Holds.{next_call_of};
+ghost use Rattle.task_table.specs.kept.Calls.{MayCall, Performs};
 
 use dispatch::best_sender;
 use fault_supervisor::kernel_message;
@@ -20,11 +18,8 @@ use timer_irq::{get_timer, irq_control, irq_status, set_timer};
 
 /// RECV, of the best sender to the caller.
 fn receive(k: &mut Kernel, caller: usize)
-    requires there { caller < task_count k.old }
-    requires ready { (g : Setup) × (t : Turn) × Stands g k.old t × (is_ready t.state caller ≡ true) }
-    requires room { note_count k.old + syscall_notes ≤ turn_notes }
-    ensures stands { (g : Setup) (t : Turn) → Stands g k.old t → is_ready t.state caller ≡ true → Stands g k.new (received g caller (best_sender g t.state caller) t) }
-    ensures frame { AddsAtMost k.old syscall_notes k.new }
+    requires { MayCall k.old caller }
+    ensures { Performs (λ g c t. received g c (best_sender g t.state c) t) k.old caller k.new }
 {
     let best = best_sender(k, caller);
     recv(k, caller, best);
@@ -32,12 +27,9 @@ fn receive(k: &mut Kernel, caller: usize)
 
 /// SEND, to a task or to the kernel.
 fn send_anywhere(k: &mut Kernel, caller: usize)
-    requires there { caller < task_count k.old }
-    requires ready { (g : Setup) × (t : Turn) × Stands g k.old t × (is_ready t.state caller ≡ true) }
-    requires room { note_count k.old + syscall_notes ≤ turn_notes }
+    requires may_call { MayCall k.old caller }
     requires number { next_call_of k.old + 1 < 2 ^ 32 }
-    ensures stands { (g : Setup) (t : Turn) → Stands g k.old t → is_ready t.state caller ≡ true → Stands g k.new (meaning_among syscalls (syscall_number Send) g caller t) }
-    ensures frame { AddsAtMost k.old syscall_notes k.new }
+    ensures { Performs (meaning_among syscalls (syscall_number Send)) k.old caller k.new }
 {
     let args = SendArgs::of(&k.arguments(caller));
     if args.recipient.number == TaskId::KERNEL {
@@ -50,12 +42,9 @@ fn send_anywhere(k: &mut Kernel, caller: usize)
 /// A task makes the system call whose number is in its r11; a number that no system call has misuses the
 /// system calls that there are.
 pub fn syscall(k: &mut Kernel, caller: usize)
-    requires there { caller < task_count k.old }
-    requires ready { (g : Setup) × (t : Turn) × Stands g k.old t × (is_ready t.state caller ≡ true) }
-    requires room { note_count k.old + syscall_notes ≤ turn_notes }
+    requires may_call { MayCall k.old caller }
     requires number { next_call_of k.old + 1 < 2 ^ 32 }
-    ensures stands { (g : Setup) (t : Turn) → Stands g k.old t → is_ready t.state caller ≡ true → Stands g k.new (syscall_made g caller t) }
-    ensures frame { AddsAtMost k.old syscall_notes k.new }
+    ensures { Performs syscall_made k.old caller k.new }
 {
     match Syscall::of(k.register(caller, SYSCALL_SELECTOR)) {
         Some(Syscall::Send) => send_anywhere(k, caller),

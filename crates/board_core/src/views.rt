@@ -1,17 +1,15 @@
 //! What a board shows of itself between turns.
 ghost use Rattle.std.specs.Prelude.{ℕ, ◌≡◌, ◌<◌, ◌≤◌, ◌-◌, ◌&&◌, ◌↔◌, not, Option, Some, None, is_none, length, map, IsSome, slice_get};
 ghost use Rattle.std.specs.Option.{option_map};
-ghost use Rattle.task_table.specs.State.{Setup, State, Turn};
+ghost use Rattle.task_table.specs.model.State.{Setup, State, Turn};
 ghost use Rattle.mem_banks.specs.Memory.{byte_at};
-ghost use Rattle.task_table.specs.Reading.{setup_at, chosen};
-ghost use Rattle.task_table.specs.Start.{start};
-ghost use Rattle.task_table.specs.Holds.{Holds as KernelHolds, task_count};
-ghost use Rattle.task_table.specs.Limits.{most_tasks};
-ghost use Rattle.task_table.specs.Parts.{line_setup};
+ghost use Rattle.task_table.specs.model.Reading.{setup_at};
+ghost use Rattle.task_table.specs.kept.Holds.{Holds as KernelHolds, task_count};
+ghost use Rattle.task_table.specs.kept.Limits.{most_tasks};
+ghost use Rattle.task_table.specs.kept.Parts.{line_setup};
 ghost use Rattle.run_script.specs.Events.{script_data};
 ghost use Rattle.run_script.specs.Scripts.{IsNext, lasts};
 ghost use Rattle.board_model.specs.Script.{Scenario};
-ghost use Rattle.board_model.specs.Turn.{turn};
 ghost use Rattle.board_model.specs.Run.{ending, end_at, end_in};
 ghost use Rattle.board_core.specs.Stands.{Stands, Stood, turns_of, count_of};
 ghost use Rattle.board_core.specs.Views.{IsTask, IsView};

@@ -2,13 +2,13 @@
 
 ghost use Rattle.std.specs.Prelude.{ℕ};
 ghost use Rattle.thumb_exec.specs.declared.cpu.Cpu.{Cpu as Processor};
-ghost use Rattle.task_table.specs.State.{State};
-ghost use Rattle.task_table.specs.Reading.{task_at};
-ghost use Rattle.task_table.specs.Sane.{Sane};
+ghost use Rattle.task_table.specs.model.State.{State};
+ghost use Rattle.task_table.specs.model.Reading.{task_at};
+ghost use Rattle.task_table.specs.model.Sane.{Sane};
 ghost use Rattle.board_model.specs.Script.{Scenario};
 ghost use Rattle.board_model.specs.Turn.{cpu_of};
-ghost use Rattle.board_core.specs.Sights.{Sight, Polls};
-ghost use Rattle.board_core.specs.Windowed.{IsUndisturbed, AreTurns};
+ghost use Rattle.board_core.specs.fast.Sights.{Sight, Polls};
+ghost use Rattle.board_core.specs.fast.Windowed.{IsUndisturbed, AreTurns};
 
 /// Instructions on end of a task, each within a window of its memory or over it and the devices that it may read, are its turns,
 /// where nothing is due and the task is the one that is chosen: none of them is noted, and they change nothing but its processor,

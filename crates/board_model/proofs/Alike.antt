@@ -5,9 +5,9 @@ use Rattle.std.specs.List.{range_with_len, list_all}
 use Rattle.std.proofs.Math.ListN.{get_or-map}
 use Rattle.std.proofs.lemmas.List.{map-set, map-append, length-map}
 use Rattle.mem_banks.specs.Memory.{Memory, bytes_at, with_bytes, pasted}
-use Rattle.task_table.specs.State.{Setup, Task, State, Call, Listen}
-use Rattle.task_table.specs.Reading.{task_at, line_at, register, arguments, call_of, listen_of, is_ready, is_well, priority, around, chosen, offer_by, offers, is_offered, taken_by, is_taken, best_sender, no_task}
-use Rattle.task_table.specs.Effects.{with_task, without_call, without_listen, with_listen, with_taken, with_call, taken_from}
+use Rattle.task_table.specs.model.State.{Setup, Task, State, Call, Listen}
+use Rattle.task_table.specs.model.Reading.{task_at, line_at, register, arguments, call_of, listen_of, is_ready, is_well, priority, around, chosen, offer_by, offers, is_offered, taken_by, is_taken, best_sender, no_task}
+use Rattle.task_table.specs.model.Effects.{with_task, without_call, without_listen, with_listen, with_taken, with_call, taken_from}
 use Rattle.board_model.proofs.SameBytes.{read_same}
 use Rattle.board_model.specs.Alike.{seen_task, seen_call, seen_listen, seen, but_memory, AreAlikeMemories}
 

@@ -17,12 +17,12 @@ use Rattle.kernel_abi.specs.declared.Usage.TheVariants.{BadTaskIndex, InvalidSli
 use Rattle.kernel_abi.specs.declared.arguments.BorrowArgs.{BorrowArgs}
 use Rattle.region_check.specs.declared.Right.TheVariants.{Read as ToRead}
 use Rattle.mem_banks.specs.Memory.{number_of}
-use Rattle.task_table.specs.State.{Setup, Call, Listen, Own, Lease, Entry, Leased, Read, Turn}
+use Rattle.task_table.specs.model.State.{Setup, Call, Listen, Own, Lease, Entry, Leased, Read, Turn}
 use Rattle.task_table.specs.declared.slot.Slice.{Slice}
-use Rattle.task_table.specs.Reading.{task_at, listen_of, arguments, is_out, is_dead, is_valid, bad_byte}
-use Rattle.task_table.specs.Effects.{changed, without_listen, with_health, noted, given, returned, past_syscall, bits_added, bits_cleared, woken_by, woken, posted, closed, faulted_as, copied, looked}
-use Rattle.task_table.specs.Rows.{goes_on_with}
-use Rattle.task_table.specs.Borrows.{entry_range, grant, lease_range, entry_read, Way, reading, writing, moved, no_lease, refused, buffer_of, part_of, lent, granted, borrowed_by, borrowed, uninformed, grant_answered, informed_by, informed}
+use Rattle.task_table.specs.model.Reading.{task_at, listen_of, arguments, is_out, is_dead, is_valid, bad_byte}
+use Rattle.task_table.specs.model.Effects.{changed, without_listen, with_health, noted, given, returned, past_syscall, bits_added, bits_cleared, woken_by, woken, posted, closed, faulted_as, copied, looked}
+use Rattle.task_table.specs.model.Rows.{goes_on_with}
+use Rattle.task_table.specs.model.Borrows.{entry_range, grant, lease_range, entry_read, Way, reading, writing, moved, no_lease, refused, buffer_of, part_of, lent, granted, borrowed_by, borrowed, uninformed, grant_answered, informed_by, informed}
 use Rattle.board_model.specs.Alike.{Viewer, IsAttentive, seen_call, IsAlike, AreSeen, IsAlikeWhereSeen}
 use Rattle.board_model.proofs.Alike.{taken_alike, bytes_alike}
 use Rattle.board_model.proofs.AlikeRows.{by_test, by_same, by_case, surely, alike-noted, alike-copied, alike-looked, alike-misused, alike-denied, alike-goes_on_with, alike-answers, args, is_out_same, is_dead_same, dead_code_same}

@@ -21,12 +21,12 @@ use Rattle.region_check.specs.declared.Right.TheVariants.{Write}
 use Rattle.words_core.specs.declared.Flags.{Flags}
 use Rattle.task_table.specs.declared.Line.{Line}
 use Rattle.mem_banks.specs.Memory.{Memory, bytes_at, copied as copied_memory}
-use Rattle.task_table.specs.State.{Setup, LineSetup, Task, State, Call, From, Any, One, KernelOnly, Listen, Turn, Ground, Own, Read, MessageFront}
+use Rattle.task_table.specs.model.State.{Setup, LineSetup, Task, State, Call, From, Any, One, KernelOnly, Listen, Turn, Ground, Own, Read, MessageFront}
 use Rattle.task_table.specs.declared.slot.Slice.{Slice}
-use Rattle.task_table.specs.Reading.{task_at, line_at, line_off, line_on, register, arguments, call_of, is_out, is_dead, dead_code_for, present, is_valid, bad_byte}
-use Rattle.task_table.specs.Effects.{with_task, without_call, without_listen, with_listen, with_taken, changed, noted, with_processor, with_health, writes_on, stored, copied, looked, with_results, given, returned, past_syscall, bits_added, bits_cleared, woken_by, woken, posted, with_timer, clocked, with_line, close_notes, closed, faulted_as, faulted, handed}
-use Rattle.task_table.specs.Rows.{goes_on, goes_on_with, misused, denied, panicked, timer_set, timer_words, timer_answered, owns_with, line_controlled, irq_controlled, status_of_lines, irq_answered, listened_from, buffer_of, listens, receives_or_listens, offer_of, received, syscall_noted}
-use Rattle.task_table.specs.Events.{expired_by, expired, ticked, owner_of, interrupted_by, interrupted}
+use Rattle.task_table.specs.model.Reading.{task_at, line_at, line_off, line_on, register, arguments, call_of, is_out, is_dead, dead_code_for, present, is_valid, bad_byte}
+use Rattle.task_table.specs.model.Effects.{with_task, without_call, without_listen, with_listen, with_taken, changed, noted, with_processor, with_health, writes_on, stored, copied, looked, with_results, given, returned, past_syscall, bits_added, bits_cleared, woken_by, woken, posted, with_timer, clocked, with_line, close_notes, closed, faulted_as, faulted, handed}
+use Rattle.task_table.specs.model.Rows.{goes_on, goes_on_with, misused, denied, panicked, timer_set, timer_words, timer_answered, owns_with, line_controlled, irq_controlled, status_of_lines, irq_answered, listened_from, buffer_of, listens, receives_or_listens, offer_of, received, syscall_noted}
+use Rattle.task_table.specs.model.Events.{expired_by, expired, ticked, owner_of, interrupted_by, interrupted}
 use Rattle.board_model.specs.Levels.{is_noted_always}
 use Rattle.board_model.specs.Alike.{Viewer, IsAttentive, seen_task, seen_call, seen_from, seen_listen, seen, IsAlike, IsAlikeWhereSeen}
 use Rattle.std.proofs.lemmas.List.Elements.{filter-append}

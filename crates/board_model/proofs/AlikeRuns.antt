@@ -3,11 +3,11 @@ use Rattle.std.proofs.Common.{◌≡◌, ◌%◌, ℕ, zero, suc, Bool, true, fa
 use Rattle.std.specs.Prelude.{filter}
 use Rattle.kernel_abi.specs.declared.Note.{Note}
 use Rattle.run_script.specs.Scripts.{lasts}
-use Rattle.task_table.specs.State.{Task, State, Turn}
-use Rattle.task_table.specs.Reading.{is_faulted}
-use Rattle.task_table.specs.Sane.{Sane}
+use Rattle.task_table.specs.model.State.{Task, State, Turn}
+use Rattle.task_table.specs.model.Reading.{is_faulted}
+use Rattle.task_table.specs.model.Sane.{Sane}
 use Rattle.board_model.specs.Levels.{without_instructions}
-use Rattle.task_table.specs.Start.{begun}
+use Rattle.task_table.specs.model.Start.{begun}
 use Rattle.std.proofs.lemmas.List.Elements.{filter-append}
 use Rattle.board_model.specs.declared.outcomes.End.{End}
 use Rattle.board_model.specs.declared.outcomes.Level.{Level}

@@ -11,11 +11,11 @@ use Rattle.kernel_abi.specs.declared.Usage.TheVariants.{BadTaskIndex, InvalidSli
 use Rattle.kernel_abi.specs.declared.arguments.ReplyArgs.{ReplyArgs}
 use Rattle.kernel_abi.specs.declared.arguments.SendArgs.{SendArgs}
 use Rattle.region_check.specs.declared.Right.TheVariants.{Read as ToRead, Write as ToWrite}
-use Rattle.task_table.specs.State.{Setup, Task, State, Birth, Call, One, Listen, Turn, Message, Reply}
-use Rattle.task_table.specs.Reading.{task_at, arguments, present, present_id, listen_of, is_out, is_dead, admits, is_valid, bad_byte}
-use Rattle.task_table.specs.Effects.{with_call, returned, past_syscall, offered, handed, faulted_as}
-use Rattle.task_table.specs.Rows.{goes_on}
-use Rattle.task_table.specs.Sends.{message_of, reply_room, table_of, call_made, taken_at_once, sends, sent, reply_of, replied_to, replied, reply_fault_of, last_reason, reply_faulted_to, reply_faulted, post_made, refreshed}
+use Rattle.task_table.specs.model.State.{Setup, Task, State, Birth, Call, One, Listen, Turn, Message, Reply}
+use Rattle.task_table.specs.model.Reading.{task_at, arguments, present, present_id, listen_of, is_out, is_dead, admits, is_valid, bad_byte}
+use Rattle.task_table.specs.model.Effects.{with_call, returned, past_syscall, offered, handed, faulted_as}
+use Rattle.task_table.specs.model.Rows.{goes_on}
+use Rattle.task_table.specs.model.Sends.{message_of, reply_room, table_of, call_made, taken_at_once, sends, sent, reply_of, replied_to, replied, reply_fault_of, last_reason, reply_faulted_to, reply_faulted, post_made, refreshed}
 use Rattle.board_model.specs.Alike.{Viewer, IsAttentive, seen_birth, seen_call, seen_from, seen_listen, IsAlike, IsAlikeWhereSeen}
 use Rattle.board_model.proofs.Alike.{listen_alike, taken_alike, next_call_alike, alike-with_call}
 use Rattle.board_model.proofs.AlikeRows.{by_test, by_same, by_case, the_task, surely, alike-noted_always, alike-changed, alike-given, alike-past_syscall, alike-closed, alike-returned, alike-copied, alike-posted, alike-faulted_as, alike-handed, where_seen-returned, alike-misused, alike-denied, alike-goes_on, alike-goes_on_with, alike-answers, args, is_out_same, is_dead_same, dead_code_same, generation_same}

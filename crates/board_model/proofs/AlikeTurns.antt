@@ -11,13 +11,13 @@ use Rattle.run_script.specs.declared.events.Event.TheVariants.{Tick, Irq, Feed}
 use Rattle.run_script.specs.Scripts.{events_of}
 use Rattle.thumb_exec.specs.Effect.{Move, Puts, Takes}
 use Rattle.mem_banks.specs.Memory.{number_at, number_of, is_ram}
-use Rattle.task_table.specs.State.{Setup, State, Own, Turn}
-use Rattle.task_table.specs.Reading.{task_at, listen_of, chosen}
-use Rattle.task_table.specs.Effects.{noted, stored, with_devices, given_out, device_stored, device_taken}
-use Rattle.task_table.specs.Events.{fed}
-use Rattle.task_table.specs.Rows.{syscall_noted}
+use Rattle.task_table.specs.model.State.{Setup, State, Own, Turn}
+use Rattle.task_table.specs.model.Reading.{task_at, listen_of, chosen}
+use Rattle.task_table.specs.model.Effects.{noted, stored, with_devices, given_out, device_stored, device_taken}
+use Rattle.task_table.specs.model.Events.{fed}
+use Rattle.task_table.specs.model.Rows.{syscall_noted}
 use Rattle.board_model.specs.Levels.{is_noted_always}
-use Rattle.task_table.specs.Start.{begun}
+use Rattle.task_table.specs.model.Start.{begun}
 use Rattle.board_model.specs.declared.outcomes.Level.{Level}
 use Rattle.board_model.specs.declared.outcomes.Level.TheVariants.{Calls, All}
 use Rattle.board_model.specs.Script.{Scenario}

@@ -15,19 +15,19 @@ use Rattle.run_script.specs.Scripts.{events_of}
 use Rattle.thumb_insn.specs.declared.Insn.{Insn}
 use Rattle.thumb_exec.specs.Effect.{Effect, Next, Syscall, Trap, Move}
 use Rattle.thumb_exec.specs.declared.fetch.Fetched.{Fetched}
-use Rattle.task_table.specs.State.{Setup, LineSetup, State, Task, Turn}
-use Rattle.task_table.specs.Reading.{task_at, line_at, line_off, chosen}
-use Rattle.task_table.specs.Effects.{noted, posted, with_timer, with_line, clocked, faulted, restarted, with_devices}
-use Rattle.task_table.specs.Events.{expired_by, expired, ticked, owner_of, interrupted_by, interrupted, fed}
-use Rattle.task_table.specs.Rows.{goes_on_with, syscall_noted}
-use Rattle.task_table.specs.Start.{begun}
-use Rattle.task_table.specs.Syscalls.{syscall_made}
-use Rattle.task_table.specs.Sane.{Sane}
-use Rattle.task_table.specs.Chain.{Chain}
-use Rattle.task_table.specs.Step.{Spared, Outcome, Faults, Goes, GoesAfterRestart}
-use Rattle.task_table.proofs.RowChains.{comes-syscall_made}
-use Rattle.task_table.proofs.Sanity.{sane-current}
-use Rattle.task_table.proofs.Spared.{left-noted, left-processor, left-timer, left-line, left-posted, left-faulted, left-after_restart, left-chain}
+use Rattle.task_table.specs.model.State.{Setup, LineSetup, State, Task, Turn}
+use Rattle.task_table.specs.model.Reading.{task_at, line_at, line_off, chosen}
+use Rattle.task_table.specs.model.Effects.{noted, posted, with_timer, with_line, clocked, faulted, restarted, with_devices}
+use Rattle.task_table.specs.model.Events.{expired_by, expired, ticked, owner_of, interrupted_by, interrupted, fed}
+use Rattle.task_table.specs.model.Rows.{goes_on_with, syscall_noted}
+use Rattle.task_table.specs.model.Start.{begun}
+use Rattle.task_table.specs.model.Syscalls.{syscall_made}
+use Rattle.task_table.specs.model.Sane.{Sane}
+use Rattle.task_table.specs.model.Chain.{Chain}
+use Rattle.task_table.specs.model.Step.{Spared, CallOutcome, Faults, Goes, GoesAfterRestart}
+use Rattle.task_table.proofs.model.RowChains.{comes-syscall_made}
+use Rattle.task_table.proofs.model.Sanity.{sane-current}
+use Rattle.task_table.proofs.model.Spared.{left-noted, left-processor, left-timer, left-line, left-posted, left-faulted, left-after_restart, left-chain}
 use Rattle.board_model.specs.declared.outcomes.Level.{Level}
 use Rattle.board_model.specs.declared.outcomes.Level.TheVariants.{Calls, All}
 use Rattle.board_model.specs.Script.{Scenario}
@@ -140,7 +140,7 @@ module _ (g : Setup) (c : ℕ) where
   births-chain : (s : State) (t u : Turn) → Chain (Spared g s c) t u → (i : ℕ) → SameBirths i t.state u.state
   births-chain s t u x i = left-chain births_of by_births i g s c (λ k other. inr (λ y f. refl)) t u x
 
-  births-rows : (s : State) (t u : Turn) → Sane g t.state → Outcome g s c t u → Births g c t u
+  births-rows : (s : State) (t u : Turn) → Sane g t.state → CallOutcome g s c t u → Births g c t u
   births-rows s _ _ h (Faults fault t u there low high x state notes writes reads) =
       Stay (λ i. left-faulted births_of by_births i g c fault Client u (inr (λ y f. refl)) ∙ births-chain s t u x i)
   births-rows s _ _ h (Goes t u x) = Stay (births-chain s t u x)

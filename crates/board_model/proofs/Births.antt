@@ -3,9 +3,9 @@ use Rattle.std.proofs.Common.{◌≡◌, ◌&&◌, ℕ, Bool, true, false, eqb, 
 use Rattle.std.proofs.Math.ListN.{get_or-map}
 use Rattle.std.proofs.Math.Seq.{map-set_same}
 use Rattle.std.proofs.lemmas.Bool.{false≢true}
-use Rattle.task_table.specs.State.{Task, State, Birth, From, Any, One, KernelOnly, Listen, Turn}
-use Rattle.task_table.specs.Reading.{task_at, listen_of, admits, same_birth, no_task}
-use Rattle.task_table.specs.Effects.{with_task, past_syscall}
+use Rattle.task_table.specs.model.State.{Task, State, Birth, From, Any, One, KernelOnly, Listen, Turn}
+use Rattle.task_table.specs.model.Reading.{task_at, listen_of, admits, same_birth, no_task}
+use Rattle.task_table.specs.model.Effects.{with_task, past_syscall}
 use Rattle.board_model.specs.Alike.{seen_birth, seen_from}
 
 -- what listens are closed to is told apart as it is seen

@@ -3,15 +3,15 @@ use Rattle.std.proofs.Common.{◌≡◌, ◌≢◌, ◌⊎◌, inl, inr, ◌+◌
 use Rattle.std.specs.Prelude.{Contains}
 use Rattle.std.proofs.lemmas.Bool.Decides.{eqb_tells}
 use Rattle.kernel_abi.specs.declared.LeaseEntry.{LeaseEntry}
-use Rattle.mem_banks.specs.Memory.{Memory, byte_at, with_bytes, IsWithinRam}
-use Rattle.task_table.specs.State.{Setup, State, Call, Ground, Own, Message, Reply, Lease, Write as Written, Turn}
-use Rattle.task_table.specs.Reading.{task_at, chosen}
-use Rattle.task_table.specs.Borrows.{lease_range}
-use Rattle.task_table.specs.Placed.{ArePlaced}
-use Rattle.task_table.specs.Sane.{Sane}
-use Rattle.task_table.specs.Grounds.{Lies, MayWrite, MayChange, IsTakenBy, AreGrounded, with_writes}
-use Rattle.task_table.proofs.Ranges.{within_ram-given, one_in_ram}
-use Rattle.task_table.proofs.Steps.{length-with_bytes}
+use Rattle.mem_banks.specs.Memory.{Memory, byte_at, with_bytes}
+use Rattle.task_table.specs.model.State.{Setup, State, Call, Ground, Own, Message, Reply, Lease, Write as Written, Turn}
+use Rattle.task_table.specs.model.Reading.{task_at, chosen}
+use Rattle.task_table.specs.model.Borrows.{lease_range}
+use Rattle.task_table.specs.model.Placed.{ArePlaced}
+use Rattle.task_table.specs.model.Sane.{Sane}
+use Rattle.task_table.specs.model.Grounds.{Lies, MayWrite, MayChange, IsTakenBy, AreGrounded, with_writes}
+use Rattle.task_table.proofs.model.Ranges.{within_ram-given, one_in_ram}
+use Rattle.mem_banks.proofs.Stores.{length-with_bytes}
 use Rattle.board_model.specs.declared.outcomes.Level.{Level}
 use Rattle.board_model.specs.Script.{Scenario}
 use Rattle.board_model.specs.Turn.{after_events, turn}

@@ -5,11 +5,11 @@ use Rattle.std.proofs.lemmas.Bool.{eq-eqb}
 use Rattle.kernel_abi.specs.declared.Ending.{Ending}
 use Rattle.kernel_abi.specs.declared.Note.{Note}
 use Rattle.kernel_abi.specs.declared.Note.TheVariants as note
-use Rattle.task_table.specs.State.{State, Turn}
-use Rattle.task_table.specs.Ledger.{Saying, Offers, Takes, Closes, Nothing, saying, is_answer}
-use Rattle.task_table.specs.Lives.{Life, New, Waiting, Held, Over, Wrong, after_offer, after_take, after_close, after, lived, Lives, IsAsNoted, IsClosed}
-use Rattle.task_table.specs.Sane.{Sane}
-use Rattle.task_table.proofs.Lives.{lived_on}
+use Rattle.task_table.specs.model.State.{State, Turn}
+use Rattle.task_table.specs.model.Ledger.{Saying, Offers, Takes, Closes, Nothing, saying, is_answer}
+use Rattle.task_table.specs.model.Lives.{Life, New, Waiting, Held, Over, Wrong, after_offer, after_take, after_close, after, lived, Lives, IsAsNoted, IsClosed}
+use Rattle.task_table.specs.model.Sane.{Sane}
+use Rattle.task_table.proofs.model.Lives.{lived_on}
 use Rattle.board_model.specs.declared.outcomes.Level.{Level}
 use Rattle.board_model.specs.Script.{Scenario, start_of}
 use Rattle.board_model.specs.Run.{turn_after, state_after, notes_after}

@@ -5,15 +5,15 @@ use Rattle.kernel_abi.specs.declared.Note.TheVariants as note
 use Rattle.run_script.specs.declared.events.Event.{Event}
 use Rattle.run_script.specs.declared.events.Event.TheVariants.{Tick, Irq, Feed}
 use Rattle.run_script.specs.Scripts.{events_of}
-use Rattle.task_table.specs.State.{Setup, State, Turn}
-use Rattle.task_table.specs.Reading.{chosen}
-use Rattle.task_table.specs.Events.{ticked, interrupted, fed}
-use Rattle.task_table.specs.Start.{begun}
-use Rattle.task_table.specs.Sane.{Sane, IsCounted}
-use Rattle.task_table.specs.Counts.{AreCounts}
-use Rattle.task_table.proofs.Counting.{time-aside, counts_same, chain_counts}
-use Rattle.task_table.proofs.Starts.{counted-start}
-use Rattle.task_table.proofs.Outside.{outside-ticked, now-ticked, aside-interrupted, outside-fed, now-fed}
+use Rattle.task_table.specs.model.State.{Setup, State, Turn}
+use Rattle.task_table.specs.model.Reading.{chosen}
+use Rattle.task_table.specs.model.Events.{ticked, interrupted, fed}
+use Rattle.task_table.specs.model.Start.{begun}
+use Rattle.task_table.specs.model.Sane.{Sane, IsCounted}
+use Rattle.task_table.specs.model.Counts.{AreCounts}
+use Rattle.task_table.proofs.model.Counting.{time-aside, counts_same, chain_counts}
+use Rattle.task_table.proofs.kept.Starts.{counted-start}
+use Rattle.task_table.proofs.model.Outside.{outside-ticked, now-ticked, aside-interrupted, outside-fed, now-fed}
 use Rattle.board_model.specs.declared.outcomes.Level.{Level}
 use Rattle.board_model.specs.Run.{run}
 use Rattle.board_model.specs.Script.{Scenario, start_of}

@@ -18,17 +18,17 @@ use Rattle.thumb_insn.specs.declared.Insn.TheVariants.{Svc}
 use Rattle.thumb_exec.specs.Effect.{effect}
 use Rattle.thumb_exec.specs.Fetch.{fetched}
 use Rattle.thumb_exec.specs.declared.fetch.Fetched.{Fetched}
-use Rattle.task_table.specs.State.{Setup, State, Task, Turn}
-use Rattle.task_table.specs.Reading.{task_at, register, arguments, is_ready, is_out, is_dead, is_valid, bad_byte, best_sender, present_id, dead_code_for, is_faulted}
-use Rattle.task_table.specs.Effects.{noted, faulted, given, returned, past_syscall, bits_cleared, with_task}
-use Rattle.task_table.specs.Rows.{syscall_noted, goes_on, goes_on_with, misused, denied, asked, buffer_of, takes_bits, message_received, received}
-use Rattle.task_table.specs.Sane.{Sane}
-use Rattle.task_table.specs.Sends.{last_reason, message_of, reply_room, table_of, refreshed, sent, reply_faulted}
-use Rattle.task_table.specs.Syscalls.{syscall_made, is_to_kernel}
-use Rattle.task_table.specs.DeadIds.{Calls, IsAnsweredAlone, IsDeadId, recipient, sender, client, lender, asked_lender, posted_to}
-use Rattle.task_table.proofs.DeadRows as dead
-use Rattle.task_table.proofs.RowChains.{stay-syscall_made}
-use Rattle.task_table.proofs.Sanity.{sane-current}
+use Rattle.task_table.specs.model.State.{Setup, State, Task, Turn}
+use Rattle.task_table.specs.model.Reading.{task_at, register, arguments, is_ready, is_out, is_dead, is_valid, bad_byte, best_sender, present_id, dead_code_for, is_faulted}
+use Rattle.task_table.specs.model.Effects.{noted, faulted, given, returned, past_syscall, bits_cleared, with_task}
+use Rattle.task_table.specs.model.Rows.{syscall_noted, goes_on, goes_on_with, misused, denied, asked, buffer_of, takes_bits, message_received, received}
+use Rattle.task_table.specs.model.Sane.{Sane}
+use Rattle.task_table.specs.model.Sends.{last_reason, message_of, reply_room, table_of, refreshed, sent, reply_faulted}
+use Rattle.task_table.specs.model.Syscalls.{syscall_made, is_to_kernel}
+use Rattle.task_table.specs.model.DeadIds.{IsCalling, IsAnsweredAlone, IsDeadId, recipient, sender, client, lender, asked_lender, posted_to}
+use Rattle.task_table.proofs.model.DeadRows as dead
+use Rattle.task_table.proofs.model.RowChains.{stay-syscall_made}
+use Rattle.task_table.proofs.model.Sanity.{sane-current}
 use Rattle.board_model.specs.declared.outcomes.Level.{Level}
 use Rattle.board_model.specs.declared.outcomes.Level.TheVariants as level_of
 use Rattle.board_model.specs.Script.{Scenario}
@@ -106,7 +106,7 @@ answered_over c n values s v u w e f devices h = rw f record {
 }
 
 -- REFRESH_TASK_ID gives the present id of a task that is there
-refresh_is : (g : Setup) (c : ℕ) (t : Turn) → Calls RefreshTaskId c t → is_out t.state (old_id t.state c) ≡ false → syscall_made g c t ≡ goes_on_with c (present_id t.state (index_of (old_id t.state c)) ∷ []) t
+refresh_is : (g : Setup) (c : ℕ) (t : Turn) → IsCalling RefreshTaskId c t → is_out t.state (old_id t.state c) ≡ false → syscall_made g c t ≡ goes_on_with c (present_id t.state (index_of (old_id t.state c)) ∷ []) t
 unfolding syscall_made refreshed
 refresh_is g c t e inside = rw (e, inside) refl
 
@@ -156,7 +156,7 @@ module _ (g : Setup) (c : ℕ) (t : Turn) where
       (either (is_some (bad_byte g c Write (reply_room x))) (denies (access_number KernelWrite) (bad_byte g c Write (reply_room x)))
       (rw d.dead (stays (goes_quiet c (dead_code_for t.state id ∷ 0 ∷ []) t))))))
 
-  sent_stays : Calls Send c t → is_to_kernel t.state c ≡ false → IsDeadId t.state (recipient t.state c) → StaysOrFaults g c t (syscall_made g c t)
+  sent_stays : IsCalling Send c t → is_to_kernel t.state c ≡ false → IsDeadId t.state (recipient t.state c) → StaysOrFaults g c t (syscall_made g c t)
   unfolding syscall_made
   sent_stays e task d = rw (e, task) (sent_row d)
 
@@ -175,7 +175,7 @@ module _ (g : Setup) (c : ℕ) (t : Turn) where
       (either (x.closed && not (eqb id 0xFFFF) && (is_out t.state id || eqb (index_of id) c)) (misuses (usage_number BadTaskIndex))
       (either (not (eqb (bit_and (task_at t.state c).posted x.mask) 0)) (stays (bits_quiet c x.mask t)) (message_row best closed d))))
 
-  received_stays : Calls Recv c t → IsClosedTo t.state c → IsDeadId t.state (sender t.state c) → StaysOrFaults g c t (syscall_made g c t)
+  received_stays : IsCalling Recv c t → IsClosedTo t.state c → IsDeadId t.state (sender t.state c) → StaysOrFaults g c t (syscall_made g c t)
   unfolding syscall_made
   received_stays e closed d = rw e (received_row (best_sender g t.state c) closed d)
 
@@ -186,7 +186,7 @@ module _ (g : Setup) (c : ℕ) (t : Turn) where
       either (is_out t.state x.client.number) (misuses (usage_number BadTaskIndex))
       (either (ltb last_reason x.code) (misuses (usage_number BadReason)) (rw d.dead (stays (on_quiet c t))))
 
-  reply_faulted_stays : Calls ReplyFault c t → IsDeadId t.state (client t.state c) → StaysOrFaults g c t (syscall_made g c t)
+  reply_faulted_stays : IsCalling ReplyFault c t → IsDeadId t.state (client t.state c) → StaysOrFaults g c t (syscall_made g c t)
   unfolding syscall_made
   reply_faulted_stays e d = rw e (reply_faulted_row d)
 
@@ -200,7 +200,7 @@ module _ (level : Level) (x : Scenario) (s : State) (sane : Sane x.setup s) wher
   row_state : (c code : ℕ) → (row c code).state ≡ record t.state { current = c }
   row_state c code = begins level c code t
 
-  calls : (c : ℕ) (call : Syscall) (h : MakesCall x s c call) → Calls call c (row c h.code)
+  calls : (c : ℕ) (call : Syscall) (h : MakesCall x s c call) → IsCalling call c (row c h.code)
   unfolding register task_at
   calls c call h = rw (row_state c h.code) h.calls
 

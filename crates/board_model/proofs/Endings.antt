@@ -2,8 +2,8 @@
 use Rattle.std.proofs.Common.{◌≡◌, ◌<◌, ℕ, Bool, true, false, not, ◌&&◌, Option, refl, arith, eqb}
 use Rattle.std.specs.Prelude.{is_none}
 use Rattle.std.proofs.lemmas.Bool.Decides.{nat_tests}
-use Rattle.task_table.specs.State.{State}
-use Rattle.task_table.specs.Reading.{chosen}
+use Rattle.task_table.specs.model.State.{State}
+use Rattle.task_table.specs.model.Reading.{chosen}
 use Rattle.run_script.specs.Scripts.{ScriptData, lasts}
 use Rattle.board_model.specs.Script.{Scenario}
 use Rattle.board_model.specs.Run.{ending, end_by, is_down, is_still, end_in, end_at}

@@ -5,12 +5,12 @@ use Rattle.std.proofs.lemmas.List.Elements.{Contains-append_cases}
 use Rattle.run_script.specs.declared.events.Event.{Event}
 use Rattle.run_script.specs.declared.events.Event.TheVariants.{Tick, Irq, Feed}
 use Rattle.run_script.specs.Scripts.{events_of}
-use Rattle.task_table.specs.State.{Setup, State, Turn}
-use Rattle.task_table.specs.Events.{ticked, interrupted, fed}
-use Rattle.task_table.specs.Start.{begun}
-use Rattle.task_table.specs.Lives.{IsFresh}
-use Rattle.task_table.proofs.Moves.{plain_one, IsOutside, outside_here, outside_then}
-use Rattle.task_table.proofs.Outside.{outside-ticked, aside-interrupted, outside-fed}
+use Rattle.task_table.specs.model.State.{Setup, State, Turn}
+use Rattle.task_table.specs.model.Events.{ticked, interrupted, fed}
+use Rattle.task_table.specs.model.Start.{begun}
+use Rattle.task_table.specs.model.Lives.{IsFresh}
+use Rattle.task_table.proofs.model.Moves.{plain_one, IsOutside, outside_here, outside_then}
+use Rattle.task_table.proofs.model.Outside.{outside-ticked, aside-interrupted, outside-fed}
 use Rattle.board_model.specs.Script.{Scenario}
 use Rattle.board_model.specs.Turn.{happened, after_events}
 

@@ -6,14 +6,14 @@ use Rattle.kernel_abi.specs.declared.Fault.{Fault}
 use Rattle.kernel_abi.specs.declared.Health.{Health}
 use Rattle.kernel_abi.specs.declared.Health.TheVariants.{Faulted}
 use Rattle.kernel_abi.specs.declared.Note.TheVariants as note
-use Rattle.task_table.specs.State.{Setup, State, Task, Listen, Turn}
-use Rattle.task_table.specs.Reading.{task_at, listen_of, IsIdle, IsSameAt, IsSameBut}
-use Rattle.task_table.specs.Effects.{with_task, without_call, without_listen, changed, noted, with_health, with_results, given, returned, bits_added, bits_cleared, woken_by, woken, posted, closed, faulted_as, faulted}
-use Rattle.task_table.specs.Start.{begun}
-use Rattle.task_table.specs.Step.{ReadsEntries}
-use Rattle.task_table.proofs.Changes.{task_at-with_task, call_of-with_task, listen_of-with_task, length-with_task, call_of-without_call, listen_of-without_call, call_of-without_listen, listen_of-without_listen, same_but-with_task, same_but-without_call, same_but-without_listen, same_but_then, task_at-without_call, task_at-without_listen}
-use Rattle.task_table.proofs.Frames.{same_but-posted}
-use Rattle.task_table.proofs.Moves.{aside-posted}
+use Rattle.task_table.specs.model.State.{Setup, State, Task, Listen, Turn}
+use Rattle.task_table.specs.model.Reading.{task_at, listen_of, IsIdle, IsSameAt, IsSameBut}
+use Rattle.task_table.specs.model.Effects.{with_task, without_call, without_listen, changed, noted, with_health, with_results, given, returned, bits_added, bits_cleared, woken_by, woken, posted, closed, faulted_as, faulted}
+use Rattle.task_table.specs.model.Start.{begun}
+use Rattle.task_table.specs.model.Step.{ReadsEntries}
+use Rattle.task_table.proofs.model.Changes.{task_at-with_task, call_of-with_task, listen_of-with_task, length-with_task, call_of-without_call, listen_of-without_call, call_of-without_listen, listen_of-without_listen, same_but-with_task, same_but-without_call, same_but-without_listen, same_but_then, task_at-without_call, task_at-without_listen}
+use Rattle.task_table.proofs.model.Frames.{same_but-posted}
+use Rattle.task_table.proofs.model.Moves.{aside-posted}
 use Rattle.board_model.specs.Faults.{IsSameButForFault}
 
 -- ## a post does the same to a task that is the same

@@ -4,15 +4,15 @@ use Rattle.kernel_abi.specs.declared.Fault.{Fault}
 use Rattle.kernel_abi.specs.declared.Health.{Health}
 use Rattle.kernel_abi.specs.declared.Health.TheVariants.{Well}
 use Rattle.words_core.specs.declared.Flags.{Flags}
-use Rattle.task_table.specs.State.{Setup, Task, Turn}
-use Rattle.task_table.specs.Reading.{task_at, is_ready}
-use Rattle.task_table.specs.Effects.{with_processor, faulted}
-use Rattle.task_table.specs.Syscalls.{syscall_made}
-use Rattle.task_table.specs.Sane.{Sane}
-use Rattle.task_table.specs.Step.{Outcome as Rows, Faults, Goes, GoesAfterRestart}
-use Rattle.task_table.proofs.Receives.{well-ready}
-use Rattle.task_table.proofs.RowChains.{comes-syscall_made}
-use Rattle.task_table.proofs.Spared.{left-processor, left-after_restart, left-chain}
+use Rattle.task_table.specs.model.State.{Setup, Task, Turn}
+use Rattle.task_table.specs.model.Reading.{task_at, is_ready}
+use Rattle.task_table.specs.model.Effects.{with_processor, faulted}
+use Rattle.task_table.specs.model.Syscalls.{syscall_made}
+use Rattle.task_table.specs.model.Sane.{Sane}
+use Rattle.task_table.specs.model.Step.{CallOutcome as Rows, Faults, Goes, GoesAfterRestart}
+use Rattle.task_table.proofs.model.Receives.{well-ready}
+use Rattle.task_table.proofs.model.RowChains.{comes-syscall_made}
+use Rattle.task_table.proofs.model.Spared.{left-processor, left-after_restart, left-chain}
 use Rattle.board_model.proofs.FaultFrames.{IsLoneFault, lone-faulted, lone_after}
 
 -- ## who is well stays so

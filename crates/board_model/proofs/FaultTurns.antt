@@ -10,15 +10,15 @@ use Rattle.kernel_abi.specs.declared.Note.TheVariants as note
 use Rattle.thumb_insn.specs.declared.Insn.{Insn}
 use Rattle.thumb_exec.specs.declared.fetch.Fetched.{Fetched}
 use Rattle.thumb_exec.specs.Effect.{Effect, Next, Syscall, Trap, Move}
-use Rattle.task_table.specs.State.{Setup, State, Read, Turn}
-use Rattle.task_table.specs.Reading.{task_at, call_of, listen_of, chosen, is_faulted}
-use Rattle.task_table.specs.Effects.{noted}
-use Rattle.task_table.specs.Rows.{syscall_noted}
-use Rattle.task_table.specs.Start.{begun}
-use Rattle.task_table.specs.Sane.{Sane}
-use Rattle.task_table.specs.Lives.{IsFresh}
-use Rattle.task_table.proofs.Receives.{well-ready}
-use Rattle.task_table.proofs.Sanity.{sane-current}
+use Rattle.task_table.specs.model.State.{Setup, State, Read, Turn}
+use Rattle.task_table.specs.model.Reading.{task_at, call_of, listen_of, chosen, is_faulted}
+use Rattle.task_table.specs.model.Effects.{noted}
+use Rattle.task_table.specs.model.Rows.{syscall_noted}
+use Rattle.task_table.specs.model.Start.{begun}
+use Rattle.task_table.specs.model.Sane.{Sane}
+use Rattle.task_table.specs.model.Lives.{IsFresh}
+use Rattle.task_table.proofs.model.Receives.{well-ready}
+use Rattle.task_table.proofs.model.Sanity.{sane-current}
 use Rattle.board_model.specs.declared.outcomes.Level.{Level}
 use Rattle.board_model.specs.declared.outcomes.Level.TheVariants.{Calls, All}
 use Rattle.board_model.specs.Script.{Scenario}

@@ -6,8 +6,8 @@ use Rattle.kernel_abi.specs.declared.FromIndex.TheVariants as from_index
 use Rattle.kernel_abi.specs.declared.Note.{Note}
 use Rattle.kernel_abi.specs.declared.Note.TheVariants as note
 use Rattle.run_script.specs.declared.events.Event.TheVariants.{Tick, Irq}
-use Rattle.task_table.specs.State.{Setup}
-use Rattle.task_table.specs.Start.{start}
+use Rattle.task_table.specs.model.State.{Setup}
+use Rattle.task_table.specs.model.Start.{start}
 use Rattle.board_model.specs.declared.outcomes.End.TheVariants.{Bound}
 use Rattle.board_model.specs.declared.outcomes.Level.TheVariants.{Calls}
 use Rattle.board_model.specs.Script.{Scenario}

@@ -13,11 +13,11 @@ use Rattle.thumb_exec.specs.declared.fetch.Fetched.{Fetched}
 use Rattle.thumb_exec.specs.Fetch.{instruction, unless_barred, after, fetched_wide, fetched_by, fetched}
 use Rattle.thumb_exec.specs.Keeps.{Agree}
 use Rattle.thumb_exec.proofs.Agreeing.{effect_same}
-use Rattle.task_table.specs.State.{Setup, Turn}
-use Rattle.task_table.specs.Reading.{task_at, register}
-use Rattle.task_table.specs.Effects.{with_processor, faulted}
-use Rattle.task_table.specs.Rows.{syscall_noted}
-use Rattle.task_table.specs.Syscalls.{syscall_made}
+use Rattle.task_table.specs.model.State.{Setup, Turn}
+use Rattle.task_table.specs.model.Reading.{task_at, register}
+use Rattle.task_table.specs.model.Effects.{with_processor, faulted}
+use Rattle.task_table.specs.model.Rows.{syscall_noted}
+use Rattle.task_table.specs.model.Syscalls.{syscall_made}
 use Rattle.board_model.specs.declared.outcomes.Level.{Level}
 use Rattle.board_model.specs.Turn.{refusals, held, cpu_of, moved, acted, executed, noted_at, stepped_by, stepped}
 

@@ -1,9 +1,8 @@
 -- The run of an arrival time goes on from that of a later one; and runs of two arrival times that meet end alike.
-use Rattle.std.proofs.Common.{◌≡◌, ◌∙◌, ℕ, zero, suc, ◌+◌, ◌≤◌, true, List, Option, Some, None, refl, sym, ap, subst, arith}
-use Rattle.kernel_abi.specs.declared.Note.{Note}
+use Rattle.std.proofs.Common.{◌≡◌, ◌∙◌, ℕ, zero, suc, ◌+◌, ◌≤◌, true, List, Option, Some, None, sym, ap, arith}
 use Rattle.run_script.specs.Scripts.{Listed}
-use Rattle.task_table.specs.State.{State}
-use Rattle.task_table.specs.Sane.{Sane}
+use Rattle.task_table.specs.model.State.{State}
+use Rattle.task_table.specs.model.Sane.{Sane}
 use Rattle.board_model.specs.declared.outcomes.Level.{Level}
 use Rattle.board_model.specs.declared.outcomes.End.{End}
 use Rattle.board_model.specs.declared.outcomes.End.TheVariants.{Bound}
@@ -16,8 +15,8 @@ use Rattle.board_model.proofs.Counts.{turn_more}
 use Rattle.board_model.proofs.TurnChains.{sane-after}
 use Rattle.board_model.proofs.AlikeRuns.{reduced-run}
 use Rattle.board_model.proofs.RunCuts.{cut}
-use Rattle.board_model.specs.Laid.{with_script, laid, arriving, is_over}
-use Rattle.board_model.specs.SameScripts.{AgreeFor, EndAlike}
+use Rattle.board_model.specs.Laid.{laid, arriving, is_over}
+use Rattle.board_model.specs.SameScripts.{EndAlike}
 use Rattle.board_model.proofs.SameScripts.{same_run}
 use Rattle.board_model.proofs.Laid.{agree_before, agree_after}
 

@@ -1,6 +1,6 @@
 -- Turns after turns.
 use Rattle.std.proofs.Common.{◌≡◌, ◌+◌, ℕ, zero, suc, refl, ◌∙◌, ap, arith}
-use Rattle.task_table.specs.State.{State, Turn}
+use Rattle.task_table.specs.model.State.{State, Turn}
 use Rattle.board_model.specs.declared.outcomes.Level.{Level}
 use Rattle.board_model.specs.Script.{Scenario}
 use Rattle.board_model.specs.Turn.{turn}

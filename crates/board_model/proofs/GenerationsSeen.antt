@@ -2,9 +2,9 @@
 use Rattle.std.proofs.Common.{◌≡◌, ◌∙◌, ℕ, ◌%◌, not, ◌&&◌, Option, Some, None, refl, ap}
 use Rattle.std.specs.Prelude.{is_none}
 use Rattle.words_core.specs.Regs.{program_counter}
-use Rattle.task_table.specs.State.{State, Task}
-use Rattle.task_table.specs.Reading.{is_faulted}
-use Rattle.task_table.specs.Start.{begun}
+use Rattle.task_table.specs.model.State.{State, Task}
+use Rattle.task_table.specs.model.Reading.{is_faulted}
+use Rattle.task_table.specs.model.Start.{begun}
 use Rattle.run_script.specs.Scripts.{lasts}
 use Rattle.board_model.specs.declared.outcomes.Turned.TheVariants.{Ran}
 use Rattle.board_model.specs.Script.{Scenario}

@@ -4,7 +4,7 @@ use Rattle.std.specs.Prelude.{option_map}
 use Rattle.std.proofs.lemmas.Bool.{leb-true}
 use Rattle.kernel_abi.specs.Devices.{behind, device_at, device_number, device_start, device_end, looked, offset_in}
 use Rattle.mem_banks.specs.Memory.{Memory, bytes_at, number_at, number_of}
-use Rattle.task_table.specs.State.{State}
+use Rattle.task_table.specs.model.State.{State}
 use Rattle.board_model.specs.Turn.{held, is_device, or_zero}
 
 pub no_device_below : (a : ℕ) → a < 0x40000000 → is_device a ≡ false

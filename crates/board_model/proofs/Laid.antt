@@ -1,13 +1,12 @@
 -- Before an arrival comes, and once it is over, the same happens as without it, or at any other time.
-use Rattle.std.proofs.Common.{◌≡◌, ◌∙◌, ℕ, zero, suc, ◌+◌, ◌<◌, ◌≤◌, Bool, true, false, List, [], ◌∷◌, ◌++◌, refl, sym, ap, subst, arith}
+use Rattle.std.proofs.Common.{◌≡◌, ◌∙◌, ℕ, ◌+◌, ◌<◌, ◌≤◌, Bool, true, false, List, [], ◌∷◌, ◌++◌, refl, sym, ap, arith}
 use Rattle.std.proofs.lemmas.Bool.{and_parts}
-use Rattle.std.specs.Prelude.{◌&&◌, ◌||◌, nat_le, nat_lt, filter, map, is_some}
+use Rattle.std.specs.Prelude.{◌||◌, nat_le, nat_lt, filter, map, is_some}
 use Rattle.std.specs.List.{list_any, list_all}
 use Rattle.std.proofs.lemmas.Bool.Decides.{nat_tests}
 use Rattle.std.proofs.lemmas.List.{append-nil}
 use Rattle.std.proofs.lemmas.List.Elements.{filter-append}
 use Rattle.std.proofs.lemmas.List.Folds.{list_any-append}
-use Rattle.run_script.specs.declared.events.Event.{Event}
 use Rattle.run_script.specs.Scripts.{Listed, ScriptData, events_of, lasts, is_of, ticks_of}
 use Rattle.board_model.specs.Laid.{postponed, laid, is_over}
 use Rattle.board_model.specs.SameScripts.{AgreeFor}

@@ -31,7 +31,7 @@ pub mod Births
 pub mod AlikeRows
 pub mod AlikeSends
 pub mod AlikeBorrows
-pub mod AlikeOrders
+pub mod AlikeRequests
 pub mod AlikeSyscalls
 pub mod Following
 pub mod AlikeTurns
@@ -52,3 +52,4 @@ pub mod GenerationsSeen
 pub mod Laid
 pub mod SameScripts
 pub mod Forks
+pub mod SameTurn

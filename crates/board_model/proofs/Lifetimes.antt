@@ -1,20 +1,20 @@
 -- Every write of a turn stands on its ground, and the ledger of a run is right.
 use Rattle.kernel_abi.specs.Devices.{DeviceData}
 use Rattle.std.proofs.Common.{◌≡◌, ◌+◌, ℕ, List, [], Option, Some, None, refl, sym, subst, ◌∙◌, ap, arith, inl, inr, IfSome}
-use Rattle.task_table.specs.State.{Setup, State, Turn}
-use Rattle.task_table.specs.Reading.{chosen}
-use Rattle.task_table.specs.Start.{start}
-use Rattle.task_table.specs.Placed.{ArePlaced}
-use Rattle.task_table.specs.Sane.{Sane}
-use Rattle.task_table.specs.Grounds.{AreGrounded, AreGranted, AreAlive, IsAlive, call_of_ground, touched, with_writes}
-use Rattle.task_table.specs.Chain.{Chain, Here}
-use Rattle.task_table.specs.Step.{Step}
-use Rattle.task_table.specs.Lives.{IsAsNoted, IsFresh, IsClosed}
-use Rattle.task_table.proofs.Grounding.{IsHonest, honest_same, honest_alive, chain_honest}
-use Rattle.task_table.proofs.Writing.{chain_written}
-use Rattle.task_table.proofs.Closing.{NoneReopened, fresh_reopened, chain_reopened, closed_stays, same_some, none_some}
-use Rattle.task_table.proofs.Lives.{as_noted-ledger}
-use Rattle.task_table.proofs.Ledgers.{as_noted-start, as_noted-aside, as_noted-same, chain_as_noted}
+use Rattle.task_table.specs.model.State.{Setup, State, Turn}
+use Rattle.task_table.specs.model.Reading.{chosen}
+use Rattle.task_table.specs.model.Start.{start}
+use Rattle.task_table.specs.model.Placed.{ArePlaced}
+use Rattle.task_table.specs.model.Sane.{Sane}
+use Rattle.task_table.specs.model.Grounds.{AreGrounded, AreGranted, AreAlive, IsAlive, call_of_ground, touched, with_writes}
+use Rattle.task_table.specs.model.Chain.{Chain, Here}
+use Rattle.task_table.specs.model.Step.{Step}
+use Rattle.task_table.specs.model.Lives.{IsAsNoted, IsFresh, IsClosed}
+use Rattle.task_table.proofs.model.Grounding.{IsHonest, honest_same, honest_alive, chain_honest}
+use Rattle.task_table.proofs.model.Writing.{chain_written}
+use Rattle.task_table.proofs.model.Closing.{NoneReopened, fresh_reopened, chain_reopened, closed_stays, same_some, none_some}
+use Rattle.task_table.proofs.model.Lives.{as_noted-ledger}
+use Rattle.task_table.proofs.model.Ledgers.{as_noted-start, as_noted-aside, as_noted-same, chain_as_noted}
 use Rattle.board_model.specs.declared.outcomes.Level.{Level}
 use Rattle.board_model.specs.Script.{Scenario, start_of}
 use Rattle.board_model.specs.Turn.{after_events, with_current, turn_of, ended, turn}

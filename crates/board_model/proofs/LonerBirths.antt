@@ -4,12 +4,12 @@ use Rattle.std.specs.List.{range_with_len}
 use Rattle.kernel_abi.specs.declared.Ending.TheVariants.{Restart}
 use Rattle.kernel_abi.specs.declared.Health.TheVariants.{Well, Stopped}
 use Rattle.kernel_abi.specs.declared.Note.TheVariants as note
-use Rattle.task_table.specs.State.{Setup, TaskSetup, State, Task, Turn}
-use Rattle.task_table.specs.Reading.{task_at, setup_at, call_of, listen_of, no_task, chosen}
-use Rattle.task_table.specs.Effects.{without_call, without_listen, changed, given, past_syscall, closed, at_birth, reborn, restarted}
-use Rattle.task_table.specs.Rows.{goes_on_with}
-use Rattle.task_table.specs.Start.{born, start}
-use Rattle.task_table.proofs.Changes.{task_at-with_task, call_of-with_task, listen_of-with_task, call_of-without_call, listen_of-without_listen, call_of-without_listen}
+use Rattle.task_table.specs.model.State.{Setup, TaskSetup, State, Task, Turn}
+use Rattle.task_table.specs.model.Reading.{task_at, setup_at, call_of, listen_of, no_task, chosen}
+use Rattle.task_table.specs.model.Effects.{without_call, without_listen, changed, given, past_syscall, closed, at_birth, reborn, restarted}
+use Rattle.task_table.specs.model.Rows.{goes_on_with}
+use Rattle.task_table.specs.model.Start.{born, start}
+use Rattle.task_table.proofs.model.Changes.{task_at-with_task, call_of-with_task, listen_of-with_task, call_of-without_call, listen_of-without_listen, call_of-without_listen}
 use Rattle.board_model.specs.declared.outcomes.Level.{Level}
 use Rattle.board_model.specs.Script.{Scenario}
 use Rattle.board_model.specs.Turn.{stepped, after_events, with_current, with_registers_noted, turn}

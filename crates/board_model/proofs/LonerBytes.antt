@@ -6,14 +6,14 @@ use Rattle.region_check.specs.declared.Region.{Region}
 use Rattle.region_check.specs.declared.Right.TheVariants as right
 use Rattle.region_check.specs.Rights.{is_inside, gives_copy}
 use Rattle.mem_banks.specs.Memory.{Memory, byte_at, with_bytes, IsWithinRam}
-use Rattle.task_table.specs.State.{Setup, State, Ground, Own, Message, Reply, Lease, Write as Written, Turn}
-use Rattle.task_table.specs.Reading.{setup_at, IsIdle}
-use Rattle.task_table.specs.Placed.{ArePlaced}
-use Rattle.task_table.specs.Grounds.{MayWrite, MayChange, AreGrounded, with_writes}
-use Rattle.task_table.proofs.Keeps.{idle_call, idle_listen}
-use Rattle.task_table.proofs.Ranges.{within_ram-given}
-use Rattle.task_table.proofs.Steps.{length-with_bytes}
-use Rattle.task_table.proofs.Writing.{over, with_over}
+use Rattle.task_table.specs.model.State.{Setup, State, Ground, Own, Message, Reply, Lease, Write as Written, Turn}
+use Rattle.task_table.specs.model.Reading.{setup_at, IsIdle}
+use Rattle.task_table.specs.model.Placed.{ArePlaced}
+use Rattle.task_table.specs.model.Grounds.{MayWrite, MayChange, AreGrounded, with_writes}
+use Rattle.task_table.proofs.model.Keeps.{idle_call, idle_listen}
+use Rattle.task_table.proofs.model.Ranges.{within_ram-given}
+use Rattle.task_table.proofs.model.Writing.{over, with_over}
+use Rattle.mem_banks.proofs.Stores.{length-with_bytes}
 use Rattle.board_model.proofs.Views.{any_in}
 use Rattle.board_model.specs.Loners.{IsLoner, owns}
 

@@ -10,13 +10,13 @@ use Rattle.mem_banks.specs.Memory.{byte_at}
 use Rattle.run_script.specs.declared.events.Event.{Event}
 use Rattle.run_script.specs.declared.events.Event.TheVariants.{Tick, Irq, Feed}
 use Rattle.run_script.specs.Scripts.{events_of}
-use Rattle.task_table.specs.State.{Setup, LineSetup, State, Turn}
-use Rattle.task_table.specs.Reading.{task_at, line_at, line_off, chosen, IsIdle}
-use Rattle.task_table.specs.Effects.{noted, posted, with_timer, with_line, clocked, with_devices}
-use Rattle.task_table.specs.Events.{expired_by, expired, ticked, owner_of, interrupted_by, interrupted, fed}
-use Rattle.task_table.specs.Start.{begun}
-use Rattle.task_table.specs.Sane.{Sane}
-use Rattle.task_table.specs.Grounds.{with_writes}
+use Rattle.task_table.specs.model.State.{Setup, LineSetup, State, Turn}
+use Rattle.task_table.specs.model.Reading.{task_at, line_at, line_off, chosen, IsIdle}
+use Rattle.task_table.specs.model.Effects.{noted, posted, with_timer, with_line, clocked, with_devices}
+use Rattle.task_table.specs.model.Events.{expired_by, expired, ticked, owner_of, interrupted_by, interrupted, fed}
+use Rattle.task_table.specs.model.Start.{begun}
+use Rattle.task_table.specs.model.Sane.{Sane}
+use Rattle.task_table.specs.model.Grounds.{with_writes}
 use Rattle.board_model.specs.declared.outcomes.Level.{Level}
 use Rattle.board_model.specs.declared.outcomes.Level.TheVariants.{Calls, All}
 use Rattle.board_model.specs.Script.{Scenario}

@@ -5,10 +5,10 @@ use Rattle.kernel_abi.specs.declared.Health.TheVariants.{Well}
 use Rattle.region_check.specs.declared.Region.{Region}
 use Rattle.region_check.specs.Rights.{is_inside}
 use Rattle.mem_banks.specs.Memory.{byte_at}
-use Rattle.task_table.specs.State.{Setup, State, Turn}
-use Rattle.task_table.specs.Reading.{task_at, IsIdle}
-use Rattle.task_table.specs.Effects.{at_birth}
-use Rattle.task_table.specs.Sane.{Sane}
+use Rattle.task_table.specs.model.State.{Setup, State, Turn}
+use Rattle.task_table.specs.model.Reading.{task_at, IsIdle}
+use Rattle.task_table.specs.model.Effects.{at_birth}
+use Rattle.task_table.specs.model.Sane.{Sane}
 use Rattle.board_model.specs.declared.outcomes.Level.{Level}
 use Rattle.board_model.specs.Script.{Scenario}
 use Rattle.board_model.specs.Turn.{turn}
@@ -16,7 +16,7 @@ use Rattle.board_model.specs.Run.{turn_after, state_after}
 use Rattle.board_model.proofs.Further.{last_turn}
 use Rattle.board_model.proofs.TurnChains.{sane-after}
 use Rattle.board_model.specs.Loners.{IsLoner, owns, HaveSameBytes, HaveSameOwn, IsUntouched}
-use Rattle.board_model.specs.LonerTurns.{IsOwnTurn, IsToItself, Lives, Begins, Waits, Runs, AreBornAlike, is_task, is_own_turn, own_count, GoesByItself}
+use Rattle.board_model.specs.LonerTurns.{IsOwnTurn, IsToItself, LivesAlone, Begins, Waits, Runs, AreBornAlike, is_task, is_own_turn, own_count, GoesByItself}
 use Rattle.board_model.proofs.LonerFrame.{untouched_here, untouched_then, alone-turn, bytes-turn}
 use Rattle.board_model.proofs.LonerOwnTurns.{same_regions, same_any, own_turns}
 
@@ -32,7 +32,7 @@ still_then : (g : Setup) (i : ℕ) (s u v : State) → IsStill g i s u → IsSti
 still_then g i s u v a b = record { same = untouched_then s u v i a.same b.same; bytes = λ at own. b.bytes at own ∙ a.bytes at own }
 
 module _ (level : Level) (x : Scenario) (i : ℕ) (loner : IsLoner x.setup i) (s : State) (h : Sane x.setup s) (idle : IsIdle s i) where
-  sane_lives : (k : ℕ) (z : State) → Lives level x i s k z → Sane x.setup z
+  sane_lives : (k : ℕ) (z : State) → LivesAlone level x i s k z → Sane x.setup z
   sane_lives _ _ Begins = h
   sane_lives _ _ (Waits k z life other itself) = sane-after level x z (sane_lives k z life)
   sane_lives _ _ (Runs k z life own itself) = sane-after level x z (sane_lives k z life)
@@ -43,7 +43,7 @@ module _ (level : Level) (x : Scenario) (i : ℕ) (loner : IsLoner x.setup i) (s
       let same : IsUntouched z i (turn level x z).state = elim (alone-turn z i level x sane waits other) [ inl struck ↦ absurd (itself.not_struck struck) | inr same ↦ same ] in
       record { same = same; bytes = bytes-turn z i level x sane waits other loner }
 
-  idle_lives : (k : ℕ) (z : State) → Lives level x i s k z → IsIdle z i
+  idle_lives : (k : ℕ) (z : State) → LivesAlone level x i s k z → IsIdle z i
   idle_lives _ _ Begins = idle
   idle_lives _ _ (Waits k z life other itself) = (still_turn z (sane_lives k z life) (idle_lives k z life) other itself).same.idle
   idle_lives _ _ (Runs k z life own itself) =
@@ -52,7 +52,7 @@ module _ (level : Level) (x : Scenario) (i : ℕ) (loner : IsLoner x.setup i) (s
       (own_turns level level x x i i z z record { loners = (loner, loner); regions = same_regions x.setup i; registers = refl; flags = refl; bytes = λ a mine. refl; idle = (waits, waits) } sane sane own own itself).1
 
   -- before its first own turn
-  still_first : (k : ℕ) (z : State) → Lives level x i s k z → k ≡ 0 → IsStill x.setup i s z
+  still_first : (k : ℕ) (z : State) → LivesAlone level x i s k z → k ≡ 0 → IsStill x.setup i s z
   still_first _ _ Begins e = still_here x.setup i s idle
   still_first _ _ (Waits k z life other itself) e = still_then x.setup i s z _ (still_first k z life e) (still_turn z (sane_lives k z life) (idle_lives k z life) other itself)
   still_first _ _ (Runs k z life own itself) e = absurd (omega (arith, e))
@@ -60,12 +60,12 @@ module _ (level : Level) (x : Scenario) (i : ℕ) (loner : IsLoner x.setup i) (s
   -- its last own turn, and what came after it
   record IsLast (k : ℕ) (z : State) : Type 0 where
     from : State
-    life : Lives level x i s k from
+    life : LivesAlone level x i s k from
     own : IsOwnTurn x i from
     itself : IsToItself i (turn level x from).notes
     still : IsStill x.setup i (turn level x from).state z
 
-  last_run : (k n : ℕ) (z : State) → Lives level x i s n z → n ≡ suc k → IsLast k z
+  last_run : (k n : ℕ) (z : State) → LivesAlone level x i s n z → n ≡ suc k → IsLast k z
   last_run k _ _ Begins e = absurd (omega (arith, e))
   last_run k _ _ (Waits n z life other itself) e =
       let r = last_run k n z life e in
@@ -74,7 +74,7 @@ module _ (level : Level) (x : Scenario) (i : ℕ) (loner : IsLoner x.setup i) (s
       let same : n ≡ k = omega (arith, e) in
       record {
         from = z;
-        life = subst (λ m. Lives level x i s m z) same life;
+        life = subst (λ m. LivesAlone level x i s m z) same life;
         own = own;
         itself = itself;
         still = still_here x.setup i (turn level x z).state (idle_lives (suc n) (turn level x z).state (Runs n z life own itself));
@@ -93,7 +93,7 @@ module _ (level other : Level) (x y : Scenario) (i j : ℕ) (s u : State) (born 
   owned_too : (a : ℕ) → owns x.setup i a ≡ true → owns y.setup j a ≡ true
   owned_too a e = sym (same_any (λ (r : Region). is_inside r a) x.setup y.setup i j born.made.regions) ∙ e
 
-  alike_after : (k : ℕ) (z v : State) → Lives level x i s k z → Lives other y j u k v → AreAlikeAfter x.setup i j k z v
+  alike_after : (k : ℕ) (z v : State) → LivesAlone level x i s k z → LivesAlone other y j u k v → AreAlikeAfter x.setup i j k z v
   alike_after zero z v one two =
       let a = still_first level x i born.loners.0 s born.sane.0 born.born.0.idle 0 z one refl in
       let b = still_first other y j born.loners.1 u born.sane.1 born.born.1.idle 0 v two refl in
@@ -121,7 +121,7 @@ module _ (level other : Level) (x y : Scenario) (i j : ℕ) (s u : State) (born 
         health = λ some. a.still.same.health ∙ after.health ∙ sym b.still.same.health;
       }
 
-  pub same_after : (k : ℕ) (z v : State) → Lives level x i s (suc k) z → Lives other y j u (suc k) v → HaveSameOwn x.setup i j z v
+  pub same_after : (k : ℕ) (z v : State) → LivesAlone level x i s (suc k) z → LivesAlone other y j u (suc k) v → HaveSameOwn x.setup i j z v
   same_after k z v one two =
       let r = alike_after (suc k) z v one two in
       record { registers = r.registers; flags = r.flags; health = r.health (omega arith); bytes = r.bytes }
@@ -143,7 +143,7 @@ no_turns : (level : Level) (x : Scenario) (s : State) → state_after level x ze
 unfolding state_after
 no_turns level x s = refl
 
-pub lives_after : (level : Level) (x : Scenario) (i : ℕ) (s : State) (n : ℕ) → GoesByItself level x i s n → Lives level x i s (own_count level x i s n) (state_after level x n s)
+pub lives_after : (level : Level) (x : Scenario) (i : ℕ) (s : State) (n : ℕ) → GoesByItself level x i s n → LivesAlone level x i s (own_count level x i s n) (state_after level x n s)
 unfolding own_count
 lives_after level x i s zero itself = rw (no_turns level x s) Begins
 lives_after level x i s (suc n) itself =
@@ -152,7 +152,7 @@ lives_after level x i s (suc n) itself =
     let next : state_after level x (suc n) s ≡ (turn level x z).state = after_is level x n s ∙ ap (λ (t : Turn). t.state) now in
     rw next (by_own (is_own_turn x i z) refl (lives_after level x i s n (λ m lt. itself m (omega arith))) (subst (λ (t : Turn). IsToItself i t.notes) now (itself n (omega arith))))
   where
-    by_own : (b : Bool) → is_own_turn x i (state_after level x n s) ≡ b → Lives level x i s (own_count level x i s n) (state_after level x n s) → IsToItself i (turn level x (state_after level x n s)).notes → Lives level x i s (own_count level x i s n + cond b 1 0) (turn level x (state_after level x n s)).state
+    by_own : (b : Bool) → is_own_turn x i (state_after level x n s) ≡ b → LivesAlone level x i s (own_count level x i s n) (state_after level x n s) → IsToItself i (turn level x (state_after level x n s)).notes → LivesAlone level x i s (own_count level x i s n + cond b 1 0) (turn level x (state_after level x n s)).state
     by_own true e life itself =
         let one : own_count level x i s n + 1 ≡ suc (own_count level x i s n) = omega arith in
         rw one (Runs _ (state_after level x n s) life (mine_is i _ e) itself)
@@ -163,5 +163,5 @@ lives_after level x i s (suc n) itself =
 module _ (level other : Level) (x y : Scenario) (i j : ℕ) (s u : State) (born : AreBornAlike x y i j s u) where
   pub same_in_runs : (n m : ℕ) → GoesByItself level x i s n → GoesByItself other y j u m → 0 < own_count level x i s n → own_count other y j u m ≡ own_count level x i s n → HaveSameOwn x.setup i j (state_after level x n s) (state_after other y m u)
   same_in_runs n m itself itself_too some same =
-      let r = alike_after level other x y i j s u born (own_count level x i s n) (state_after level x n s) (state_after other y m u) (lives_after level x i s n itself) (subst (λ k. Lives other y j u k (state_after other y m u)) same (lives_after other y j u m itself_too)) in
+      let r = alike_after level other x y i j s u born (own_count level x i s n) (state_after level x n s) (state_after other y m u) (lives_after level x i s n itself) (subst (λ k. LivesAlone other y j u k (state_after other y m u)) same (lives_after other y j u m itself_too)) in
       record { registers = r.registers; flags = r.flags; health = r.health some; bytes = r.bytes }

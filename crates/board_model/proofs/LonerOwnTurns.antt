@@ -10,13 +10,13 @@ use Rattle.region_check.specs.declared.Right.{Right}
 use Rattle.region_check.specs.declared.Right.TheVariants.{Write}
 use Rattle.region_check.specs.Rights.{is_inside, has_right, gives}
 use Rattle.mem_banks.specs.Memory.{Memory, IsWithin, IsWithinRam}
-use Rattle.task_table.specs.State.{Setup, State, Turn}
-use Rattle.task_table.specs.Reading.{task_at, setup_at, call_of, listen_of, chosen, IsIdle}
-use Rattle.task_table.specs.Effects.{noted}
-use Rattle.task_table.specs.Placed.{ArePlaced}
-use Rattle.task_table.specs.Sane.{Sane}
-use Rattle.task_table.proofs.Receives.{well-ready}
-use Rattle.task_table.proofs.Sanity.{sane-current}
+use Rattle.task_table.specs.model.State.{Setup, State, Turn}
+use Rattle.task_table.specs.model.Reading.{task_at, setup_at, call_of, listen_of, chosen, IsIdle}
+use Rattle.task_table.specs.model.Effects.{noted}
+use Rattle.task_table.specs.model.Placed.{ArePlaced}
+use Rattle.task_table.specs.model.Sane.{Sane}
+use Rattle.task_table.proofs.model.Receives.{well-ready}
+use Rattle.task_table.proofs.model.Sanity.{sane-current}
 use Rattle.board_model.specs.declared.outcomes.Level.{Level}
 use Rattle.board_model.specs.declared.outcomes.Level.TheVariants.{Calls, All}
 use Rattle.board_model.specs.Script.{Scenario}

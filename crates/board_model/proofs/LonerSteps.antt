@@ -16,22 +16,22 @@ use Rattle.kernel_abi.specs.declared.Note.TheVariants as note
 use Rattle.kernel_abi.specs.declared.Timer.{Timer}
 use Rattle.task_table.specs.declared.Line.{Line}
 use Rattle.task_table.specs.declared.slot.Slice.{Slice}
-use Rattle.task_table.specs.State.{Setup, State, Task, Call, Listen, Ground, Own, Message, Turn}
-use Rattle.task_table.specs.Reading.{task_at, no_task, call_of, listen_of, admits, IsIdle}
-use Rattle.task_table.specs.Effects.{with_task, without_call, without_listen, with_listen, with_taken, taken_from, with_call, changed, noted, with_processor, with_health, stored, copied, looked, given, returned, past_syscall, bits_added, bits_cleared, woken_by, woken, posted, with_timer, with_line, closed, faulted_as, offered, handed, reborn, is_to, awaits, dead_answered, restarted, with_devices}
-use Rattle.task_table.specs.Sends.{taken_at_once, offers_call}
-use Rattle.task_table.specs.Chain.{Chain}
-use Rattle.task_table.specs.Counts.{AreNoted}
-use Rattle.task_table.specs.Step.{IsParty, Step, Notes, Gives, Returns, PassesSyscall, Runs, Clears, Posts, Times, Lines, Listens, Sends, Receives, Stores, Copies, Looks, Borrows, Ceases, Halts, Strikes, Restarts, Reaches}
-use Rattle.task_table.proofs.Chains.{chain_keeps}
-use Rattle.task_table.proofs.Changes.{task_at-with_task_other, call_of-with_task, listen_of-with_task}
-use Rattle.task_table.proofs.Clients.{option_cases, found_call, client_is}
-use Rattle.task_table.proofs.Keeps.{added_in, map_in, idle_call, idle_listen, dropped_call, dropped_listen}
-use Rattle.task_table.proofs.Moves.{aside-posted}
-use Rattle.task_table.proofs.Noting.{step_noted}
-use Rattle.task_table.proofs.Posting.{found_listen}
+use Rattle.task_table.specs.model.State.{Setup, State, Task, Call, Listen, Ground, Own, Message, Turn}
+use Rattle.task_table.specs.model.Reading.{task_at, no_task, call_of, listen_of, admits, IsIdle}
+use Rattle.task_table.specs.model.Effects.{with_task, without_call, without_listen, with_listen, with_taken, taken_from, with_call, changed, noted, with_processor, with_health, stored, copied, looked, given, returned, past_syscall, bits_added, bits_cleared, woken_by, woken, posted, with_timer, with_line, closed, faulted_as, offered, handed, reborn, is_to, awaits, dead_answered, restarted, with_devices}
+use Rattle.task_table.specs.model.Sends.{taken_at_once, offers_call}
+use Rattle.task_table.specs.model.Chain.{Chain}
+use Rattle.task_table.specs.model.Counts.{AreNoted}
+use Rattle.task_table.specs.model.Step.{IsParty, Step, Notes, Gives, Returns, PassesSyscall, Runs, Clears, Posts, Times, Lines, Listens, Sends, Receives, Stores, Copies, Looks, Borrows, Ceases, Halts, Strikes, Restarts, Reaches}
+use Rattle.task_table.proofs.model.Chains.{chain_keeps}
+use Rattle.task_table.proofs.model.Changes.{task_at-with_task_other, call_of-with_task, listen_of-with_task}
+use Rattle.task_table.proofs.model.Clients.{option_cases, found_call, client_is}
+use Rattle.task_table.proofs.model.Keeps.{added_in, map_in, idle_call, idle_listen, dropped_call, dropped_listen}
+use Rattle.task_table.proofs.model.Moves.{aside-posted}
+use Rattle.task_table.proofs.model.Noting.{step_noted}
+use Rattle.task_table.proofs.model.Posting.{found_listen}
 use Rattle.board_model.specs.Loners.{IsUntouched, IsStruck}
-use Rattle.task_table.proofs.Waiting.{no_some}
+use Rattle.task_table.proofs.model.Waiting.{no_some}
 
 -- unless it was struck it is as before
 abbrev pub IsLeftAlone : State → ℕ → Turn → Type 0

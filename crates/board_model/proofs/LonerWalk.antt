@@ -21,19 +21,19 @@ use Rattle.thumb_exec.specs.Fetch.{fetched}
 use Rattle.thumb_exec.specs.declared.fetch.Fetched.{Fetched}
 use Rattle.thumb_exec.specs.Keeps.{IsPermittedTo, IsPermitted, Keeps, Agree}
 use Rattle.thumb_exec.proofs.Agreeing.{effect_same}
-use Rattle.task_table.specs.State.{Setup, State, Task, Own, Turn}
-use Rattle.task_table.specs.Reading.{task_at, register, call_of, listen_of, is_ready, IsIdle}
-use Rattle.task_table.specs.Effects.{with_task, noted, with_processor, stored, faulted, with_devices, device_taken}
-use Rattle.task_table.specs.Rows.{syscall_noted, panicked}
-use Rattle.task_table.specs.Syscalls.{syscall_made}
-use Rattle.task_table.specs.Sane.{Sane}
-use Rattle.task_table.specs.Step.{Step}
-use Rattle.task_table.proofs.Chains.{chain_keeps}
-use Rattle.task_table.proofs.Changes.{task_at-with_task, length-with_task, call_of-with_task, listen_of-with_task}
-use Rattle.task_table.proofs.Counting.{time-faulted}
-use Rattle.task_table.proofs.Noting.{step_noted}
-use Rattle.task_table.proofs.RowChains.{chain-syscall_made}
-use Rattle.task_table.proofs.Steps.{length-with_bytes}
+use Rattle.task_table.specs.model.State.{Setup, State, Task, Own, Turn}
+use Rattle.task_table.specs.model.Reading.{task_at, register, call_of, listen_of, is_ready, IsIdle}
+use Rattle.task_table.specs.model.Effects.{with_task, noted, with_processor, stored, faulted, with_devices, device_taken}
+use Rattle.task_table.specs.model.Rows.{syscall_noted, panicked}
+use Rattle.task_table.specs.model.Syscalls.{syscall_made}
+use Rattle.task_table.specs.model.Sane.{Sane}
+use Rattle.task_table.specs.model.Step.{Step}
+use Rattle.task_table.proofs.model.Chains.{chain_keeps}
+use Rattle.task_table.proofs.model.Changes.{task_at-with_task, length-with_task, call_of-with_task, listen_of-with_task}
+use Rattle.task_table.proofs.model.Counting.{time-faulted}
+use Rattle.task_table.proofs.model.Noting.{step_noted}
+use Rattle.task_table.proofs.model.RowChains.{chain-syscall_made}
+use Rattle.mem_banks.proofs.Stores.{length-with_bytes}
 use Rattle.board_model.specs.declared.outcomes.Level.{Level}
 use Rattle.board_model.specs.Turn.{may, refusals, is_device, held, cpu_of, put, took, moved, acted, executed, noted_at, stepped_by, stepped}
 use Rattle.board_model.proofs.FaultFrames.{task-faulted, lone-faulted}

@@ -1,17 +1,17 @@
--- A turn that notes nothing leaves each task as ready as it was, so the choice stands.
-use Rattle.std.proofs.Common.{◌≡◌, ◌+◌, ◌-◌, ℕ, suc, Bool, true, cond, not, ◌&&◌, ◌||◌, List, [], ◌∷◌, ◌++◌, length, Option, Some, None, refl, sym, ◌∙◌, ap, arith, leb}
+-- A turn that notes nothing after its events leaves each task as ready as it was, so the choice stands.
+use Rattle.std.proofs.Common.{◌≡◌, ◌+◌, ◌-◌, ◌≤◌, ℕ, suc, Bool, true, cond, not, ◌&&◌, ◌||◌, List, [], ◌∷◌, ◌++◌, length, Option, Some, None, refl, sym, ◌∙◌, ap, arith, leb}
 use Rattle.std.specs.Prelude.{find}
 use Rattle.std.specs.List.{range_with_len, list_all}
 use Rattle.kernel_abi.specs.declared.Note.TheVariants as note
 use Rattle.words_core.specs.declared.Flags.{Flags}
-use Rattle.task_table.specs.State.{Setup, State, Turn}
-use Rattle.task_table.specs.Reading.{task_at, call_of, listen_of, chosen, qualifies, around, is_ready, is_faulted, priority}
-use Rattle.task_table.specs.Effects.{noted, with_processor, with_devices}
-use Rattle.task_table.specs.Events.{fed}
-use Rattle.task_table.specs.Counts.{IsAsReady}
-use Rattle.task_table.specs.Sane.{Sane}
-use Rattle.task_table.proofs.Noting.{noted-noted}
-use Rattle.task_table.proofs.Quieting.{ready_same, ready_then, ready-with_task, chain_quiet}
+use Rattle.task_table.specs.model.State.{Setup, State, Turn}
+use Rattle.task_table.specs.model.Reading.{task_at, call_of, listen_of, chosen, qualifies, around, is_ready, is_faulted, priority}
+use Rattle.task_table.specs.model.Effects.{noted, with_processor, with_devices}
+use Rattle.task_table.specs.model.Events.{fed}
+use Rattle.task_table.specs.model.Counts.{IsAsReady}
+use Rattle.task_table.specs.model.Sane.{Sane}
+use Rattle.task_table.proofs.model.Noting.{more-noted}
+use Rattle.task_table.proofs.model.Quieting.{ready_same, ready_then, ready-with_task, not_more, chain_quiet}
 use Rattle.board_model.specs.declared.outcomes.Level.{Level}
 use Rattle.board_model.specs.declared.outcomes.Level.TheVariants.{Calls, All}
 use Rattle.board_model.specs.Script.{Scenario}
@@ -107,25 +107,25 @@ current-down : (s : State) (c : ℕ) → is_down record s { current = c } ≡ is
 unfolding task_at
 current-down s c = refl
 
-quiet-idle : (level : Level) (t : Turn) → (noted_at level note.Idle t).notes ≡ [] → IsAsReady t.state (noted_at level note.Idle t).state
-quiet-idle Calls t none = ready_same t.state
-quiet-idle All t none = absurd (noted-noted note.Idle t none)
+quiet-idle : (level : Level) (t : Turn) → length (noted_at level note.Idle t).notes ≤ length t.notes → IsAsReady t.state (noted_at level note.Idle t).state
+quiet-idle Calls t few = ready_same t.state
+quiet-idle All t few = absurd (not_more few (more-noted note.Idle t))
 
 -- the choice after the events is the one after the turn
-pub quiet-turn : (level : Level) (x : Scenario) (s : State) → Sane x.setup (after_events x s).state → (turn level x s).notes ≡ [] → IsChosenAlike x.setup (after_events x s).state (turn level x s).state
+pub quiet-turn : (level : Level) (x : Scenario) (s : State) → Sane x.setup (after_events x s).state → length (turn level x s).notes ≤ length (after_events x s).notes → IsChosenAlike x.setup (after_events x s).state (turn level x s).state
 unfolding turn ended
-quiet-turn level x s h none = by_choice (chosen x.setup t.state) refl none
+quiet-turn level x s h few = by_choice (chosen x.setup t.state) refl few
   where
     t : Turn
     t = after_events x s
 
-    by_choice : (o : Option ℕ) → chosen x.setup t.state ≡ o → (turn_of level x.setup o t).notes ≡ [] → IsChosenAlike x.setup t.state (record (turn_of level x.setup o t).state { turn = (turn_of level x.setup o t).state.turn + 1 })
-    by_choice None e none =
+    by_choice : (o : Option ℕ) → chosen x.setup t.state ≡ o → length (turn_of level x.setup o t).notes ≤ length t.notes → IsChosenAlike x.setup t.state (record (turn_of level x.setup o t).state { turn = (turn_of level x.setup o t).state.turn + 1 })
+    by_choice None e few =
         let v : Turn = noted_at level note.Idle t in
-        let same = ready_then t.state v.state _ (quiet-idle level t none) (ready-turn v.state (v.state.turn + 1)) in
+        let same = ready_then t.state v.state _ (quiet-idle level t few) (ready-turn v.state (v.state.turn + 1)) in
         record { next = chosen_same x.setup t.state _ same; ready = same.ready; down = same-down t.state _ same }
-    by_choice (Some c) e none =
+    by_choice (Some c) e few =
         let u : Turn = with_current c t in
         let v : Turn = with_registers_noted level c (stepped level x.setup c u) in
-        let same = ready_then u.state v.state _ (chain_quiet x.setup u.state c u v (chosen_chain level x.setup c t h e) none) (ready-turn v.state (v.state.turn + 1)) in
+        let same = ready_then u.state v.state _ (chain_quiet x.setup u.state c u v (chosen_chain level x.setup c t h e) few) (ready-turn v.state (v.state.turn + 1)) in
         record { next = chosen_same x.setup u.state _ same ∙ chosen_stays t.state c h e ∙ sym e; ready = λ i. same.ready i ∙ ready-current t.state c i; down = same-down u.state _ same ∙ current-down t.state c }

@@ -6,15 +6,15 @@ use Rattle.kernel_abi.specs.declared.Note.TheVariants as note
 use Rattle.run_script.specs.declared.events.Event.{Event}
 use Rattle.run_script.specs.declared.events.Event.TheVariants.{Tick, Irq, Feed}
 use Rattle.run_script.specs.Scripts.{events_of}
-use Rattle.task_table.specs.State.{Setup, State, Turn}
-use Rattle.task_table.specs.Reading.{chosen}
-use Rattle.task_table.specs.Effects.{noted, with_devices}
-use Rattle.task_table.specs.Events.{fed}
-use Rattle.task_table.specs.Grounds.{AreReached}
-use Rattle.task_table.specs.Start.{begun}
-use Rattle.task_table.specs.Sane.{Sane}
-use Rattle.task_table.proofs.Outside.{devices-ticked, aside-interrupted}
-use Rattle.task_table.proofs.Reaching.{chain_reaches}
+use Rattle.task_table.specs.model.State.{Setup, State, Turn}
+use Rattle.task_table.specs.model.Reading.{chosen}
+use Rattle.task_table.specs.model.Effects.{noted, with_devices}
+use Rattle.task_table.specs.model.Events.{fed}
+use Rattle.task_table.specs.model.Grounds.{AreReached}
+use Rattle.task_table.specs.model.Start.{begun}
+use Rattle.task_table.specs.model.Sane.{Sane}
+use Rattle.task_table.proofs.model.Outside.{devices-ticked, aside-interrupted}
+use Rattle.task_table.proofs.model.Reaching.{chain_reaches}
 use Rattle.board_model.specs.declared.outcomes.Level.{Level}
 use Rattle.board_model.specs.Script.{Scenario}
 use Rattle.board_model.specs.Lifetimes.{devices_after}

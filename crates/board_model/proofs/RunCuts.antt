@@ -4,8 +4,8 @@ use Rattle.std.specs.Prelude.{filter}
 use Rattle.std.proofs.lemmas.Bool.{lt-leb, le-leb}
 use Rattle.std.proofs.lemmas.Bool.Decides.{nat_tests}
 use Rattle.kernel_abi.specs.declared.Note.{Note}
-use Rattle.task_table.specs.State.{State}
-use Rattle.task_table.specs.Sane.{Sane}
+use Rattle.task_table.specs.model.State.{State}
+use Rattle.task_table.specs.model.Sane.{Sane}
 use Rattle.board_model.specs.declared.outcomes.Level.{Level}
 use Rattle.board_model.specs.declared.outcomes.Level.TheVariants.{Calls, All}
 use Rattle.board_model.specs.declared.outcomes.End.{End}

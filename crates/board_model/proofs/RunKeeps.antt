@@ -1,14 +1,14 @@
 -- What each turn keeps, a run keeps: of a state, and of a state with the notes that led there.
 use Rattle.std.proofs.Common.{◌≡◌, ℕ, zero, suc, List, [], ◌∷◌, ◌++◌, Option, Some, None, refl, sym, subst, ◌∙◌, ap, append_assoc, append-nil}
 use Rattle.kernel_abi.specs.declared.Note.{Note}
-use Rattle.task_table.specs.State.{Setup, State, Turn}
-use Rattle.task_table.specs.Reading.{chosen}
-use Rattle.task_table.specs.Start.{begun}
-use Rattle.task_table.specs.Placed.{ArePlaced}
-use Rattle.task_table.specs.Sane.{Sane}
-use Rattle.task_table.specs.Chain.{Chain}
-use Rattle.task_table.specs.Step.{Step}
-use Rattle.task_table.proofs.Moves.{IsOutside}
+use Rattle.task_table.specs.model.State.{Setup, State, Turn}
+use Rattle.task_table.specs.model.Reading.{chosen}
+use Rattle.task_table.specs.model.Start.{begun}
+use Rattle.task_table.specs.model.Placed.{ArePlaced}
+use Rattle.task_table.specs.model.Sane.{Sane}
+use Rattle.task_table.specs.model.Chain.{Chain}
+use Rattle.task_table.specs.model.Step.{Step}
+use Rattle.task_table.proofs.model.Moves.{IsOutside}
 use Rattle.board_model.specs.declared.outcomes.End.{End}
 use Rattle.board_model.specs.declared.outcomes.End.TheVariants.{Bound}
 use Rattle.board_model.specs.declared.outcomes.Level.{Level}

@@ -8,11 +8,11 @@ use Rattle.region_check.specs.declared.Region.{Region}
 use Rattle.region_check.specs.declared.Right.{Right}
 use Rattle.region_check.specs.Rights.{gives, has_right, is_inside}
 use Rattle.mem_banks.specs.Memory.{Memory}
-use Rattle.task_table.specs.State.{Setup, State, Read, Turn}
-use Rattle.task_table.specs.Reading.{setup_at, chosen}
-use Rattle.task_table.specs.Effects.{noted}
-use Rattle.task_table.specs.Placed.{ArePlaced}
-use Rattle.task_table.specs.Sane.{Sane}
+use Rattle.task_table.specs.model.State.{Setup, State, Read, Turn}
+use Rattle.task_table.specs.model.Reading.{setup_at, chosen}
+use Rattle.task_table.specs.model.Effects.{noted}
+use Rattle.task_table.specs.model.Placed.{ArePlaced}
+use Rattle.task_table.specs.model.Sane.{Sane}
 use Rattle.board_model.specs.declared.outcomes.Level.{Level}
 use Rattle.board_model.specs.declared.outcomes.Level.TheVariants.{Calls, All}
 use Rattle.board_model.specs.Script.{Scenario}

@@ -1,13 +1,13 @@
 -- A run goes by what happens in each turn of its script, and by whether the script lasts.
-use Rattle.std.proofs.Common.{◌≡◌, ◌∙◌, ℕ, zero, suc, ◌+◌, ◌<◌, ◌≤◌, Bool, true, false, List, Option, Some, None, refl, sym, ap, subst, arith}
+use Rattle.std.proofs.Common.{◌≡◌, ◌∙◌, ℕ, zero, suc, ◌+◌, Bool, true, false, List, Option, refl, sym, ap, arith}
 use Rattle.std.specs.Prelude.{fold, not, ◌&&◌, is_none}
 use Rattle.run_script.specs.declared.events.Event.{Event}
 use Rattle.run_script.specs.Scripts.{ScriptData, events_of, lasts}
-use Rattle.task_table.specs.State.{Setup, State, Turn}
-use Rattle.task_table.specs.Reading.{chosen}
-use Rattle.task_table.specs.Effects.{◌⨾◌}
-use Rattle.task_table.specs.Start.{begun}
-use Rattle.task_table.specs.Sane.{Sane}
+use Rattle.task_table.specs.model.State.{Setup, State, Turn}
+use Rattle.task_table.specs.model.Reading.{chosen}
+use Rattle.task_table.specs.model.Effects.{◌⨾◌}
+use Rattle.task_table.specs.model.Start.{begun}
+use Rattle.task_table.specs.model.Sane.{Sane}
 use Rattle.board_model.specs.declared.outcomes.Level.{Level}
 use Rattle.board_model.specs.declared.outcomes.End.{End}
 use Rattle.board_model.specs.declared.outcomes.End.TheVariants.{Bound}

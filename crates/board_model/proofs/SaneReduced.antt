@@ -2,14 +2,14 @@
 use Rattle.std.proofs.Common.{◌≡◌, ◌%◌, ◌&&◌, ℕ, Bool, true, false, eqb, length, refl, sym, ◌∙◌, ap, arith, eqb-true}
 use Rattle.std.specs.Prelude.{Contains}
 use Rattle.std.specs.List.{count_by}
-use Rattle.task_table.proofs.Once.{as_many_of}
+use Rattle.task_table.proofs.model.Once.{as_many_of}
 use Rattle.std.proofs.Math.ListN.{get_or-map}
 use Rattle.std.proofs.lemmas.List.{length-map}
 use Rattle.mem_banks.specs.Memory.{Memory}
-use Rattle.task_table.specs.State.{Setup, State, Birth, Call, From, Any, One, KernelOnly, Listen}
-use Rattle.task_table.specs.Reading.{task_at, line_at, admits, no_task}
-use Rattle.task_table.specs.Sane.{Sane}
-use Rattle.task_table.proofs.Keeps.{map_in}
+use Rattle.task_table.specs.model.State.{Setup, State, Birth, Call, From, Any, One, KernelOnly, Listen}
+use Rattle.task_table.specs.model.Reading.{task_at, line_at, admits, no_task}
+use Rattle.task_table.specs.model.Sane.{Sane}
+use Rattle.task_table.proofs.model.Keeps.{map_in}
 use Rattle.board_model.proofs.Births.{eqb_same}
 use Rattle.board_model.specs.Alike.{seen_birth, seen_task, seen_call, seen_from, seen_listen, seen, reduced}
 

@@ -6,9 +6,9 @@ use Rattle.std.proofs.lemmas.Bool.{false≢true}
 use Rattle.region_check.specs.declared.Region.{Region}
 use Rattle.region_check.specs.declared.Right.{Right}
 use Rattle.region_check.specs.Rights.{may_use, may_copy, is_inside, has_right, first_bad}
-use Rattle.task_table.specs.State.{Setup}
+use Rattle.task_table.specs.model.State.{Setup}
 use Rattle.task_table.specs.declared.slot.Slice.{Slice}
-use Rattle.task_table.specs.Reading.{setup_at, bad_byte}
+use Rattle.task_table.specs.model.Reading.{setup_at, bad_byte}
 use Rattle.board_model.specs.Alike.{Viewer}
 
 -- the viewer sees what the task may read or execute

@@ -10,10 +10,10 @@ use Rattle.thumb_exec.specs.Effect.{Trap, Store, Move, Puts, Takes, effect}
 use Rattle.thumb_exec.specs.Keeps.{IsRaised}
 use Rattle.thumb_exec.proofs.Keeping.{keeps as keeps_coded}
 use Rattle.mem_banks.specs.Memory.{is_ram}
-use Rattle.task_table.specs.State.{Setup, State, Own, Turn}
-use Rattle.task_table.specs.Reading.{task_at}
-use Rattle.task_table.specs.Effects.{noted, stored, with_devices, given_out, device_stored, device_taken}
-use Rattle.task_table.specs.Sane.{Sane}
+use Rattle.task_table.specs.model.State.{Setup, State, Own, Turn}
+use Rattle.task_table.specs.model.Reading.{task_at}
+use Rattle.task_table.specs.model.Effects.{noted, stored, with_devices, given_out, device_stored, device_taken}
+use Rattle.task_table.specs.model.Sane.{Sane}
 use Rattle.thumb_exec.specs.Bytes.{bytes_of}
 use Rattle.board_model.specs.Turn.{refusals, is_device, held, cpu_of, put, took, moved}
 use Rattle.board_model.proofs.TurnChains.{whole_cpu}

@@ -1,5 +1,5 @@
 -- A turn is a chain of steps: its instruction, or the row of its system call, with what is noted besides.
-use Rattle.std.proofs.Common.{◌≡◌, ◌+◌, ◌-◌, ◌*◌, ◌/◌, ◌%◌, ◌^◌, ◌<◌, ◌≤◌, ◌⊎◌, inl, inr, ℕ, zero, suc, Bool, true, false, cond, ◌&&◌, ◌||◌, List, [], ◌∷◌, length, take, drop, Option, Some, None, refl, sym, ◌∙◌, ap, arith, leb, ltb, IfSome}
+use Rattle.std.proofs.Common.{◌≡◌, ◌+◌, ◌-◌, ◌*◌, ◌/◌, ◌%◌, ◌^◌, ◌<◌, ◌≤◌, ◌⊎◌, inl, inr, ℕ, zero, suc, Bool, true, false, cond, List, [], ◌∷◌, length, take, drop, Option, Some, None, refl, sym, ◌∙◌, ap, arith, leb, ltb, IfSome}
 use Rattle.std.specs.Prelude.{Contains, fold, find, Result, Ok, Err, option_map}
 use Rattle.std.specs.List.{range_with_len, list_any}
 use Rattle.std.proofs.lemmas.List.Elements.{Contains-append_cases}
@@ -26,29 +26,27 @@ use Rattle.thumb_exec.specs.Effect.{Effect, Next, Syscall, Trap, Store, Move, Pu
 use Rattle.thumb_exec.specs.declared.fetch.Fetched.{Fetched}
 use Rattle.thumb_exec.specs.Fetch.{instruction, unless_barred, after, fetched}
 use Rattle.mem_banks.specs.Memory.{Memory, IsWithinRam, number_at, number_of, bytes_at, is_ram, AreAllBytes}
-use Rattle.task_table.specs.State.{Setup, State, Ground, Own, Turn}
-use Rattle.task_table.specs.Reading.{setup_at, task_at, register, call_of, listen_of, chosen, qualifies, around, is_ready}
-use Rattle.task_table.specs.Effects.{noted, stored, with_devices, given_out, device_stored, device_taken}
-use Rattle.task_table.specs.Events.{ticked, interrupted, fed}
-use Rattle.task_table.specs.Rows.{syscall_noted}
-use Rattle.task_table.specs.Syscalls.{syscall_made}
-use Rattle.task_table.specs.Start.{begun}
-use Rattle.task_table.specs.Placed.{ArePlaced}
-use Rattle.task_table.specs.Sane.{Sane}
-use Rattle.task_table.specs.Counts.{IsNoted}
-use Rattle.task_table.specs.Grounds.{MayWrite, MayUse, IsReached}
-use Rattle.task_table.proofs.Posting.{keeps-noted}
-use Rattle.task_table.proofs.Equipped.{sane-reached, sane-fed}
-use Rattle.task_table.proofs.Sanity.{take_in, drop_in, sane-stored, sane-current, sane-turn}
-use Rattle.task_table.proofs.Steps.{length-with_bytes}
-use Rattle.task_table.proofs.StepKeeps.{chain_sane}
-use Rattle.task_table.proofs.Timing.{sane-ticked, sane-interrupted}
-use Rattle.task_table.specs.Chain.{Chain, Here}
-use Rattle.task_table.specs.Step.{Step, Notes, Runs, Stores, Halts, Reaches}
-use Rattle.task_table.proofs.Chains.{one, ◌▷◌, joined}
-use Rattle.task_table.proofs.Moves.{IsAside, aside_here, aside-noted}
-use Rattle.task_table.proofs.Noting.{noted-noted, chain_noted}
-use Rattle.task_table.proofs.RowChains.{chain-syscall_made}
+use Rattle.task_table.specs.model.State.{Setup, State, Ground, Own, Turn}
+use Rattle.task_table.specs.model.Reading.{setup_at, task_at, register, call_of, listen_of, chosen, qualifies, around, is_ready}
+use Rattle.task_table.specs.model.Effects.{noted, stored, with_devices, given_out, device_stored, device_taken}
+use Rattle.task_table.specs.model.Events.{ticked, interrupted, fed}
+use Rattle.task_table.specs.model.Rows.{syscall_noted}
+use Rattle.task_table.specs.model.Syscalls.{syscall_made}
+use Rattle.task_table.specs.model.Start.{begun}
+use Rattle.task_table.specs.model.Placed.{ArePlaced}
+use Rattle.task_table.specs.model.Sane.{Sane}
+use Rattle.task_table.specs.model.Grounds.{MayWrite, MayUse, IsReached}
+use Rattle.task_table.proofs.model.Posting.{keeps-noted}
+use Rattle.task_table.proofs.model.Equipped.{sane-reached, sane-fed}
+use Rattle.task_table.proofs.model.Sanity.{take_in, drop_in, sane-stored, sane-current, sane-turn}
+use Rattle.task_table.proofs.model.StepKeeps.{chain_sane}
+use Rattle.task_table.proofs.model.Timing.{sane-ticked, sane-interrupted}
+use Rattle.task_table.specs.model.Chain.{Chain, Here}
+use Rattle.task_table.specs.model.Step.{Step, Notes, Runs, Stores, Halts, Reaches}
+use Rattle.task_table.proofs.model.Chains.{one, ◌▷◌, joined}
+use Rattle.task_table.proofs.model.Moves.{IsAside, aside_here, aside-noted}
+use Rattle.task_table.proofs.model.RowChains.{chain-syscall_made}
+use Rattle.mem_banks.proofs.Stores.{length-with_bytes}
 use Rattle.board_model.proofs.Sight.{none_lacking}
 use Rattle.board_model.specs.declared.outcomes.Level.{Level}
 use Rattle.board_model.specs.declared.outcomes.Level.TheVariants.{Calls, All}
@@ -61,8 +59,8 @@ use Rattle.thumb_exec.proofs.Keeping.{keeps}
 use Rattle.thumb_insn.specs.Table.{narrow_of, wide_of, narrow_result, wide_result, with_second}
 use Rattle.thumb_insn.specs.Range.{IsCoded}
 use Rattle.thumb_insn.specs.declared.Code.TheVariants.{One, Two}
-use Rattle.task_table.proofs.Clients.{same_some}
-use Rattle.task_table.proofs.Offers.{range_below}
+use Rattle.task_table.proofs.model.Clients.{same_some}
+use Rattle.task_table.proofs.model.Offers.{range_below}
 
 -- ## small things
 

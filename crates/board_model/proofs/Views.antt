@@ -2,17 +2,17 @@
 use Rattle.std.proofs.Common.{◌≡◌, ◌+◌, ◌%◌, ℕ, suc, Bool, true, false, ◌||◌, List, [], ◌∷◌, eqb, map, refl, sym, ◌∙◌, ap, arith, map-id}
 use Rattle.std.specs.Prelude.{filter, Contains}
 use Rattle.std.specs.List.{list_any}
-use Rattle.std.proofs.lemmas.Bool.{false≢true, or_right, or_left}
+use Rattle.std.proofs.lemmas.Bool.{false≢true}
 use Rattle.std.proofs.lemmas.List.Folds.{list_any_at}
 use Rattle.std.proofs.Math.Nat.{mod-mod}
 use Rattle.mem_banks.specs.Memory.{Memory}
-use Rattle.task_table.specs.State.{Setup, Task, Call, From, Any, One, KernelOnly, Listen, State, Read, Turn}
+use Rattle.task_table.specs.model.State.{Setup, Task, Call, From, Any, One, KernelOnly, Listen, State, Read, Turn}
 use Rattle.board_model.specs.Levels.{is_noted_always, IsLessNoted}
-use Rattle.task_table.specs.Reading.{listen_of}
-use Rattle.task_table.specs.Sane.{Sane}
-use Rattle.task_table.proofs.Keeps.{found_in}
-use Rattle.task_table.specs.Syscalls.{syscall_made}
-use Rattle.task_table.specs.Start.{begun}
+use Rattle.task_table.specs.model.Reading.{listen_of}
+use Rattle.task_table.specs.model.Sane.{Sane}
+use Rattle.task_table.proofs.model.Keeps.{found_in}
+use Rattle.task_table.specs.model.Syscalls.{syscall_made}
+use Rattle.task_table.specs.model.Start.{begun}
 use Rattle.board_model.specs.declared.outcomes.Level.{Level}
 use Rattle.board_model.specs.declared.outcomes.Level.TheVariants.{Calls, All}
 use Rattle.board_model.specs.Script.{Scenario}

@@ -4,8 +4,8 @@ use Rattle.std.specs.Prelude.{◌≡◌, ℕ, ◌+◌, Bool, true, ◌&&◌, ◌
 use Rattle.std.specs.List.{list_any}
 use Rattle.region_check.specs.Rights.{is_inside}
 use Rattle.mem_banks.specs.Memory.{Memory, byte_at}
-use Rattle.task_table.specs.State.{Setup, State, Read, Turn}
-use Rattle.task_table.specs.Reading.{setup_at, chosen}
+use Rattle.task_table.specs.model.State.{Setup, State, Read, Turn}
+use Rattle.task_table.specs.model.Reading.{setup_at, chosen}
 use Rattle.board_model.specs.declared.outcomes.Level.{Level}
 use Rattle.board_model.specs.Script.{Scenario}
 use Rattle.board_model.specs.Turn.{turn, turn_of, ended, after_events}

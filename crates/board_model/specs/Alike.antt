@@ -4,7 +4,7 @@ use Rattle.std.specs.Prelude.{◌≡◌, ℕ, ◌+◌, ◌%◌, ◌<◌, ◌≤�
 use Rattle.kernel_abi.specs.declared.Note.{Note}
 use Rattle.mem_banks.specs.Memory.{Memory}
 use Rattle.board_model.specs.Levels.{is_noted_always}
-use Rattle.task_table.specs.State.{Birth, Task, Call, From, Any, One, KernelOnly, Listen, State, Read, Turn}
+use Rattle.task_table.specs.model.State.{Birth, Task, Call, From, Any, One, KernelOnly, Listen, State, Read, Turn}
 
 pub record Viewer : Type 0 where
   pub birth : ℕ → ℕ  -- what it sees of a number of births

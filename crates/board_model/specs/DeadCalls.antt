@@ -11,12 +11,12 @@ use Rattle.kernel_abi.specs.declared.syscalls.Syscall.{Syscall}
 use Rattle.kernel_abi.specs.declared.syscalls.Syscall.TheVariants.{Send, Recv, Reply, BorrowRead, BorrowWrite, BorrowInfo, RefreshTaskId, Post, ReplyFault}
 use Rattle.thumb_insn.specs.declared.Insn.TheVariants.{Svc}
 use Rattle.thumb_exec.specs.Fetch.{fetched}
-use Rattle.task_table.specs.State.{State}
-use Rattle.task_table.specs.Reading.{task_at, register, arguments, chosen, is_out, present_id, dead_code_for}
-use Rattle.task_table.specs.Effects.{with_results}
-use Rattle.task_table.specs.Sends.{last_reason}
-use Rattle.task_table.specs.Syscalls.{is_to_kernel}
-use Rattle.task_table.specs.DeadIds.{Calls, IsDeadId, MaySend, MayReceiveFrom, recipient, sender, client, lender, asked_lender, posted_to, reason}
+use Rattle.task_table.specs.model.State.{State}
+use Rattle.task_table.specs.model.Reading.{task_at, register, arguments, chosen, is_out, present_id, dead_code_for}
+use Rattle.task_table.specs.model.Effects.{with_results}
+use Rattle.task_table.specs.model.Sends.{last_reason}
+use Rattle.task_table.specs.model.Syscalls.{is_to_kernel}
+use Rattle.task_table.specs.model.DeadIds.{IsCalling, IsDeadId, MaySend, MayReceiveFrom, recipient, sender, client, lender, asked_lender, posted_to, reason}
 use Rattle.board_model.specs.declared.outcomes.Level.{Level}
 use Rattle.board_model.specs.Script.{Scenario}
 use Rattle.board_model.specs.Turn.{refusals, held, after_events, turn}
@@ -33,7 +33,7 @@ pub record MakesCall (x : Scenario) (s : State) (c : ℕ) (call : Syscall) : Typ
   pub immediate : ℕ
   pub code : ℕ
   pub svc : let u = (after_events x s).state in fetched (refusals x.setup c) (held u) (register u c program_counter) ≡ Ok record { insn = Svc immediate; code = code }
-  pub calls : Calls call c (after_events x s)
+  pub calls : IsCalling call c (after_events x s)
 
 -- u is s but that task c has these results from r4 on and is past its system call: every other task, the open calls, the
 -- listens, the memory, the devices, the time, the lines and the number of the next call are as they were

@@ -1,10 +1,10 @@
 -- What the fault of a task changes: its own health, and task 0, to which it is posted; nothing else.
 use Rattle.std.specs.Prelude.{ℕ, ◌≡◌, ◌≢◌, true, List, [], Some, Contains}
-use Rattle.task_table.specs.State.{Setup, State, Read}
-use Rattle.task_table.specs.Reading.{task_at, is_faulted, chosen, IsIdle, IsSameAt}
-use Rattle.task_table.specs.Effects.{posted}
-use Rattle.task_table.specs.Start.{begun}
-use Rattle.task_table.specs.Step.{IsEntry}
+use Rattle.task_table.specs.model.State.{Setup, State, Read}
+use Rattle.task_table.specs.model.Reading.{task_at, is_faulted, chosen, IsIdle, IsSameAt}
+use Rattle.task_table.specs.model.Effects.{posted}
+use Rattle.task_table.specs.model.Start.{begun}
+use Rattle.task_table.specs.model.Step.{IsEntry}
 use Rattle.board_model.specs.declared.outcomes.Level.{Level}
 use Rattle.board_model.specs.Script.{Scenario}
 use Rattle.board_model.specs.Turn.{after_events, turn}

@@ -8,13 +8,13 @@ use Rattle.run_script.specs.declared.events.Event.TheVariants.{Tick, Irq, Feed}
 use Rattle.run_script.specs.Scripts.{events_of}
 use Rattle.kernel_abi.specs.declared.Note.TheVariants as note
 use Rattle.mem_banks.specs.Memory.{byte_at}
-use Rattle.task_table.specs.State.{Setup, State, Call, Listen, Read, Turn}
+use Rattle.task_table.specs.model.State.{Setup, State, Call, Listen, Read, Turn}
 use Rattle.task_table.specs.declared.slot.Phase.TheVariants.{Taken}
-use Rattle.task_table.specs.Reading.{task_at, chosen}
-use Rattle.task_table.specs.Borrows.{grant, lease_range}
-use Rattle.task_table.specs.Grounds.{Lies, MayWrite, AreGrounded, AreGranted, AreAlive, AreReached, touched, with_writes}
-use Rattle.task_table.specs.Ledger.{IsLedger}
-use Rattle.task_table.specs.Lives.{IsClosed, IsSilent}
+use Rattle.task_table.specs.model.Reading.{task_at, chosen}
+use Rattle.task_table.specs.model.Borrows.{grant, lease_range}
+use Rattle.task_table.specs.model.Grounds.{Lies, MayWrite, AreGrounded, AreGranted, AreAlive, AreReached, touched, with_writes}
+use Rattle.task_table.specs.model.Ledger.{IsLedger}
+use Rattle.task_table.specs.model.Lives.{IsClosed, IsSilent}
 use Rattle.board_model.specs.declared.outcomes.Level.{Level}
 use Rattle.board_model.specs.Script.{Scenario, start_of}
 use Rattle.board_model.specs.Turn.{after_events, turn}

@@ -2,15 +2,15 @@
 use Rattle.std.specs.Prelude.{◌≡◌, ◌⊎◌, ℕ, zero, suc, ◌+◌, ◌<◌, Bool, false, ◌==◌, if◌then◌else◌, List, length, Contains, Option, None, Some}
 use Rattle.kernel_abi.specs.declared.Note.{Note}
 use Rattle.kernel_abi.specs.declared.Note.TheVariants as note
-use Rattle.task_table.specs.State.{State, Turn}
-use Rattle.task_table.specs.Reading.{task_at, chosen, IsIdle}
-use Rattle.task_table.specs.Effects.{restarted}
-use Rattle.task_table.specs.Rows.{goes_on_with}
+use Rattle.task_table.specs.model.State.{State, Turn}
+use Rattle.task_table.specs.model.Reading.{task_at, chosen, IsIdle}
+use Rattle.task_table.specs.model.Effects.{restarted}
+use Rattle.task_table.specs.model.Rows.{goes_on_with}
 use Rattle.board_model.specs.declared.outcomes.Level.{Level}
 use Rattle.board_model.specs.Script.{Scenario}
 use Rattle.board_model.specs.Turn.{after_events, turn, stepped, with_current}
 use Rattle.board_model.specs.Run.{turn_after, state_after}
-use Rattle.task_table.specs.Sane.{Sane}
+use Rattle.task_table.specs.model.Sane.{Sane}
 use Rattle.board_model.specs.Loners.{IsLoner, HaveSameRegions, AreMadeAlike, HaveSameBytes, HaveSameOwn, IsUntouched, IsStruck, IsAtBirth}
 
 -- the turn from this state is the task's own
@@ -57,10 +57,10 @@ pub record IsRestart (level : Level) (x : Scenario) (s : State) (c i : ℕ) : Ty
 -- ## many turns
 
 -- from one state to another by turns in which the task goes by itself, of which so many are its own
-pub data Lives (level : Level) (x : Scenario) (i : ℕ) (s : State) : ℕ → State → Type 0 where
-  Begins : Lives level x i s 0 s
-  Waits : (k : ℕ) (z : State) → Lives level x i s k z → (IsOwnTurn x i z → ⊥) → IsToItself i (turn level x z).notes → Lives level x i s k (turn level x z).state
-  Runs : (k : ℕ) (z : State) → Lives level x i s k z → IsOwnTurn x i z → IsToItself i (turn level x z).notes → Lives level x i s (suc k) (turn level x z).state
+pub data LivesAlone (level : Level) (x : Scenario) (i : ℕ) (s : State) : ℕ → State → Type 0 where
+  Begins : LivesAlone level x i s 0 s
+  Waits : (k : ℕ) (z : State) → LivesAlone level x i s k z → (IsOwnTurn x i z → ⊥) → IsToItself i (turn level x z).notes → LivesAlone level x i s k (turn level x z).state
+  Runs : (k : ℕ) (z : State) → LivesAlone level x i s k z → IsOwnTurn x i z → IsToItself i (turn level x z).notes → LivesAlone level x i s (suc k) (turn level x z).state
 
 -- states of two runs, perhaps of two images, in each of which a loner is at birth: the images give both the same entry,
 -- stack and regions, and the same bytes are in these

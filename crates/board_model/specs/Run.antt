@@ -1,8 +1,8 @@
 -- A whole run: turns, with a test for the end before each.
 use Rattle.std.specs.Prelude.{ℕ, zero, suc, Bool, ◌&&◌, not, List, [], ◌++◌, map, Option, Some, None, ◌==◌, if◌then◌else◌, is_none}
 use Rattle.kernel_abi.specs.declared.Note.{Note}
-use Rattle.task_table.specs.State.{State, Turn}
-use Rattle.task_table.specs.Reading.{task_at, is_faulted, chosen}
+use Rattle.task_table.specs.model.State.{State, Turn}
+use Rattle.task_table.specs.model.Reading.{task_at, is_faulted, chosen}
 use Rattle.board_model.specs.declared.outcomes.End.{End}
 use Rattle.board_model.specs.declared.outcomes.End.TheVariants.{Bound, Still, Supervisor}
 use Rattle.run_script.specs.Scripts.{lasts}

@@ -1,8 +1,8 @@
 -- What a run is over: what the image fixes, the script of what happens from outside, and the devices that are handed in.
 use Rattle.std.specs.Prelude.{List}
 use Rattle.kernel_abi.specs.Devices.{DeviceData}
-use Rattle.task_table.specs.State.{Setup, State}
-use Rattle.task_table.specs.Start.{start}
+use Rattle.task_table.specs.model.State.{Setup, State}
+use Rattle.task_table.specs.model.Start.{start}
 use Rattle.run_script.specs.Scripts.{ScriptData}
 
 pub record Scenario : Type 0 where

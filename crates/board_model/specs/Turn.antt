@@ -14,13 +14,13 @@ use Rattle.thumb_exec.specs.Bytes.{bytes_of}
 use Rattle.thumb_exec.specs.Effect.{Effect, Next, Syscall, Trap, Store, Move, Puts, Takes, Refusals, Contents, effect}
 use Rattle.thumb_exec.specs.Fetch.{fetched}
 use Rattle.mem_banks.specs.Memory.{number_at, is_ram}
-use Rattle.task_table.specs.State.{Setup, Task, State, Own, Turn}
-use Rattle.task_table.specs.Reading.{task_at, setup_at, register, chosen}
-use Rattle.task_table.specs.Effects.{◌⨾◌, changed, noted, with_processor, stored, faulted, device_stored, device_taken}
-use Rattle.task_table.specs.Events.{ticked, interrupted, fed}
-use Rattle.task_table.specs.Rows.{syscall_noted}
-use Rattle.task_table.specs.Syscalls.{syscall_made}
-use Rattle.task_table.specs.Start.{begun}
+use Rattle.task_table.specs.model.State.{Setup, Task, State, Own, Turn}
+use Rattle.task_table.specs.model.Reading.{task_at, setup_at, register, chosen}
+use Rattle.task_table.specs.model.Effects.{◌⨾◌, changed, noted, with_processor, stored, faulted, device_stored, device_taken}
+use Rattle.task_table.specs.model.Events.{ticked, interrupted, fed}
+use Rattle.task_table.specs.model.Rows.{syscall_noted}
+use Rattle.task_table.specs.model.Syscalls.{syscall_made}
+use Rattle.task_table.specs.model.Start.{begun}
 use Rattle.run_script.specs.declared.events.Event.{Event}
 use Rattle.run_script.specs.declared.events.Event.TheVariants.{Tick, Irq, Feed}
 use Rattle.run_script.specs.Scripts.{events_of}

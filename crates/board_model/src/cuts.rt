@@ -5,8 +5,8 @@
 //! - What is seen at a cut rests on births modulo 64 too (`generations_decide_what_is_seen`).
 
 ghost use Rattle.std.specs.Prelude.{◌≡◌, ◌≤◌, ◌+◌, ℕ};
-ghost use Rattle.task_table.specs.State.{State};
-ghost use Rattle.task_table.specs.Sane.{Sane};
+ghost use Rattle.task_table.specs.model.State.{State};
+ghost use Rattle.task_table.specs.model.Sane.{Sane};
 ghost use Rattle.board_model.specs.declared.outcomes.Level.{Level as Detail};
 ghost use Rattle.board_model.specs.Script.{Scenario};
 ghost use Rattle.board_model.specs.Turn.{turned};

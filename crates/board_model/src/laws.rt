@@ -11,14 +11,14 @@ ghost use Rattle.run_script.specs.Scripts.{ScriptData, IsNext, events_of};
 ghost use Rattle.thumb_insn.specs.declared.Insn.{Insn};
 ghost use Rattle.thumb_insn.specs.Range.{IsCoded};
 ghost use Rattle.thumb_exec.specs.Effect.{Move, Trap};
-ghost use Rattle.task_table.specs.State.{Setup, State, Turn};
-ghost use Rattle.task_table.specs.Reading.{chosen, is_ready};
-ghost use Rattle.task_table.specs.Start.{begun};
-ghost use Rattle.task_table.specs.Sane.{Sane, IsCounted};
-ghost use Rattle.task_table.specs.Chain.{Chain};
-ghost use Rattle.task_table.specs.Grounds.{AreReached};
-ghost use Rattle.task_table.specs.Lives.{IsClosed};
-ghost use Rattle.task_table.specs.Step.{Step};
+ghost use Rattle.task_table.specs.model.State.{Setup, State, Turn};
+ghost use Rattle.task_table.specs.model.Reading.{chosen, is_ready};
+ghost use Rattle.task_table.specs.model.Start.{begun};
+ghost use Rattle.task_table.specs.model.Sane.{Sane, IsCounted};
+ghost use Rattle.task_table.specs.model.Chain.{Chain};
+ghost use Rattle.task_table.specs.model.Grounds.{AreReached};
+ghost use Rattle.task_table.specs.model.Lives.{IsClosed};
+ghost use Rattle.task_table.specs.model.Step.{Step};
 ghost use Rattle.board_model.specs.declared.outcomes.Level.{Level as Detail};
 ghost use Rattle.board_model.specs.Script.{Scenario, start_of};
 ghost use Rattle.board_model.specs.Turn.{effect_of, moved, noted_at, stepped, happened, after_events, with_current, turn_of, turn};
@@ -65,11 +65,11 @@ pub fn runs_keep_counts_in_order()
     ensures ram { (level : Detail) (x : Scenario) (n : ℕ) (s : State) → Sane x.setup s → length (run level x n s).last.memory.ram ≡ length s.memory.ram }
 {}
 
-/// A turn that notes nothing leaves the choice: after it the same task is chosen as after its events, and
+/// A turn that notes nothing after its events leaves the choice: the same task is chosen as after them, and
 /// the supervisor has faulted just where it had then.
 pub fn turns_without_notes_keep_the_choice()
-    ensures next { (level : Detail) (x : Scenario) (s : State) → Sane x.setup s → (turn level x s).notes ≡ [] → chosen x.setup (turn level x s).state ≡ chosen x.setup (after_events x s).state }
-    ensures down { (level : Detail) (x : Scenario) (s : State) → Sane x.setup s → (turn level x s).notes ≡ [] → is_down (turn level x s).state ≡ is_down (after_events x s).state }
+    ensures next { (level : Detail) (x : Scenario) (s : State) → Sane x.setup s → length (turn level x s).notes ≤ length (after_events x s).notes → chosen x.setup (turn level x s).state ≡ chosen x.setup (after_events x s).state }
+    ensures down { (level : Detail) (x : Scenario) (s : State) → Sane x.setup s → length (turn level x s).notes ≤ length (after_events x s).notes → is_down (turn level x s).state ≡ is_down (after_events x s).state }
 {}
 
 /// A byte that comes for a device leaves the choice: each task is as ready as before, the same one is chosen, and the

@@ -8,16 +8,16 @@
 //! - Who is alone, as regions are compared, is one of these (`who_is_alone_is_a_loner`).
 
 ghost use Rattle.std.specs.Prelude.{◌≢◌, ◌<◌, ℕ, suc, length};
-ghost use Rattle.task_table.specs.State.{Setup, State};
-ghost use Rattle.task_table.specs.Reading.{task_at, IsIdle};
-ghost use Rattle.task_table.specs.Start.{start};
-ghost use Rattle.task_table.specs.Sane.{Sane};
+ghost use Rattle.task_table.specs.model.State.{Setup, State};
+ghost use Rattle.task_table.specs.model.Reading.{task_at, IsIdle};
+ghost use Rattle.task_table.specs.model.Start.{start};
+ghost use Rattle.task_table.specs.model.Sane.{Sane};
 ghost use Rattle.board_model.specs.declared.outcomes.Level.{Level as Detail};
 ghost use Rattle.board_model.specs.Script.{Scenario};
 ghost use Rattle.board_model.specs.Turn.{after_events, turn};
 ghost use Rattle.board_model.specs.Run.{state_after};
 ghost use Rattle.board_model.specs.Loners.{IsAlone, IsLoner, HaveSameOwn, IsUntouched, IsAtBirth};
-ghost use Rattle.board_model.specs.LonerTurns.{IsRestart, LeavesLoners, LonersDecide, LiveAsLong, Lives, AreBornAlike};
+ghost use Rattle.board_model.specs.LonerTurns.{IsRestart, LeavesLoners, LonersDecide, LiveAsLong, LivesAlone, AreBornAlike};
 
 /// What others do leaves a loner alone. A task that waits for nothing has after a turn that is not its own the births,
 /// registers, flags and health that it had, and waits for nothing, unless the supervisor restarted it or made it fault in
@@ -40,7 +40,7 @@ pub fn loners_decide_their_own_turns()
 /// but PANIC, nor is made to fault by the supervisor.
 pub fn loners_go_their_own_way()
     ensures runs { (level other : Detail) (x y : Scenario) (i j n m : ℕ) (s u : State) → AreBornAlike x y i j s u → LiveAsLong level other x y i j s u n m → HaveSameOwn x.setup i j (state_after level x n s) (state_after other y m u) }
-    ensures lives { (level other : Detail) (x y : Scenario) (i j k : ℕ) (s u z v : State) → AreBornAlike x y i j s u → Lives level x i s (suc k) z → Lives other y j u (suc k) v → HaveSameOwn x.setup i j z v }
+    ensures lives { (level other : Detail) (x y : Scenario) (i j k : ℕ) (s u z v : State) → AreBornAlike x y i j s u → LivesAlone level x i s (suc k) z → LivesAlone other y j u (suc k) v → HaveSameOwn x.setup i j z v }
 {}
 
 /// A birth begins with the registers and flags that the image gives it, and waits for nothing: the first one at the start of

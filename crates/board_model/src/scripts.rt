@@ -2,8 +2,8 @@
 
 ghost use Rattle.std.specs.Prelude.{◌≡◌, ◌≤◌, ◌+◌, ℕ, true, List};
 ghost use Rattle.run_script.specs.Scripts.{Listed, ScriptData};
-ghost use Rattle.task_table.specs.State.{State};
-ghost use Rattle.task_table.specs.Sane.{Sane};
+ghost use Rattle.task_table.specs.model.State.{State};
+ghost use Rattle.task_table.specs.model.Sane.{Sane};
 ghost use Rattle.board_model.specs.declared.outcomes.Level.{Level as Detail};
 ghost use Rattle.board_model.specs.Script.{Scenario};
 ghost use Rattle.board_model.specs.Alike.{reduced};

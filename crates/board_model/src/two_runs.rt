@@ -6,9 +6,9 @@
 //! - Of a number of births its generation alone decides anything (`generations_decide`).
 
 ghost use Rattle.std.specs.Prelude.{◌≡◌, ℕ};
-ghost use Rattle.task_table.specs.State.{Setup, State, Turn};
-ghost use Rattle.task_table.specs.Syscalls.{syscall_made};
-ghost use Rattle.task_table.specs.Sane.{Sane};
+ghost use Rattle.task_table.specs.model.State.{Setup, State, Turn};
+ghost use Rattle.task_table.specs.model.Syscalls.{syscall_made};
+ghost use Rattle.task_table.specs.model.Sane.{Sane};
 ghost use Rattle.board_model.specs.declared.outcomes.Level.{Level as Detail};
 ghost use Rattle.board_model.specs.declared.outcomes.Level.TheVariants.{Calls, All};
 ghost use Rattle.board_model.specs.Script.{Scenario};

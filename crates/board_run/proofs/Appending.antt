@@ -1,8 +1,8 @@
 -- The texts of notes and of numbers, one push after another.
-use Rattle.std.proofs.Common.{◌≡◌, ℕ, List, [], ◌∷◌, ◌++◌, Option, Some, None, refl, sym, ap, subst, ◌∙◌, append_assoc}
+use Rattle.std.proofs.Common.{◌≡◌, ℕ, List, [], ◌∷◌, ◌++◌, Option, refl, sym, ap, subst, ◌∙◌, append_assoc}
 use Rattle.std.proofs.lemmas.List.{append-nil}
 use Rattle.std.specs.Io.KnownBytes.{Appends}
-use Rattle.std.specs.Prelude.{Result, Ok, Err, take, drop, length, ◌<◌, ◌≤◌, ◌+◌}
+use Rattle.std.specs.Prelude.{Result, Err, take, drop, length, ◌<◌, ◌≤◌, ◌+◌}
 use Rattle.std.specs.List.{flat_map, range_with_len}
 use Rattle.kernel_abi.specs.declared.Note.{Note}
 use Rattle.board_model.specs.Run.{at_turn}

@@ -6,8 +6,8 @@ use Rattle.std.proofs.lemmas.Bool.Decides.{nat_tests}
 use Rattle.std.proofs.lemmas.Grind.{flat_map-append}
 use Rattle.std.specs.Io.KnownBytes.{Appends}
 use Rattle.kernel_abi.specs.declared.Note.{Note}
-use Rattle.task_table.specs.Sane.{Sane}
-use Rattle.task_table.specs.State.{State}
+use Rattle.task_table.specs.model.Sane.{Sane}
+use Rattle.task_table.specs.model.State.{State}
 use Rattle.board_core.specs.declared.board.Board.{Board}
 use Rattle.board_core.specs.Data.{Shows}
 use Rattle.board_model.specs.declared.outcomes.End.{End}

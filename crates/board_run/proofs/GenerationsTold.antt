@@ -2,9 +2,9 @@
 use Rattle.std.proofs.Common.{◌≡◌, ◌∙◌, ℕ, ◌%◌, List, ◌++◌, Option, Some, None, refl, sym, ap}
 use Rattle.std.specs.Prelude.{option_map}
 use Rattle.std.specs.List.{flat_map, range_with_len}
-use Rattle.task_table.specs.State as kernel
-use Rattle.task_table.specs.State.{Setup, State, Task, Listen}
-use Rattle.task_table.specs.Reading.{task_at, call_of, listen_of}
+use Rattle.task_table.specs.model.State as kernel
+use Rattle.task_table.specs.model.State.{Setup, State, Task, Listen}
+use Rattle.task_table.specs.model.Reading.{task_at, call_of, listen_of}
 use Rattle.board_model.specs.declared.outcomes.End.{End}
 use Rattle.board_model.specs.Run.{Run}
 use Rattle.board_model.specs.Alike.{seen, seen_task, seen_call, seen_listen, reduced}

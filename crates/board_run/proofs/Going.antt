@@ -3,8 +3,8 @@ use Rattle.std.proofs.Common.{◌≡◌, ℕ, zero, suc, ◌+◌, ◌-◌, ◌*�
 use Rattle.std.proofs.lemmas.List.{append-nil}
 use Rattle.std.proofs.lemmas.Bool.Decides.{nat_tests}
 use Rattle.kernel_abi.specs.declared.Note.{Note}
-use Rattle.task_table.specs.Limits.{turn_notes}
-use Rattle.task_table.specs.State.{State}
+use Rattle.task_table.specs.kept.Limits.{turn_notes}
+use Rattle.task_table.specs.model.State.{State}
 use Rattle.board_core.specs.declared.board.Board.{Board}
 use Rattle.board_core.specs.Data.{Shows}
 use Rattle.board_model.specs.declared.outcomes.End.{End}
@@ -13,11 +13,11 @@ use Rattle.board_model.specs.declared.outcomes.End.TheVariants.{Bound, Still, Su
 use Rattle.board_model.specs.Script.{Scenario}
 use Rattle.board_model.specs.Turn.{turn}
 use Rattle.board_core.specs.Stands.{Stands, notes_of, turns_of}
-use Rattle.board_core.specs.Advanced.{IsAdvanced}
+use Rattle.board_core.specs.fast.Advanced.{IsAdvanced}
 use Rattle.board_model.specs.Run.{turn_after, end_at, Run, run, ending, end_by, is_down, is_still, unless, ended_at, with_front, at_turn}
 use Rattle.board_model.proofs.Counts.{turn_more}
 use Rattle.board_model.proofs.TurnChains.{sane-after}
-use Rattle.task_table.specs.Sane.{Sane}
+use Rattle.task_table.specs.model.Sane.{Sane}
 use Rattle.board_run.specs.Midway.{Midway}
 use Rattle.board_run.specs.Running.{StandsMidway, end_within}
 use Rattle.board_model.proofs.RunCuts.{fronts}

@@ -9,14 +9,14 @@ use Rattle.std.proofs.lemmas.List.Concat.{flat_map-append}
 use Rattle.std.proofs.lemmas.List.Elements.{Contains-get_or, Contains-append_left, Contains-append_right, Contains-append_cases}
 use Rattle.region_check.specs.declared.Region.{Region}
 use Rattle.mem_banks.specs.Memory.{Memory}
-use Rattle.task_table.specs.State.{Setup, TaskSetup, State}
-use Rattle.task_table.specs.Reading.{setup_in}
+use Rattle.task_table.specs.model.State.{Setup, TaskSetup, State}
+use Rattle.task_table.specs.model.Reading.{setup_in}
 use Rattle.image_format.specs.Picture.{Picture, regions_in}
 use Rattle.region_check.specs.Rights.{SameOrApart}
 use Rattle.image_format.specs.Facts.{Facts}
 use Rattle.board_core.specs.Opened.{setup_of_image}
 use Rattle.board_core.proofs.Opens.{setup_is}
-use Rattle.task_table.proofs.Keeps.{found_in, not_found}
+use Rattle.task_table.proofs.model.Keeps.{found_in, not_found}
 use Rattle.board_run.specs.MemoryText.{begins_at, regions_of, region_at, region_text, places_text, memory_text}
 use Rattle.board_run.specs.Regions.{BeginsInRam, HasRamRegions, ListsRam}
 

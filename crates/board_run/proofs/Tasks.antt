@@ -7,10 +7,10 @@ use Rattle.outside_io.specs.Outside.{Pushes, AppendsFront}
 use Rattle.kernel_abi.specs.declared.Health.{Health}
 use Rattle.kernel_abi.specs.declared.Timer.{Timer}
 use Rattle.words_core.specs.declared.Flags.{Flags}
-use Rattle.task_table.specs.State as kernel
-use Rattle.task_table.specs.State.{State, Listen}
-use Rattle.task_table.specs.Holds.{wait_of}
-use Rattle.task_table.specs.Reading.{task_at, call_of, listen_of}
+use Rattle.task_table.specs.model.State as kernel
+use Rattle.task_table.specs.model.State.{State, Listen}
+use Rattle.task_table.specs.kept.Holds.{wait_of}
+use Rattle.task_table.specs.model.Reading.{task_at, call_of, listen_of}
 use Rattle.board_core.specs.declared.views.TaskView.{TaskView}
 use Rattle.board_core.specs.Views.{IsTask}
 use Rattle.board_run.specs.Text.{low_text, high_text, task_lines, task_text, tasks_text, wait_text}

@@ -4,9 +4,9 @@ use Rattle.kernel_abi.specs.declared.Note.{Note}
 use Rattle.kernel_abi.specs.declared.Note.TheVariants as note
 use Rattle.outside_io.specs.Outside.{raised}
 use Rattle.board_run.specs.declared.counts.Counts.{Counts}
-use Rattle.board_run.specs.Counts.{Kind, Tick, Irq, Post, Call, Offer, Take, Listen, Borrow, Ret, Close, Fault, Restart, count_of}
+use Rattle.board_run.specs.Counts.{CountedKind, Tick, Irq, Post, Call, Offer, Take, Listen, Borrow, Ret, Close, Fault, Restart, count_of}
 
-abbrev pub count_at : Counts → Kind → ℕ
+abbrev pub count_at : Counts → CountedKind → ℕ
 count_at c Tick = c.tick
 count_at c Irq = c.irq
 count_at c Post = c.post
@@ -26,7 +26,7 @@ Grew before by now = before + by < 2 ^ 64 → now ≡ before + by
 
 -- each count rose by the notes of its kind
 abbrev pub HaveGrown : Counts → List (ℕ × Note) → Counts → Type 0
-HaveGrown before notes now = (kind : Kind) → Grew (count_at before kind) (count_of notes kind) (count_at now kind)
+HaveGrown before notes now = (kind : CountedKind) → Grew (count_at before kind) (count_of notes kind) (count_at now kind)
 
 -- a note more: the count of its kind rises by one, and at most to its type's end
 abbrev pub counted : Counts → Note → Counts

@@ -6,22 +6,22 @@ use Rattle.board_model.specs.Run.{Run}
 use Rattle.board_run.specs.Text.{end_line}
 
 -- the kinds of notes that are counted
-pub data Kind : Type 0 where
-  Tick : Kind
-  Irq : Kind
-  Post : Kind
-  Call : Kind
-  Offer : Kind
-  Take : Kind
-  Listen : Kind
-  Borrow : Kind
-  Ret : Kind
-  Close : Kind
-  Fault : Kind
-  Restart : Kind
+pub data CountedKind : Type 0 where
+  Tick : CountedKind
+  Irq : CountedKind
+  Post : CountedKind
+  Call : CountedKind
+  Offer : CountedKind
+  Take : CountedKind
+  Listen : CountedKind
+  Borrow : CountedKind
+  Ret : CountedKind
+  Close : CountedKind
+  Fault : CountedKind
+  Restart : CountedKind
 
 -- the note is of that kind
-abbrev pub is_of : Kind → Note → Bool
+abbrev pub is_of : CountedKind → Note → Bool
 is_of Tick (note.Tick _) = true
 is_of Irq (note.Irq _ _) = true
 is_of Post (note.Post _ _ _) = true
@@ -37,11 +37,11 @@ is_of Restart (note.Restart _ _) = true
 is_of _ _ = false
 
 -- how many of the notes, each with its turn, are of a kind
-abbrev pub count_of : List (ℕ × Note) → Kind → ℕ
+abbrev pub count_of : List (ℕ × Note) → CountedKind → ℕ
 count_of notes kind = count_by (λ n. is_of kind n.1) notes
 
 -- `tick <n> irq <n> post <n> call <n> offer <n> take <n> listen <n> borrow <n> ret <n> close <n> fault <n> restart <n>`
-unfoldable pub counts_text : (Kind → ℕ) → List ℕ
+unfoldable pub counts_text : (CountedKind → ℕ) → List ℕ
 counts_text n =
     codes "tick " ++ decimal (n Tick) ++ codes " irq " ++ decimal (n Irq) ++ codes " post " ++ decimal (n Post) ++ codes " call " ++ decimal (n Call) ++ codes " offer " ++ decimal (n Offer) ++ codes " take " ++ decimal (n Take) ++ codes " listen " ++ decimal (n Listen) ++ codes " borrow " ++ decimal (n Borrow) ++ codes " ret " ++ decimal (n Ret) ++ codes " close " ++ decimal (n Close) ++ codes " fault " ++ decimal (n Fault) ++ codes " restart " ++ decimal (n Restart) ++ codes "\n"
 

@@ -4,7 +4,7 @@ use Rattle.std.specs.List.{flat_map, list_all, range_with_len}
 use Rattle.std.specs.Option.{option_map_or}
 use Rattle.region_check.specs.declared.Region.{Region}
 use Rattle.mem_banks.specs.Memory.{Memory, byte_at}
-use Rattle.task_table.specs.State.{Setup, State}
+use Rattle.task_table.specs.model.State.{Setup, State}
 use Rattle.trace_text.specs.Text.{hex}
 use Rattle.thumb_insn.specs.Text.{hex_digit}
 

@@ -1,8 +1,8 @@
 -- Midway in a run: the notes so far were told, and a run that goes on from here is that of a state for which the board stands.
 use Rattle.std.specs.Prelude.{◌≡◌, ◌≤◌, ℕ, ◌+◌, ◌-◌, ◌*◌, List, length}
 use Rattle.kernel_abi.specs.declared.Note.{Note}
-use Rattle.task_table.specs.Limits.{turn_notes}
-use Rattle.task_table.specs.State.{State}
+use Rattle.task_table.specs.kept.Limits.{turn_notes}
+use Rattle.task_table.specs.model.State.{State}
 use Rattle.board_core.specs.declared.board.Board.{Board}
 use Rattle.board_core.specs.Data.{Shows}
 use Rattle.board_model.specs.declared.outcomes.Level.{Level}

@@ -1,7 +1,7 @@
 -- The regions of which a memory text tells (docs/FORMATS.md, Memories; this project's own).
 use Rattle.std.specs.Prelude.{◌≡◌, ◌<◌, ◌≤◌, ◌%◌, List, Contains, AllPairs}
 use Rattle.region_check.specs.declared.Region.{Region}
-use Rattle.task_table.specs.State.{Setup}
+use Rattle.task_table.specs.model.State.{Setup}
 use Rattle.board_run.specs.MemoryText.{regions_of}
 
 -- the region begins in RAM, which has at most 2^18 bytes from 0x20000000 on

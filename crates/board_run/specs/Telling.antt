@@ -4,7 +4,7 @@ use Rattle.std.specs.Io.KnownBytes.{Appends}
 use Rattle.outside_io.specs.Outside.{AppendsFront, Rose}
 use Rattle.kernel_abi.specs.declared.Note.{Note}
 use Rattle.trace_text.specs.Fit.{AreFit}
-use Rattle.task_table.specs.State.{State}
+use Rattle.task_table.specs.model.State.{State}
 use Rattle.board_core.specs.declared.board.Board.{Board}
 use Rattle.board_core.specs.Stands.{turns_of}
 use Rattle.board_model.specs.declared.outcomes.Level.{Level}

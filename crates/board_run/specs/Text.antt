@@ -2,11 +2,11 @@
 use Rattle.std.specs.Prelude.{ℕ, ◌%◌, List, ◌++◌, length, take, drop, codes, decimal, Option, Some, None}
 use Rattle.std.specs.List.{flat_map, range_with_len}
 use Rattle.words_core.specs.declared.Flags.{Flags}
-use Rattle.task_table.specs.State as kernel
-use Rattle.task_table.specs.State.{Task, State, Listen}
+use Rattle.task_table.specs.model.State as kernel
+use Rattle.task_table.specs.model.State.{Task, State, Listen}
 use Rattle.task_table.specs.declared.slot.Phase.{Phase}
 use Rattle.task_table.specs.declared.slot.Phase.TheVariants.{Offered, Taken}
-use Rattle.task_table.specs.Reading.{task_at, call_of, listen_of}
+use Rattle.task_table.specs.model.Reading.{task_at, call_of, listen_of}
 use Rattle.trace_text.specs.Text.{low_words, high_words}
 use Rattle.trace_text.specs.Lines.{notes_text, task_line}
 use Rattle.board_model.specs.declared.outcomes.End.{End}

@@ -1,7 +1,7 @@
 -- Timers whose deadlines are in range.
 use Rattle.std.specs.Prelude.{ℕ, ◌<◌, length}
-use Rattle.task_table.specs.State.{State}
-use Rattle.task_table.specs.Reading.{task_at}
+use Rattle.task_table.specs.model.State.{State}
+use Rattle.task_table.specs.model.Reading.{task_at}
 use Rattle.trace_text.specs.Fit.{IsFitTimer}
 
 -- those of the first n tasks

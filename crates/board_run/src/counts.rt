@@ -1,7 +1,7 @@
 //! How many notes of each kind a run tells.
 ghost use Rattle.std.specs.Prelude.{◌≡◌};
 ghost use Rattle.board_model.specs.Run.{at_turn};
-ghost use Rattle.board_run.specs.Counts.{Kind};
+ghost use Rattle.board_run.specs.Counts.{CountedKind};
 ghost use Rattle.board_run.specs.Counting.{HaveGrown, count_at, counted};
 
 use crate::telling::Teller;
@@ -29,7 +29,7 @@ pub struct Counts {
 impl Counts {
     /// Nothing was told yet.
     pub fn new() -> Counts
-        ensures { (kind : Kind) → count_at result kind ≡ 0 }
+        ensures { (kind : CountedKind) → count_at result kind ≡ 0 }
     {
         Counts {
             tick: 0,

@@ -1,5 +1,5 @@
 //! Lines go to a sink, one push each. After a failing push nothing more is pushed.
-ghost use Rattle.std.specs.Prelude.{◌≡◌, ◌≤◌, length, IfOk};
+ghost use Rattle.std.specs.Prelude.{◌≡◌, length, IfOk};
 ghost use Rattle.outside_io.specs.Outside.{Pushes, HasCause};
 ghost use Rattle.board_model.specs.Run.{at_turn};
 ghost use Rattle.trace_text.specs.Text.{line_of};
@@ -111,7 +111,7 @@ fn push_task<S: Sink>(i: u64, task: &TaskView, out: &mut S) -> Result<(), Failed
     push_high(&task.regs, task.flags, out)
 }
 
-ghost use Rattle.task_table.specs.State.{State};
+ghost use Rattle.task_table.specs.model.State.{State};
 ghost use Rattle.board_model.specs.Script.{Scenario};
 ghost use Rattle.board_core.specs.Stands.{Stands};
 ghost use Rattle.board_core.specs.Data.{boxed};

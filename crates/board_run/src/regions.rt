@@ -1,7 +1,7 @@
 //! The first region of a board that passes a test.
 ghost use Rattle.std.specs.Prelude.{◌≡◌, Bool, true, find, IfSome};
 ghost use Rattle.region_check.specs.declared.Region.{Region as Described};
-ghost use Rattle.task_table.specs.State.{State};
+ghost use Rattle.task_table.specs.model.State.{State};
 ghost use Rattle.board_model.specs.Script.{Scenario};
 ghost use Rattle.board_core.specs.Stands.{Stands};
 ghost use Rattle.board_core.specs.Data.{boxed};

@@ -1,13 +1,13 @@
 //! The loop over turns.
 ghost use Rattle.std.specs.Prelude.{◌≡◌, ◌≢◌, [], ◌≤◌, ◌<◌, ◌+◌, ◌-◌, ◌*◌, length, min, IfOk, MatchResult, OnOk, OnErr, IsNone, None};
 ghost use Rattle.outside_io.specs.Outside.{Pushes, HasCause};
-ghost use Rattle.task_table.specs.State.{State};
+ghost use Rattle.task_table.specs.model.State.{State};
 ghost use Rattle.board_model.specs.Script.{Scenario, start_of};
 ghost use Rattle.board_core.specs.Stands.{Stands, Stood, notes_of, turns_of};
 ghost use Rattle.board_core.specs.Data.{boxed};
 ghost use Rattle.board_model.specs.Run.{at_turn, run, ending};
 ghost use Rattle.board_model.specs.Lifetimes.{IsLedgerOfRun};
-ghost use Rattle.task_table.specs.Limits.{turn_notes};
+ghost use Rattle.task_table.specs.kept.Limits.{turn_notes};
 ghost use Rattle.trace_text.specs.Fit.{AreFit};
 ghost use Rattle.board_run.specs.Text.{trace_text};
 ghost use Rattle.board_run.specs.Timers.{HasFitTimers};

@@ -1,4 +1,4 @@
-use Rattle.task_table.specs.Holds.{order_of}
+use Rattle.task_table.specs.kept.Holds.{order_of}
 use Rattle.board_core.proofs.choice.choice_of.Goals as goal
 
 pub returns : goal.returns

@@ -1,6 +1,6 @@
 use Rattle.std.proofs.Common.{◌∙◌, sym}
-use Rattle.task_table.specs.Reading.{is_ready}
-use Rattle.task_table.specs.Holds.{order_of}
+use Rattle.task_table.specs.model.Reading.{is_ready}
+use Rattle.task_table.specs.kept.Holds.{order_of}
 use Rattle.board_model.proofs.Quiet.{chosen_again}
 use Rattle.board_core.proofs.Choosing.{same_ready, same_tests}
 use Rattle.board_core.proofs.choice.renew_choice.Goals as goal

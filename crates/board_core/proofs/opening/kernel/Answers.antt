@@ -2,10 +2,10 @@ use Rattle.std.proofs.Common.{◌≡◌, length, sym, ap, subst}
 use Rattle.std.specs.Prelude.{Result, Ok, Err, IfOk}
 use Rattle.image_format.specs.Images.{picture}
 use Rattle.task_table.specs.declared.kernel.Kernel.{Kernel}
-use Rattle.task_table.specs.State.{Setup}
-use Rattle.task_table.specs.Start.{start, begun}
-use Rattle.task_table.specs.Parts.{IsSound}
-use Rattle.task_table.specs.Holds.{Stands}
+use Rattle.task_table.specs.model.State.{Setup}
+use Rattle.task_table.specs.model.Start.{start, begun}
+use Rattle.task_table.specs.kept.Parts.{IsSound}
+use Rattle.task_table.specs.kept.Holds.{Stands}
 use Rattle.board_core.specs.Machine.{IsStarted}
 use Rattle.mem_banks.specs.Memory.{Opened, AreRegions}
 use Rattle.board_core.proofs.Opens.{parts_are, sound_setup, places_are, openable, few_lines, few_tasks}

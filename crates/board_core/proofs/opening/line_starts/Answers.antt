@@ -2,7 +2,7 @@ use Rattle.std.proofs.Common.{◌≡◌, ◌∙◌, ◌<◌, ◌+◌, ◌++◌, 
 use Rattle.std.proofs.lemmas.List.{map-append, take_more}
 use Rattle.image_format.specs.Images.{picture}
 use Rattle.image_format.specs.Picture.{no_line}
-use Rattle.task_table.specs.Parts.{line_setup}
+use Rattle.task_table.specs.kept.Parts.{line_setup}
 use Rattle.board_core.specs.Opened.{setup_of_line}
 use Rattle.board_core.proofs.opening.line_starts.Goals as goal
 

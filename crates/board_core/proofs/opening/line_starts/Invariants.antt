@@ -1,6 +1,6 @@
 use Rattle.std.proofs.Common.{◌≡◌, map, take}
 use Rattle.image_format.specs.Images.{picture}
-use Rattle.task_table.specs.Parts.{line_setup}
+use Rattle.task_table.specs.kept.Parts.{line_setup}
 use Rattle.board_core.specs.Opened.{setup_of_line}
 use Rattle.board_core.proofs.opening.line_starts.Given as goal
 

@@ -2,10 +2,10 @@ use Rattle.std.proofs.Common.{◌≡◌, ◌+◌, ◌∷◌, [], ℕ, List, ap, 
 use Rattle.std.specs.Prelude.{map, filter, vec_items}
 use Rattle.std.proofs.lemmas.List.{map-append}
 use Rattle.region_check.specs.declared.Region.{Region}
-use Rattle.task_table.specs.Holds.{setup_of, task_count}
-use Rattle.board_core.specs.Sights.{is_port}
-use Rattle.board_core.specs.Ports.{ArePorts}
-use Rattle.board_core.proofs.Ports.{none_first, one_further}
+use Rattle.task_table.specs.kept.Holds.{setup_of, task_count}
+use Rattle.board_core.specs.fast.Sights.{is_port}
+use Rattle.board_core.specs.fast.Ports.{ArePorts}
+use Rattle.board_core.proofs.fast.Ports.{none_first, one_further}
 use Rattle.board_core.proofs.opening.ports.Goals as goal
 
 pub loop-task-init : goal.loop-task-init

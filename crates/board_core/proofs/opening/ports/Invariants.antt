@@ -1,6 +1,6 @@
 use Rattle.std.specs.Prelude.{map, vec_items}
-use Rattle.task_table.specs.Holds.{setup_of}
-use Rattle.board_core.specs.Ports.{ArePorts}
+use Rattle.task_table.specs.kept.Holds.{setup_of}
+use Rattle.board_core.specs.fast.Ports.{ArePorts}
 use Rattle.board_core.proofs.opening.ports.Given as goal
 
 -- those of the tasks so far

@@ -1,6 +1,6 @@
 use Rattle.std.proofs.Common.{◌≡◌, map, take}
 use Rattle.image_format.specs.Images.{picture}
-use Rattle.task_table.specs.Parts.{task_setup}
+use Rattle.task_table.specs.kept.Parts.{task_setup}
 use Rattle.board_core.specs.Opened.{setup_of_task}
 use Rattle.board_core.proofs.opening.task_starts.Given as goal
 

@@ -1,6 +1,6 @@
 use Rattle.std.proofs.Common.{◌≡◌, drop}
 use Rattle.std.specs.Prelude.{find}
-use Rattle.board_core.specs.Reached.{is_area}
+use Rattle.board_core.specs.fast.Reached.{is_area}
 use Rattle.board_core.proofs.reach.area_of.Given as goal
 
 -- none so far

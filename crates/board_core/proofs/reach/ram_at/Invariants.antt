@@ -1,6 +1,6 @@
 use Rattle.std.proofs.Common.{◌≡◌, false, take}
 use Rattle.std.specs.List.{list_any}
-use Rattle.board_core.specs.Reached.{is_ram_at}
+use Rattle.board_core.specs.fast.Reached.{is_ram_at}
 use Rattle.board_core.proofs.reach.ram_at.Given as goal
 
 -- none so far

@@ -1,6 +1,6 @@
 use Rattle.kernel_abi.proofs.Devices.{fresh_sane}
-use Rattle.task_table.proofs.Equipped.{keeps-devices}
-use Rattle.task_table.proofs.Starts.{sane-start}
+use Rattle.task_table.proofs.model.Equipped.{keeps-devices}
+use Rattle.task_table.proofs.kept.Starts.{sane-start}
 use Rattle.board_core.specs.Opened.{setup_of_image}
 use Rattle.board_core.proofs.Opens.{sound_setup}
 use Rattle.board_core.proofs.start_laws.the_start_of_every_run_is_sane.Goals as goal

@@ -1,4 +1,10 @@
 use Rattle.board_core.proofs.syscalls.receive.Goals as goal
 
-pub returns-clause-stands : goal.returns-clause-stands
-returns-clause-stands c = λ g t st ready. rw (c.best_sender-best.ensures.best g t st) at (c.recv.ensures.stands g t st ready (c.best_sender-best.ensures.best g t st))
+pub returns : goal.returns
+returns c =
+    record {
+      stands = λ g t st ready.
+          let best = c.best_sender-best.ensures.best g t st in
+          rw best at (c.recv.ensures.stands g t st ready best);
+      frame = c.recv.ensures.frame;
+    }

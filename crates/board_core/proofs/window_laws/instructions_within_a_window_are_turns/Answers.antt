@@ -1,4 +1,4 @@
-use Rattle.board_core.proofs.SightTurns.{are_turns}
+use Rattle.board_core.proofs.fast.SightTurns.{are_turns}
 use Rattle.board_core.proofs.window_laws.instructions_within_a_window_are_turns.Goals as goal
 
 pub returns : goal.returns

@@ -1,5 +1,5 @@
 use Rattle.region_check.proofs.Sharing as alone
-use Rattle.task_table.specs.Reading.{setup_at}
+use Rattle.task_table.specs.model.Reading.{setup_at}
 use Rattle.board_model.proofs.loners.who_is_alone_is_a_loner.Goals as goal
 
 pub returns : goal.returns

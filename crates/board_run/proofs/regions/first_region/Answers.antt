@@ -2,7 +2,7 @@ use Rattle.std.proofs.Common.{◌≡◌, ◌∙◌, ◌<◌, ℕ, Option, None, 
 use Rattle.std.specs.Prelude.{find}
 use Rattle.std.specs.List.{flat_map}
 use Rattle.region_check.specs.declared.Region.{Region}
-use Rattle.task_table.specs.State.{TaskSetup}
+use Rattle.task_table.specs.model.State.{TaskSetup}
 use Rattle.board_run.proofs.MemoryLines.{find_on, find_here, find_none}
 use Rattle.board_run.proofs.regions.first_region.Goals as goal
 

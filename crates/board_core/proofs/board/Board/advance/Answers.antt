@@ -1,8 +1,8 @@
 use Rattle.std.proofs.Common.{◌≡◌, ◌-◌, ℕ, sym, arith, subst}
 use Rattle.board_model.specs.declared.outcomes.Level.{Level}
 use Rattle.board_core.specs.Stands.{turns_of}
-use Rattle.board_core.specs.Advanced.{IsAdvanced}
-use Rattle.board_core.proofs.Gliding.{first_turn}
+use Rattle.board_core.specs.fast.Advanced.{IsAdvanced}
+use Rattle.board_core.proofs.fast.Gliding.{first_turn}
 use Rattle.board_core.specs.Data.{boxed}
 use Rattle.board_core.proofs.board.Board.advance.Goals as goal
 

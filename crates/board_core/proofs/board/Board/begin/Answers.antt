@@ -1,7 +1,7 @@
 use Rattle.std.proofs.Common.{◌≡◌, ◌≢◌, ◌<◌, [], Some, sym, ◌∙◌, ap, subst}
 use Rattle.run_script.specs.Scripts.{events_of}
-use Rattle.task_table.specs.State.{State, Turn}
-use Rattle.task_table.specs.Start.{begun}
+use Rattle.task_table.specs.model.State.{State, Turn}
+use Rattle.task_table.specs.model.Start.{begun}
 use Rattle.board_core.specs.declared.board.Board.{Board}
 use Rattle.board_core.specs.declared.machine.Machine.{Machine}
 use Rattle.board_model.specs.Script.{Scenario}

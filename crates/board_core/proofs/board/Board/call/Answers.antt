@@ -1,5 +1,5 @@
 use Rattle.std.specs.Prelude.{map, vec_items}
-use Rattle.board_core.specs.Ports.{AllPorts}
+use Rattle.board_core.specs.fast.Ports.{AllPorts}
 use Rattle.std.proofs.Common.{ℕ, Option, sym, ◌∙◌, ap, subst, arith}
 use Rattle.run_script.specs.Events.{script_data}
 use Rattle.run_script.specs.Scripts.{IsNext}
@@ -7,15 +7,15 @@ use Rattle.run_script.specs.declared.script.Script.{Script}
 use Rattle.board_model.specs.declared.outcomes.Level.TheVariants.{Calls}
 use Rattle.board_model.specs.Turn.{turn, after_events, turn_of}
 use Rattle.board_core.specs.Machine.{MachineHolds}
-use Rattle.board_core.proofs.Skipping.{call_now}
+use Rattle.board_core.proofs.fast.Skipping.{call_now}
 use Rattle.board_core.proofs.Turning.{rested, rested_as, noted_in, stands_after, turn_notes, choice_kept, few_events}
 use Rattle.board_model.proofs.TurnChains.{sane-after_events}
 use Rattle.board_model.proofs.Counts.{counted_turn, turn_more, later-after_events}
 use Rattle.board_core.specs.Data.{boxed}
 use Rattle.board_core.proofs.board.Board.call.Goals as goal
 
-pub call-requires-clause-next : goal.call-requires-clause-next
-call-requires-clause-next boxes c =
+pub call-requires : goal.call-requires
+call-requires boxes c =
     let x = c.requires.stood.0 in
     let s = c.requires.stood.1 in
     let st = c.requires.stood.2 in
@@ -25,7 +25,10 @@ call-requires-clause-next boxes c =
     let turns = st.holds.turns in
     let counted = st.counted.calls in
     let few = c.requires.few in
-    (x.setup, after_events x s, now.next, omega (arith, later.next_call, turns, counted, few))
+    record {
+      next = (x.setup, after_events x s, now.next, omega (arith, later.next_call, turns, counted, few));
+      room = omega (arith, c.begin.ensures.count);
+    }
 
 pub renew-requires : goal.renew-requires
 renew-requires boxes c =
@@ -40,8 +43,8 @@ renew-requires boxes c =
     let h = subst P now.next.is (c.call.ensures.holds x.setup _ now.next now.calling) in
     (x.setup, rested m (turn Calls x s).state, stands_after shown Calls x s m st.sane h)
 
-pub returns-clause-model : goal.returns-clause-model
-returns-clause-model boxes c =
+pub returns-clause-made : goal.returns-clause-made
+returns-clause-made boxes c =
     let shown = boxed (λ p. (goal.Device-dyn boxes p).shown p.1) in
     λ x s st call.
     let b = c.args.self.now in
@@ -55,26 +58,17 @@ returns-clause-model boxes c =
     let N : ℕ → Type 0 = λ from. IsNext x.script from b.due in
     let D : Option ℕ → Type 0 = λ due. IsNext x.script (turn Calls x s).state.turn due in
     record {
-      holds = record {
-        machine = rested_as shown x.setup m c.renew.new.self.machine (turn Calls x s).state (c.renew.ensures.holds x.setup _ after.holds);
-        turns = let a = st.holds.turns in let r = c.renew.ensures.turns in omega (arith, more, a, r);
-        choice = c.renew.ensures.choice x.setup (rested m (turn Calls x s).state) after ((after_events x s).state, sane-after_events x s st.sane, mid.choice) (choice_kept shown Calls x s m _ st.sane h mid.choice);
-        script = ap (λ (script : Script). script_data script) c.renew.ensures.script ∙ mid.script;
-        ports = subst (λ ports. AllPorts x.setup (map vec_items ports.items)) (sym c.renew.ensures.ports) mid.ports;
-        due = subst D (sym c.renew.ensures.due) (subst N (sym more) mid.due);
+      stands = record {
+        holds = record {
+          machine = rested_as shown x.setup m c.renew.new.self.machine (turn Calls x s).state (c.renew.ensures.holds x.setup _ after.holds);
+          turns = let a = st.holds.turns in let r = c.renew.ensures.turns in omega (arith, more, a, r);
+          choice = c.renew.ensures.choice x.setup (rested m (turn Calls x s).state) after ((after_events x s).state, sane-after_events x s st.sane, mid.choice) (λ none. choice_kept shown Calls x s m _ st.sane h mid.choice (omega (arith, none)));
+          script = ap (λ (script : Script). script_data script) c.renew.ensures.script ∙ mid.script;
+          ports = subst (λ ports. AllPorts x.setup (map vec_items ports.items)) (sym c.renew.ensures.ports) mid.ports;
+          due = subst D (sym c.renew.ensures.due) (subst N (sym more) mid.due);
+        };
+        sane = after.sane;
+        counted = counted_turn Calls x s st.sane (few_events shown x s b st) st.counted;
       };
-      sane = after.sane;
-      counted = counted_turn Calls x s st.sane (few_events shown x s b st) st.counted;
+      notes = noted_in shown x.setup c.renew.new.self.machine _ (c.renew.ensures.holds x.setup _ after.holds) ∙ turn_notes shown Calls x s m h;
     }
-
-pub returns-clause-notes : goal.returns-clause-notes
-returns-clause-notes boxes c =
-    let shown = boxed (λ p. (goal.Device-dyn boxes p).shown p.1) in
-    λ x s st call.
-    let b = c.args.self.now in
-    let m = c.call.new.self in
-    let now = call_now shown x s b c.begin.new.self c.args.task st call c.requires.few (c.begin.ensures.holds x.setup (rested b.machine s) st.holds.machine) in
-    let P : Option ℕ → Type 0 = λ o. MachineHolds shown x.setup m (turn_of Calls x.setup o (after_events x s)) in
-    let h = subst P now.next.is (c.call.ensures.holds x.setup _ now.next now.calling) in
-    let after = stands_after shown Calls x s m st.sane h in
-    noted_in shown x.setup c.renew.new.self.machine _ (c.renew.ensures.holds x.setup _ after.holds) ∙ turn_notes shown Calls x s m h

@@ -1,14 +1,20 @@
-use Rattle.std.proofs.Common.{◌≡◌, ℕ, Bool, true, false, Some, sym, ◌∙◌, subst}
-use Rattle.board_core.specs.Advanced.{IsFar, state_now}
-use Rattle.board_core.proofs.Gliding.{none_made}
-use Rattle.board_core.specs.Stops.{stops_at}
+use Rattle.std.proofs.Common.{◌≡◌, ℕ, Bool, true, false, Some, sym, ◌∙◌, subst, arith}
+use Rattle.board_core.specs.fast.Advanced.{IsFar, state_now}
+use Rattle.board_core.proofs.fast.Gliding.{none_made}
+use Rattle.board_core.specs.fast.Stops.{stops_at}
 use Rattle.board_core.proofs.board.Board.glide.Goals as goal
 
-pub returns-then-self-until-clause-glided : goal.returns-then-self-until-clause-glided
-returns-then-self-until-clause-glided boxes c = λ x s st. none_made _ _ x s c.args.self.now st
+pub returns-then-self-until-clause-fast : goal.returns-then-self-until-clause-fast
+returns-then-self-until-clause-fast boxes c = record { glided = λ x s st. none_made _ _ x s c.args.self.now st; more = omega arith; within = λ less. less }
 
-pub returns-in-None-clause-glided : goal.returns-in-None-clause-glided
-returns-in-None-clause-glided boxes c = c.idle_on.ensures.glided (stops_at c.args.breakpoints.now c.args.watched)
+pub returns-in-None-clause-fast : goal.returns-in-None-clause-fast
+returns-in-None-clause-fast boxes c = c.idle_on.ensures.fast (stops_at c.args.breakpoints.now c.args.watched)
+
+pub returns-then-glide_on-clause-fast : goal.returns-then-glide_on-clause-fast
+returns-then-glide_on-clause-fast boxes c = c.glide_on.ensures.fast
+
+pub returns-else-glide_on-clause-fast : goal.returns-else-glide_on-clause-fast
+returns-else-glide_on-clause-fast boxes c = c.glide_on.ensures.fast
 
 pub returns-then-glide_on-clause-far : goal.returns-then-glide_on-clause-far
 returns-then-glide_on-clause-far boxes c = λ x s i st is up lt.

@@ -1,15 +1,15 @@
 use Rattle.std.proofs.Common.{◌≡◌, ◌-◌, ◌+◌, ℕ, suc, eqb, length, true, false, [], Option, Some, None, inr, not, sym, ◌∙◌, ap, subst, arith}
 use Rattle.std.specs.Option.{is_some}
 use Rattle.std.proofs.lemmas.Bool.{false≢true}
-use Rattle.task_table.specs.State.{State}
+use Rattle.task_table.specs.model.State.{State}
 use Rattle.board_model.specs.declared.outcomes.End.{End}
 use Rattle.board_model.specs.declared.outcomes.Level.TheVariants.{Calls}
 use Rattle.board_model.specs.Script.{Scenario}
 use Rattle.board_model.specs.Run.{ending, turn_after}
 use Rattle.board_core.specs.Stands.{notes_of, turns_of}
-use Rattle.board_core.specs.Advanced.{IsAdvanced}
+use Rattle.board_core.specs.fast.Advanced.{IsAdvanced}
 use Rattle.board_core.proofs.Turning.{empty_of}
-use Rattle.board_core.proofs.Gliding.{joined}
+use Rattle.board_core.proofs.fast.Gliding.{joined}
 use Rattle.board_core.specs.Data.{boxed}
 use Rattle.board_core.proofs.board.Board.go_on.Goals as goal
 

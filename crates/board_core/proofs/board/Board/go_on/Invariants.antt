@@ -1,10 +1,10 @@
 use Rattle.std.proofs.Common.{◌-◌, ◌<◌, ◌≤◌, length}
-use Rattle.task_table.specs.Limits.{turn_notes}
-use Rattle.task_table.specs.State.{State}
+use Rattle.task_table.specs.kept.Limits.{turn_notes}
+use Rattle.task_table.specs.model.State.{State}
 use Rattle.board_model.specs.declared.outcomes.Level.TheVariants.{Calls}
 use Rattle.board_model.specs.Script.{Scenario}
 use Rattle.board_core.specs.Stands.{Stands, notes_of, turns_of}
-use Rattle.board_core.specs.Advanced.{IsAdvanced}
+use Rattle.board_core.specs.fast.Advanced.{IsAdvanced}
 use Rattle.board_core.specs.Data.{boxed}
 use Rattle.board_core.proofs.board.Board.go_on.Given as goal
 

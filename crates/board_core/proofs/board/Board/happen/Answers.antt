@@ -1,9 +1,9 @@
 use Rattle.std.proofs.Common.{◌≡◌, ◌+◌, ℕ, ap, subst, arith}
 use Rattle.std.specs.Prelude.{fold}
 use Rattle.run_script.specs.Scripts.{ScriptData, IsNext, events_of}
-use Rattle.task_table.specs.State.{State, Turn}
-use Rattle.task_table.specs.Start.{begun}
-use Rattle.task_table.specs.Holds.{Stands}
+use Rattle.task_table.specs.model.State.{State, Turn}
+use Rattle.task_table.specs.model.Start.{begun}
+use Rattle.task_table.specs.kept.Holds.{Stands}
 use Rattle.board_core.specs.declared.machine.Machine.{Machine}
 use Rattle.board_core.specs.Machine.{MachineStands}
 use Rattle.board_model.specs.Turn.{happened, after_events}
@@ -36,12 +36,12 @@ returns-clause-midway boxes c =
     let after : MachineStands shown g c.happen_all.new.self (after_events x s) = subst A (all_events x s) (subst T due.turns (subst S due.script (c.happen_all.ensures.stands g (begun s) due.machine))) in
     let saved = c.save_context.ensures.holds g (after_events x s) after.holds in
     let stands : Stands g c.save_context.new.self.reach.kernel (after_events x s) = record { holds = saved.kernel; sane = after.sane } in
-    let N : ScriptData → Type 0 = λ script. IsNext script (b.turns + 1) c.next-self.result in
-    let M : ℕ → Type 0 = λ turn. IsNext x.script (turn + 1) c.next-self.result in
+    let N : ScriptData → Type 0 = λ script. IsNext script (b.turns + 1) c.next_from-self.result in
+    let M : ℕ → Type 0 = λ turn. IsNext x.script (turn + 1) c.next_from-self.result in
     record {
       machine = unloaded_stands _ g m (after_events x s) c.save_context.ensures.unloaded stands saved.devices;
       choice = c.renew_choice.ensures g (after_events x s) stands.holds due.choice;
       script = due.script;
       ports = due.ports;
-      due = subst M due.turns (subst N due.script c.next-self.ensures);
+      due = subst M due.turns (subst N due.script c.next_from-self.ensures);
     }

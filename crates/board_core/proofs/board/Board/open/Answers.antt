@@ -2,13 +2,13 @@ use Rattle.std.proofs.Common.{ℕ, List, map, ap, subst, ◌∙◌}
 use Rattle.kernel_abi.specs.Devices.{DeviceData}
 use Rattle.run_script.specs.Events.{script_data}
 use Rattle.run_script.specs.Scripts.{ScriptData, IsNext}
-use Rattle.task_table.specs.Start.{start, begun}
+use Rattle.task_table.specs.model.Start.{start, begun}
 use Rattle.board_core.specs.Opened.{setup_of_image}
 use Rattle.image_format.specs.Images.{picture}
 use Rattle.board_core.specs.Data.{boxed, data_of}
 use Rattle.board_core.proofs.Running.{started, opened, choice_started, counted_started, turn_started}
 use Rattle.board_core.proofs.Loading.{opened_as}
-use Rattle.board_core.proofs.Ports.{all_ports}
+use Rattle.board_core.proofs.fast.Ports.{all_ports}
 use Rattle.board_core.proofs.board.Board.open.Goals as goal
 
 pub returns-clause-stands : goal.returns-clause-stands

@@ -1,7 +1,7 @@
 use Rattle.std.proofs.Common.{refl, ◌∷◌, [], subst, List, ℕ}
 use Rattle.mem_banks.specs.Memory.{with_bytes}
-use Rattle.task_table.specs.State.{State}
-use Rattle.task_table.specs.Holds.{Holds as KernelHolds}
+use Rattle.task_table.specs.model.State.{State}
+use Rattle.task_table.specs.kept.Holds.{Holds as KernelHolds}
 use Rattle.board_model.specs.Script.{Scenario}
 use Rattle.board_core.specs.Setting.{with_flash}
 use Rattle.board_core.proofs.Turning.{rested}

@@ -1,5 +1,5 @@
 use Rattle.std.proofs.Common.{refl}
-use Rattle.task_table.specs.State.{State}
+use Rattle.task_table.specs.model.State.{State}
 use Rattle.board_core.proofs.Turning.{rested}
 use Rattle.board_core.proofs.Told.{holds_told}
 use Rattle.board_core.proofs.board.Board.set_current.Goals as goal

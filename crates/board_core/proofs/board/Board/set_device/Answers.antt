@@ -1,8 +1,8 @@
 use Rattle.std.proofs.Common.{◌<◌, List, length, ap, subst, refl, sym, ◌∙◌}
 use Rattle.kernel_abi.specs.Devices.{DeviceData, device_at, with_device, IsSettable}
-use Rattle.task_table.specs.State.{State}
-use Rattle.task_table.specs.Effects.{with_devices}
-use Rattle.task_table.specs.Holds.{kept_of}
+use Rattle.task_table.specs.model.State.{State}
+use Rattle.task_table.specs.model.Effects.{with_devices}
+use Rattle.task_table.specs.kept.Holds.{kept_of}
 use Rattle.board_core.proofs.Turning.{rested}
 use Rattle.board_core.proofs.Reaching.{holds_devices}
 use Rattle.board_core.proofs.Told.{holds_told, choice_of_devices}

@@ -1,6 +1,6 @@
 use Rattle.std.proofs.Common.{refl, set}
-use Rattle.task_table.specs.State.{State}
-use Rattle.task_table.specs.Effects.{with_line}
+use Rattle.task_table.specs.model.State.{State}
+use Rattle.task_table.specs.model.Effects.{with_line}
 use Rattle.task_table.specs.declared.Line.{Line}
 use Rattle.board_core.proofs.Turning.{rested}
 use Rattle.board_core.proofs.Told.{holds_told, choice_stays}

@@ -1,5 +1,5 @@
 use Rattle.std.proofs.Common.{refl}
-use Rattle.task_table.specs.State.{State}
+use Rattle.task_table.specs.model.State.{State}
 use Rattle.board_core.proofs.Turning.{rested}
 use Rattle.board_core.proofs.Told.{holds_told, choice_stays}
 use Rattle.board_core.proofs.board.Board.set_next_call.Goals as goal

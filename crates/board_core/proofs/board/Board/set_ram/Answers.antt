@@ -1,6 +1,6 @@
 use Rattle.std.proofs.Common.{refl, ◌∙◌, sym, ap, length}
 use Rattle.mem_banks.specs.Memory.{Memory}
-use Rattle.task_table.specs.State.{State}
+use Rattle.task_table.specs.model.State.{State}
 use Rattle.board_core.proofs.Turning.{rested}
 use Rattle.board_core.proofs.Told.{holds_told, choice_stays}
 use Rattle.board_core.proofs.board.Board.set_ram.Goals as goal

@@ -1,9 +1,9 @@
 use Rattle.std.proofs.Common.{refl, sym, ◌∙◌, subst}
-use Rattle.task_table.specs.State.{State}
-use Rattle.task_table.specs.Setting.{with_slot}
+use Rattle.task_table.specs.model.State.{State}
+use Rattle.task_table.specs.kept.Setting.{with_slot}
 use Rattle.task_table.specs.declared.slot.Slot.{Slot}
-use Rattle.task_table.specs.Holds.{Holds as KernelHolds}
-use Rattle.task_table.specs.Effects.{changed}
+use Rattle.task_table.specs.kept.Holds.{Holds as KernelHolds}
+use Rattle.task_table.specs.model.Effects.{changed}
 use Rattle.board_core.specs.Setting.{slot_told}
 use Rattle.board_core.proofs.Turning.{rested}
 use Rattle.board_core.proofs.Told.{holds_told, turn-with_slot, devices-with_slot}

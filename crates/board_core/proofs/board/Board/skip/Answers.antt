@@ -3,7 +3,7 @@ use Rattle.board_model.specs.declared.outcomes.Level.TheVariants.{Calls}
 use Rattle.board_core.specs.Stands.{Stands, turns_of}
 use Rattle.board_model.specs.Run.{state_after}
 use Rattle.board_core.proofs.Turning.{rested}
-use Rattle.board_core.proofs.Skipping.{quiet_begun, begun_board, skipped, not_due}
+use Rattle.board_core.proofs.fast.Skipping.{quiet_begun, begun_board, skipped, not_due}
 use Rattle.board_core.specs.Data.{boxed}
 use Rattle.board_core.proofs.board.Board.skip.Goals as goal
 

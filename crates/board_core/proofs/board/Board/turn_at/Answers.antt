@@ -1,5 +1,5 @@
 use Rattle.std.specs.Prelude.{map, vec_items}
-use Rattle.board_core.specs.Ports.{AllPorts}
+use Rattle.board_core.specs.fast.Ports.{AllPorts}
 use Rattle.std.proofs.Common.{ℕ, Option, sym, ◌∙◌, ap, subst, arith}
 use Rattle.run_script.specs.Events.{script_data}
 use Rattle.run_script.specs.Scripts.{IsNext}
@@ -16,8 +16,8 @@ use Rattle.board_model.proofs.LonerFrame.{alone-turn, bytes-turn}
 use Rattle.board_model.proofs.LonerOwnTurns.{own_turns}
 use Rattle.board_core.proofs.board.Board.turn_at.Goals as goal
 
-pub turn-turned-requires-clause-next : goal.turn-turned-requires-clause-next
-turn-turned-requires-clause-next boxes c =
+pub turn-turned-requires : goal.turn-turned-requires
+turn-turned-requires boxes c =
     let x = c.requires.stood.0 in
     let s = c.requires.stood.1 in
     let st = c.requires.stood.2 in
@@ -26,7 +26,10 @@ turn-turned-requires-clause-next boxes c =
     let turns = st.holds.turns in
     let counted = st.counted.calls in
     let few = c.requires.few in
-    (x.setup, after_events x s, next_of _ x s c.begin.new.self mid, omega (arith, later.next_call, turns, counted, few))
+    record {
+      next = (x.setup, after_events x s, next_of _ x s c.begin.new.self mid, omega (arith, later.next_call, turns, counted, few));
+      room = omega (arith, c.begin.ensures.few);
+    }
 
 pub renew-requires : goal.renew-requires
 renew-requires boxes c =
@@ -47,13 +50,14 @@ returns-clause-model boxes c = λ x s st.
     let h = as_chosen _ level x s m _ mid.choice (c.turn-turned.ensures.holds x.setup _ (next_of _ x s c.begin.new.self mid)) in
     let after = stands_after _ level x s m st.sane h in
     let more = turn_more level x s st.sane in
+    let noted = c.notes-noted.ensures ∙ noted_in _ x.setup c.begin.new.self.machine _ mid.machine.holds in
     let N : ℕ → Type 0 = λ from. IsNext x.script from c.begin.new.self.due in
     let D : Option ℕ → Type 0 = λ due. IsNext x.script (turn level x s).state.turn due in
     record {
       holds = record {
         machine = rested_as _ x.setup m c.renew.new.self.machine (turn level x s).state (c.renew.ensures.holds x.setup _ after.holds);
         turns = let a = st.holds.turns in let b = c.begin.ensures.turns in let r = c.renew.ensures.turns in omega (arith, more, a, b, r);
-        choice = c.renew.ensures.choice x.setup (rested m (turn level x s).state) after ((after_events x s).state, sane-after_events x s st.sane, mid.choice) (choice_kept _ level x s m _ st.sane h mid.choice);
+        choice = c.renew.ensures.choice x.setup (rested m (turn level x s).state) after ((after_events x s).state, sane-after_events x s st.sane, mid.choice) (λ few. choice_kept _ level x s m _ st.sane h mid.choice (rw (sym noted) few));
         script = ap (λ (script : Script). script_data script) c.renew.ensures.script ∙ mid.script;
         ports = subst (λ ports. AllPorts x.setup (map vec_items ports.items)) (sym c.renew.ensures.ports) mid.ports;
         due = subst D (sym c.renew.ensures.due) (subst N (sym more) mid.due);
@@ -77,9 +81,6 @@ returns-clause-turned boxes c = λ x s st.
     let mid = c.begin.ensures.midway x s st in
     c.turn-turned.ensures.turned x.setup _ (next_of _ x s c.begin.new.self mid) ∙ ap (turned_of (after_events x s).state) mid.choice.next
 
-pub turn-turned-requires-clause-room : goal.turn-turned-requires-clause-room
-turn-turned-requires-clause-room boxes c = omega (arith, c.begin.ensures.few)
-
 pub returns-clause-few : goal.returns-clause-few
 returns-clause-few boxes c = omega (arith, c.renew.ensures.count, c.turn-turned.ensures.count, c.begin.ensures.few)
 
@@ -90,7 +91,7 @@ pub returns-clause-due : goal.returns-clause-due
 returns-clause-due boxes c = λ not_due. c.renew.ensures.due ∙ c.begin.ensures.due not_due
 
 pub returns-clause-kept : goal.returns-clause-kept
-returns-clause-kept boxes c = λ not_due none. c.renew.ensures.kept none ∙ c.begin.ensures.kept not_due
+returns-clause-kept boxes c = λ not_due none. c.renew.ensures.kept (rw none (omega arith)) ∙ c.begin.ensures.kept not_due
 
 pub returns-clause-grounds : goal.returns-clause-grounds
 returns-clause-grounds boxes c = λ x s st. grounded-turn c.args.level x s st.sane

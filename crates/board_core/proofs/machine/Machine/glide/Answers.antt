@@ -2,12 +2,12 @@ use Rattle.words_core.specs.Regs.{stack_pointer, program_counter}
 use Rattle.std.proofs.Common.{◌≡◌, true, ℕ, inl, inr, refl, sym, ◌∙◌, ap, arith}
 use Rattle.std.proofs.lemmas.Bool.{false≢true}
 use Rattle.std.specs.List.{list_any}
-use Rattle.task_table.specs.State.{Setup}
-use Rattle.task_table.specs.Reading.{setup_at, register}
-use Rattle.board_core.specs.Stops.{stops_at}
-use Rattle.board_core.specs.Reached.{is_flash_at}
+use Rattle.task_table.specs.model.State.{Setup}
+use Rattle.task_table.specs.model.Reading.{setup_at, register}
+use Rattle.board_core.specs.fast.Stops.{stops_at}
+use Rattle.board_core.specs.fast.Reached.{is_flash_at}
 use Rattle.board_core.proofs.Loading.{context_register, context_cpu}
-use Rattle.board_core.proofs.Windowing.{are_usable, stretch_as, apart_here, glider_work, context_devices, has_run, has_stayed}
+use Rattle.board_core.proofs.fast.Windowing.{are_usable, IsAimed, apart_here, glider_work, context_devices, has_run, has_stayed}
 use Rattle.board_core.proofs.machine.Machine.glide.Goals as goal
 
 pub returns-in_default-clause-glided : goal.returns-in_default-clause-glided
@@ -28,7 +28,7 @@ returns-in_default-clause-glided boxes c = λ g t r inside ready alone.
 
 pub returns-then-not-open_window-clause-glided : goal.returns-then-not-open_window-clause-glided
 returns-then-not-open_window-clause-glided boxes c = λ g t r inside ready alone.
-    let opened : c.open_window.result ≡ true = c.open_window.ensures.given c.args.task (are_usable _ _ _ _ _ _ _ c.in-Some.ensures) in
+    let opened : c.open_window.result ≡ true = c.open_window.ensures.given c.args.task (are_usable _ _ _ _ _ c.in-Some.ensures) in
     absurd (false≢true (sym c.if-not-open_window.true ∙ opened))
 
 pub returns-clause-glided : goal.returns-clause-glided
@@ -39,12 +39,12 @@ returns-clause-glided boxes c = λ g t r inside ready alone.
     let pc = c.get-pc.ensures ∙ context_register _ program_counter g m task t h inside in
     let sp = c.get-sp.ensures ∙ context_register _ stack_pointer g m task t h inside in
     let aim = c.aim.ensures in
-    let stretch = stretch_as c.args.breakpoints.now _ _ _ _ _ _ _ aim.code aim.size c.stretch_of-code.ensures in
+    let fields : IsAimed c.args.breakpoints.now c.get-pc.result c.in-Some.regions c.aim.new.self.runner.window = record { flash = aim.flash; stretch = rw (aim.code, aim.size) c.stretch_of-code.ensures; readable = aim.readable; ram = aim.ram; area = aim.area; writable = aim.writable; second = aim.second; second_writable = aim.second_writable } in
     let opened = c.open_window.ensures.opened c.if-not-open_window.false in
     let a = c.aim.new.self in
-    let apart = apart_here _ (stops_at c.args.breakpoints.now c.args.watched) g m task c.args.most t _ _ _ _ _ _ a _ a.runner.window c.open_window.new.self h inside c.in-Some.ensures pc sp aim.flash stretch aim.readable aim.ram aim.area aim.writable opened in
-    let work = glider_work g task a c.open_window.new.user _ _ _ _ _ t.state.devices _ c.args.most alone (aim.processor ∙ context_cpu _ g m task t h inside) aim.most apart opened.window.work in
-    inl (has_run _ (stops_at c.args.breakpoints.now c.args.watched) g m task c.args.most t _ _ _ _ _ _ a _ a.runner.window c.open_window.new.self h inside c.in-Some.ensures pc sp aim.flash stretch aim.readable aim.ram aim.area aim.writable opened
+    let apart = apart_here _ (stops_at c.args.breakpoints.now c.args.watched) g m task c.args.most t c.in-Some.regions _ _ _ a _ a.runner.window c.open_window.new.self h inside c.in-Some.ensures pc sp fields opened in
+    let work = glider_work g task a c.open_window.new.user _ _ _ _ _ _ _ t.state.devices _ c.args.most alone (aim.processor ∙ context_cpu _ g m task t h inside) aim.most apart opened.window.work in
+    inl (has_run _ (stops_at c.args.breakpoints.now c.args.watched) g m task c.args.most t c.in-Some.regions _ _ _ a _ a.runner.window c.open_window.new.self h inside c.in-Some.ensures pc sp fields opened
     _ _ _ _ work _ (omega (arith, c.if-made-eq0.false)) refl refl (context_devices _ g m task t h) (λ u held. c.set_current.ensures.holds g u held))
 
 pub returns-then-made-eq0-clause-glided : goal.returns-then-made-eq0-clause-glided
@@ -55,10 +55,10 @@ returns-then-made-eq0-clause-glided boxes c = λ g t r inside ready alone.
     let pc = c.get-pc.ensures ∙ context_register _ program_counter g m task t h inside in
     let sp = c.get-sp.ensures ∙ context_register _ stack_pointer g m task t h inside in
     let aim = c.aim.ensures in
-    let stretch = stretch_as c.args.breakpoints.now _ _ _ _ _ _ _ aim.code aim.size c.stretch_of-code.ensures in
+    let fields : IsAimed c.args.breakpoints.now c.get-pc.result c.in-Some.regions c.aim.new.self.runner.window = record { flash = aim.flash; stretch = rw (aim.code, aim.size) c.stretch_of-code.ensures; readable = aim.readable; ram = aim.ram; area = aim.area; writable = aim.writable; second = aim.second; second_writable = aim.second_writable } in
     let opened = c.open_window.ensures.opened c.if-not-open_window.false in
     let a = c.aim.new.self in
-    let apart = apart_here _ (stops_at c.args.breakpoints.now c.args.watched) g m task c.args.most t _ _ _ _ _ _ a _ a.runner.window c.open_window.new.self h inside c.in-Some.ensures pc sp aim.flash stretch aim.readable aim.ram aim.area aim.writable opened in
-    let work = glider_work g task a c.open_window.new.user _ _ _ _ _ t.state.devices _ c.args.most alone (aim.processor ∙ context_cpu _ g m task t h inside) aim.most apart opened.window.work in
-    inl (has_stayed _ (stops_at c.args.breakpoints.now c.args.watched) g m task c.args.most t _ _ _ _ _ _ a _ a.runner.window c.open_window.new.self h inside c.in-Some.ensures pc sp aim.flash stretch aim.readable aim.ram aim.area aim.writable opened
+    let apart = apart_here _ (stops_at c.args.breakpoints.now c.args.watched) g m task c.args.most t c.in-Some.regions _ _ _ a _ a.runner.window c.open_window.new.self h inside c.in-Some.ensures pc sp fields opened in
+    let work = glider_work g task a c.open_window.new.user _ _ _ _ _ _ _ t.state.devices _ c.args.most alone (aim.processor ∙ context_cpu _ g m task t h inside) aim.most apart opened.window.work in
+    inl (has_stayed _ (stops_at c.args.breakpoints.now c.args.watched) g m task c.args.most t c.in-Some.regions _ _ _ a _ a.runner.window c.open_window.new.self h inside c.in-Some.ensures pc sp fields opened
     _ _ _ _ work _ (omega (arith, c.if-made-eq0.true)) refl refl refl (context_devices _ g m task t h) (c.take_context.ensures.holds g t r.holds))

@@ -2,12 +2,12 @@ use Rattle.std.proofs.Common.{ℕ, ◌≡◌, ◌<◌, ◌%◌, List, sym, ◌�
 use Rattle.kernel_abi.specs.Devices.{DeviceData, devices_fed, feed_answer}
 use Rattle.kernel_abi.specs.declared.Note.TheVariants as note
 use Rattle.run_script.specs.declared.events.Event.{Event}
-use Rattle.task_table.specs.State.{Turn}
-use Rattle.task_table.specs.Effects.{noted, with_devices}
-use Rattle.task_table.specs.Events.{ticked, interrupted, fed}
-use Rattle.task_table.specs.Sane.{Sane}
-use Rattle.task_table.proofs.Outside.{devices-ticked, aside-interrupted}
-use Rattle.task_table.proofs.Equipped.{sane-fed}
+use Rattle.task_table.specs.model.State.{Turn}
+use Rattle.task_table.specs.model.Effects.{noted, with_devices}
+use Rattle.task_table.specs.model.Events.{ticked, interrupted, fed}
+use Rattle.task_table.specs.model.Sane.{Sane}
+use Rattle.task_table.proofs.model.Outside.{devices-ticked, aside-interrupted}
+use Rattle.task_table.proofs.model.Equipped.{sane-fed}
 use Rattle.board_core.specs.declared.machine.Machine.{Machine}
 use Rattle.board_core.specs.Machine.{MachineStands}
 use Rattle.board_model.specs.Turn.{happened}

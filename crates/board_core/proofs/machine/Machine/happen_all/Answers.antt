@@ -3,7 +3,7 @@ use Rattle.std.specs.Prelude.{fold, slice_get}
 use Rattle.run_script.specs.declared.events.Event.{Event}
 use Rattle.run_script.specs.Events.{script_data}
 use Rattle.run_script.specs.Scripts.{events_of}
-use Rattle.task_table.specs.State.{Turn}
+use Rattle.task_table.specs.model.State.{Turn}
 use Rattle.board_core.specs.Machine.{MachineStands}
 use Rattle.board_model.specs.Turn.{happened, happened_next}
 use Rattle.board_model.proofs.Counts.{later-events}

@@ -2,9 +2,9 @@ use Rattle.std.proofs.Common.{◌*◌, ◌≤◌, take}
 use Rattle.std.specs.Prelude.{fold}
 use Rattle.run_script.specs.Events.{script_data}
 use Rattle.run_script.specs.Scripts.{events_of}
-use Rattle.task_table.specs.State.{Setup, Turn}
-use Rattle.task_table.specs.Holds.{note_count}
-use Rattle.task_table.specs.Limits.{syscall_notes}
+use Rattle.task_table.specs.model.State.{Setup, Turn}
+use Rattle.task_table.specs.kept.Holds.{note_count}
+use Rattle.task_table.specs.kept.Limits.{syscall_notes}
 use Rattle.board_model.specs.Turn.{happened}
 use Rattle.board_core.specs.Machine.{MachineStands}
 use Rattle.board_core.specs.Data.{boxed}

@@ -10,4 +10,4 @@ returns-in-Some-clause-stands boxes c =
     let shown = boxed (λ p. (goal.Device-dyn boxes p).shown p.1) in
     λ g t st.
     let P : Option Event → Type 0 = λ o. MachineStands shown g c.happen.new.self (happened_next g o t) in
-    subst P (sym c.in-Some.is ∙ c.event_at.ensures.event) (c.happen.ensures.stands g t st)
+    subst P (sym c.in-Some.is ∙ c.event_from.ensures.event) (c.happen.ensures.stands g t st)

@@ -2,9 +2,9 @@ use Rattle.std.proofs.Common.{List, ℕ, ◌∙◌, ap, subst, take, drop}
 use Rattle.kernel_abi.specs.declared.Note.{Note}
 use Rattle.kernel_abi.specs.declared.Note.TheVariants as note
 use Rattle.words_core.specs.declared.Flags.{Flags}
-use Rattle.task_table.specs.State.{Task, Turn}
-use Rattle.task_table.specs.Reading.{task_at}
-use Rattle.task_table.specs.Effects.{noted}
+use Rattle.task_table.specs.model.State.{Task, Turn}
+use Rattle.task_table.specs.model.Reading.{task_at}
+use Rattle.task_table.specs.model.Effects.{noted}
 use Rattle.board_core.specs.declared.reach.Reach.{Reach}
 use Rattle.board_core.specs.Machine.{ReachHolds}
 use Rattle.board_model.specs.Turn.{high_note}

@@ -1,5 +1,5 @@
 use Rattle.std.proofs.Common.{sym, subst}
-use Rattle.task_table.specs.State.{Turn}
+use Rattle.task_table.specs.model.State.{Turn}
 use Rattle.board_model.specs.declared.outcomes.Level.{Level}
 use Rattle.board_core.specs.Machine.{MachineHolds}
 use Rattle.board_model.specs.Turn.{with_registers_noted}

@@ -1,6 +1,6 @@
 use Rattle.std.proofs.Common.{◌≡◌, ◌<◌, ℕ, Option, length, sym, ◌∙◌, ap, arith, subst}
-use Rattle.task_table.specs.Reading.{register}
-use Rattle.task_table.proofs.Sanity.{sane-current}
+use Rattle.task_table.specs.model.Reading.{register}
+use Rattle.task_table.proofs.model.Sanity.{sane-current}
 use Rattle.board_model.specs.declared.outcomes.Turned.TheVariants.{Ran}
 use Rattle.board_core.specs.Machine.{IsReady, MachineHolds}
 use Rattle.board_model.specs.Turn.{turn_of, turned_of, stepped, with_current}
@@ -17,17 +17,16 @@ load_context-requires boxes c =
     let is = chosen_is t.state c.in-Some.task n.stands.sane (sym n.is ∙ c.in-Some.is) in
     below _ _ g c.args.self.now.reach _ t c.in-Some.task n.stands.holds is.inside
 
-pub step-requires-clause-ready : goal.step-requires-clause-ready
-step-requires-clause-ready boxes c =
+pub step-requires : goal.step-requires
+step-requires boxes c =
     let g = c.requires.next.0 in
     let t = c.requires.next.1 in
     let n = c.requires.next.2 in
-    let is = chosen_is t.state c.in-Some.task n.stands.sane (sym n.is ∙ c.in-Some.is) in (
-      g,
-      with_current c.in-Some.task t,
-      record { loaded = c.load_context.ensures.loaded; holds = c.load_context.ensures.holds g t n.stands.holds is.ready; sane = sane-current c.in-Some.task t n.stands.sane is.inside },
-      c.requires.next.3,
-    )
+    let is = chosen_is t.state c.in-Some.task n.stands.sane (sym n.is ∙ c.in-Some.is) in
+    record {
+      ready = (g, with_current c.in-Some.task t, record { loaded = c.load_context.ensures.loaded; holds = c.load_context.ensures.holds g t n.stands.holds is.ready; sane = sane-current c.in-Some.task t n.stands.sane is.inside }, c.requires.next.3);
+      room = omega (arith, c.requires.room, c.load_context.ensures.count);
+    }
 
 pub note_task-requires-clause-there : goal.note_task-requires-clause-there
 note_task-requires-clause-there boxes c =

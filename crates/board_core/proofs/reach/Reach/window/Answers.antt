@@ -1,23 +1,20 @@
 use Rattle.std.proofs.Common.{◌≡◌, List, false, subst}
 use Rattle.std.specs.List.{list_any}
 use Rattle.region_check.specs.declared.Region.{Region}
-use Rattle.board_core.specs.Reached.{is_flash_at, AreLent}
+use Rattle.board_core.specs.fast.Reached.{is_flash_at, MakeWindow}
 use Rattle.board_core.proofs.reach.Reach.window.Goals as goal
 
 pub returns-in-Some : goal.returns-in-Some
 returns-in-Some boxes c =
-    let same = c.regions-regions.ensures.value in
-    let P : List Region → Type 0 = λ regions. AreLent c.args.watched regions c.args.pc c.args.sp c.in-Some.flash c.lent.result.0 c.lent.result.1 in
-    subst P same record { stack = c.in-Some.stack; further = c.in-Some.further; reached = c.in-Some.ensures; ram_is = c.lent.ensures.ram; area_is = c.lent.ensures.area }
+    let P : List Region → Type 0 = λ regions. MakeWindow c.args.watched regions c.args.pc c.args.sp c.without.result in
+    subst P c.regions-regions.ensures.value record { all = c.in-Some.window; reached = c.in-Some.ensures; is = c.without.ensures }
 
 pub returns : goal.returns
 returns boxes c =
-    let same = c.regions-regions.ensures.value in
-    let P : List Region → Type 0 = λ regions. AreLent c.args.watched regions c.args.pc c.args.sp c.in_ok-flash.flash c.lent-2.result.0 c.lent-2.result.1 in
-    subst P same record { stack = c.in_ok-flash.stack; further = c.in_ok-flash.further; reached = c.in_ok-flash.ensures; ram_is = c.lent-2.ensures.ram; area_is = c.lent-2.ensures.area }
+    let P : List Region → Type 0 = λ regions. MakeWindow c.args.watched regions c.args.pc c.args.sp c.without-2.result in
+    subst P c.regions-regions.ensures.value record { all = c.in_ok-window.window; reached = c.in_ok-window.ensures; is = c.without-2.ensures }
 
-pub returns-in_err-flash : goal.returns-in_err-flash
-returns-in_err-flash boxes c =
-    let same = c.regions-regions.ensures.value in
+pub returns-in_err-window : goal.returns-in_err-window
+returns-in_err-window boxes c =
     let P : List Region → Type 0 = λ regions. list_any (is_flash_at c.args.pc) regions ≡ false in
-    rw c.from_residual.ensures (subst P same c.in_err-flash.ensures)
+    rw c.from_residual.ensures (subst P c.regions-regions.ensures.value c.in_err-window.ensures)

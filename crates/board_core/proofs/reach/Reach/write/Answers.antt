@@ -1,6 +1,6 @@
 use Rattle.std.proofs.Common.{◌≡◌, arith, sym, refl, ◌∙◌, true, false}
 use Rattle.mem_banks.specs.Memory.{is_ram}
-use Rattle.task_table.specs.Holds.{memory_of}
+use Rattle.task_table.specs.kept.Holds.{memory_of}
 use Rattle.board_core.proofs.Reaching.{stored_ram, stored_device, stored_nowhere}
 use Rattle.board_core.proofs.reach.Reach.write.Goals as goal
 

@@ -1,7 +1,7 @@
 use Rattle.std.proofs.Common.{◌≡◌, ◌+◌, ◌*◌, ◌%◌, ◌^◌, ℕ, List, true, None, arith, ap, sym, ◌∙◌, subst}
 use Rattle.region_check.specs.declared.Region.{Region}
-use Rattle.task_table.specs.Reading.{setup_at}
-use Rattle.task_table.specs.Holds.{setup_of, current_of}
+use Rattle.task_table.specs.model.Reading.{setup_at}
+use Rattle.task_table.specs.kept.Holds.{setup_of, current_of}
 use Rattle.board_model.specs.Turn.{refusals}
 use Rattle.region_check.specs.Spans.{one_gives}
 use Rattle.region_check.proofs.Spanning.{given_none}

@@ -1,0 +1,11 @@
+pub mod WindowCovers
+pub mod WindowTurns
+pub mod Ports
+pub mod SightTurns
+pub mod Polled
+pub mod Gliding
+pub mod Skipping
+pub mod Fetching
+pub mod Windowing
+pub mod LaidOut
+pub mod Stretches

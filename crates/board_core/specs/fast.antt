@@ -1,0 +1,10 @@
+pub mod Reached
+pub mod Breakpoints
+pub mod Stops
+pub mod Windowed
+pub mod Advanced
+pub mod Skipped
+pub mod Gliding
+pub mod Sights
+pub mod Polling
+pub mod Ports
