@@ -3,12 +3,12 @@ use Rattle.std.proofs.Common.{◌≡◌, ◌≢◌, ℕ, inl, inr, Bool, true, f
 use Rattle.std.specs.Prelude.{Contains, find, filter, option_map}
 use Rattle.std.proofs.lemmas.Bool.{false≢true, eq-eqb, eqb-true}
 use Rattle.std.proofs.lemmas.Bool.Decides.{eqb_tells}
-use Rattle.task_table.specs.State.{Call}
+use Rattle.task_table.specs.model.State.{Call}
 use Rattle.task_table.specs.declared.slot.Phase.TheVariants.{Offered, Taken}
-use Rattle.task_table.specs.Effects.{taken_from}
-use Rattle.task_table.proofs.Keeps.{found_in, not_found}
+use Rattle.task_table.specs.model.Effects.{taken_from}
+use Rattle.task_table.proofs.model.Keeps.{found_in, not_found}
 use Rattle.audit_runs.specs.Spoken.{is_taken, open_of, held_of}
-use Rattle.task_table.proofs.Clients.{no_some}
+use Rattle.task_table.proofs.model.Clients.{no_some}
 
 push_none : (p : Call → Bool) (xs : List Call) (y : Call) → find p xs ≡ None → find p (xs ++ y ∷ []) ≡ cond (p y) (Some y) None
 push_none p [] y e = refl

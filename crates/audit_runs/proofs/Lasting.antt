@@ -4,10 +4,10 @@ use Rattle.std.specs.List.{range_with_len}
 use Rattle.std.proofs.lemmas.List.{length-take-le, length-drop}
 use Rattle.kernel_abi.specs.declared.Health.{Health}
 use Rattle.kernel_abi.specs.declared.Health.TheVariants.{Well, Stopped, Faulted}
-use Rattle.task_table.specs.State.{Setup, State, Call}
-use Rattle.task_table.specs.Reading.{task_at, call_of}
-use Rattle.task_table.specs.Sane.{IsFaultKnown, Sane}
-use Rattle.task_table.proofs.Keeps.{found_in}
+use Rattle.task_table.specs.model.State.{Setup, State, Call}
+use Rattle.task_table.specs.model.Reading.{task_at, call_of}
+use Rattle.task_table.specs.model.Sane.{IsFaultKnown, Sane}
+use Rattle.task_table.proofs.model.Keeps.{found_in}
 use Rattle.trace_text.specs.Fit.{IsFitTimer}
 use Rattle.audit_laws.specs.Ends.{IsFitHealth}
 use Rattle.audit_runs.specs.Last.{IsFitLast}

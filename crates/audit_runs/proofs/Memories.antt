@@ -1,20 +1,20 @@
 -- The lines of the last memory show something.
-use Rattle.std.proofs.Common.{◌≡◌, ℕ, zero, suc, inl, inr, sym, ◌+◌, ◌*◌, ◌/◌, ◌%◌, ◌^◌, ◌<◌, ◌≤◌, Bool, true, false, cond, eqb, List, [], ◌∷◌, ◌++◌, length, Option, None, Some, refl, ap, ◌∙◌, arith, append-nil}
+use Rattle.std.proofs.Common.{◌≡◌, ℕ, zero, suc, inl, inr, ◌+◌, ◌*◌, ◌/◌, ◌%◌, ◌^◌, ◌<◌, ◌≤◌, Bool, true, false, cond, eqb, List, [], ◌∷◌, ◌++◌, length, Option, None, Some, refl, ap, ◌∙◌, arith, append-nil}
 use Rattle.std.specs.Prelude.{codes, decimal, Contains}
 use Rattle.std.specs.List.{list_all, flat_map, range_with_len}
 use Rattle.std.specs.Option.{option_map_or}
-use Rattle.std.proofs.lemmas.Bool.{false≢true, eqb-true}
-use Rattle.std.proofs.lemmas.Bool.Decides.{nat_tests, eqb_tells}
+use Rattle.std.proofs.lemmas.Bool.{eqb-true}
+use Rattle.std.proofs.lemmas.Bool.Decides.{nat_tests}
 use Rattle.region_check.specs.declared.Region.{Region}
 use Rattle.mem_banks.specs.Memory.{Memory, IsWithin}
 use Rattle.thumb_insn.specs.Text.{hex_digit}
-use Rattle.task_table.specs.State.{Setup, State}
-use Rattle.task_table.specs.Placed.{ArePlaced}
-use Rattle.task_table.specs.Reading.{setup_at}
-use Rattle.task_table.specs.Sane.{Sane}
-use Rattle.task_table.proofs.Keeps.{found_in}
+use Rattle.task_table.specs.model.State.{Setup, State}
+use Rattle.task_table.specs.model.Placed.{ArePlaced}
+use Rattle.task_table.specs.model.Reading.{setup_at}
+use Rattle.task_table.specs.model.Sane.{Sane}
+use Rattle.task_table.proofs.model.Keeps.{found_in}
 use Rattle.trace_text.specs.Text.{hex}
-use Rattle.trace_audit.specs.declared.reading.Line.TheVariants as line
+use Rattle.trace_audit.specs.declared.reading.TraceLine.TheVariants as line
 use Rattle.trace_audit.specs.Fields.{is_low_hex, is_hex}
 use Rattle.board_run.specs.MemoryText.{byte_of, hex_at, bytes_hex, are_zeros, row_text, region_line, row_at, rows_text, row_count, region_text, begins_at, regions_of, region_at, place_text, places_text, memory_text, row_line as told_row}
 use Rattle.board_run.proofs.Listing.{region_of_task}

@@ -1,5 +1,5 @@
 -- The notes of a run are right: for information nothing moves, the index of a device is small, and the code of an instruction is one.
-use Rattle.std.proofs.Common.{◌≡◌, ◌<◌, ℕ, zero, suc, Bool, true, false, ◌&&◌, arith, min, List, [], ◌∷◌, ◌++◌, Option, Some, None, refl, sym, subst}
+use Rattle.std.proofs.Common.{◌≡◌, ◌<◌, ℕ, zero, suc, true, false, arith, min, List, [], ◌∷◌, ◌++◌, Option, Some, None, refl, sym, subst}
 use Rattle.std.specs.List.{list_all}
 use Rattle.std.proofs.lemmas.Bool.{false≢true, ltb-true, and_parts}
 use Rattle.kernel_abi.specs.declared.Borrow.{Borrow}
@@ -9,17 +9,17 @@ use Rattle.kernel_abi.specs.declared.Note.{Note}
 use Rattle.kernel_abi.specs.declared.Note.TheVariants as note
 use Rattle.thumb_insn.specs.declared.Decoded.{Decoded}
 use Rattle.thumb_insn.specs.declared.Decoded.TheVariants as decoded
-use Rattle.task_table.specs.State.{Setup, State, Call, Turn}
-use Rattle.task_table.specs.Reading.{call_of, chosen}
-use Rattle.task_table.specs.Effects.{noted, stored, copied, looked, closed, close_notes, offered, with_devices}
-use Rattle.task_table.specs.Sane.{Sane}
-use Rattle.task_table.specs.Start.{begun}
-use Rattle.task_table.specs.Chain.{Chain}
-use Rattle.task_table.specs.Placed.{ArePlaced}
-use Rattle.task_table.specs.Step.{Step, is_plain, IsMoved}
-use Rattle.task_table.proofs.Chains.{chain_keeps}
-use Rattle.task_table.proofs.Happens.{chain_moves}
-use Rattle.task_table.proofs.Moves.{ArePlain, IsOutside, outside-devices, Move, Aside, Writes, Reads, Alters, Lends, Offers, Takes, Closes}
+use Rattle.task_table.specs.model.State.{Setup, State, Call, Turn}
+use Rattle.task_table.specs.model.Reading.{call_of, chosen}
+use Rattle.task_table.specs.model.Effects.{noted, stored, copied, looked, closed, close_notes, offered, with_devices}
+use Rattle.task_table.specs.model.Sane.{Sane}
+use Rattle.task_table.specs.model.Start.{begun}
+use Rattle.task_table.specs.model.Chain.{Chain}
+use Rattle.task_table.specs.model.Placed.{ArePlaced}
+use Rattle.task_table.specs.model.Step.{Step, is_plain, IsMoved}
+use Rattle.task_table.proofs.model.Chains.{chain_keeps}
+use Rattle.task_table.proofs.model.Happens.{chain_moves}
+use Rattle.task_table.proofs.model.Moves.{ArePlain, IsOutside, outside-devices, Move, Aside, Writes, Reads, Alters, Lends, Offers, Takes, Closes}
 use Rattle.trace_text.specs.Text.{code_decoded}
 use Rattle.board_model.specs.declared.outcomes.End.{End}
 use Rattle.board_model.specs.declared.outcomes.End.TheVariants.{Bound}

@@ -10,21 +10,21 @@ use Rattle.kernel_abi.specs.declared.Ending.{Ending}
 use Rattle.kernel_abi.specs.declared.Ending.TheVariants as ending
 use Rattle.kernel_abi.specs.declared.Note.{Note}
 use Rattle.kernel_abi.specs.declared.Note.TheVariants as note
-use Rattle.task_table.specs.State.{Setup, State, Call, Ground, Turn}
+use Rattle.task_table.specs.model.State.{Setup, State, Call, Ground, Turn}
 use Rattle.task_table.specs.declared.slot.Slice.{Slice}
 use Rattle.task_table.specs.declared.slot.Phase.TheVariants.{Offered, Taken}
-use Rattle.task_table.specs.Reading.{call_of}
-use Rattle.task_table.specs.Effects.{without_call, with_call, with_taken, taken_from, noted, stored, copied, looked, closed, close_notes, offered, with_devices}
-use Rattle.task_table.specs.Step.{is_plain, IsNew, Ends}
-use Rattle.task_table.proofs.Keeps.{added_in, map_in, idle_call, unmade, dropped_call}
-use Rattle.task_table.specs.Start.{start}
-use Rattle.task_table.proofs.Moves.{ArePlain, IsOutside, outside-devices, IsTaking, taken_over, Move, Aside, Writes, Reads, Alters, Lends, Offers, Takes, Closes}
+use Rattle.task_table.specs.model.Reading.{call_of}
+use Rattle.task_table.specs.model.Effects.{without_call, with_call, with_taken, taken_from, noted, stored, copied, looked, closed, close_notes, offered, with_devices}
+use Rattle.task_table.specs.model.Step.{is_plain, IsNew, Ends}
+use Rattle.task_table.proofs.model.Keeps.{added_in, map_in, idle_call, unmade, dropped_call}
+use Rattle.task_table.specs.model.Start.{start}
+use Rattle.task_table.proofs.model.Moves.{ArePlain, IsOutside, outside-devices, IsTaking, taken_over, Move, Aside, Writes, Reads, Alters, Lends, Offers, Takes, Closes}
 use Rattle.trace_audit.proofs.Adding.{none_said}
 use Rattle.trace_audit.specs.declared.book.Open.{Open}
 use Rattle.trace_audit.specs.declared.reading.Saying.{Saying}
 use Rattle.trace_audit.specs.declared.reading.Saying.TheVariants as saying
 use Rattle.trace_audit.specs.Rules.{IsGoodSaying}
-use Rattle.trace_audit.specs.Books.{Calls, IsTold, Hears}
+use Rattle.trace_audit.specs.Books.{CallBook, IsTold, Hears}
 use Rattle.trace_audit.proofs.Telling.{told_aside, open_as, may_borrow, borrows_offers, borrows_takes, borrows_closes}
 use Rattle.trace_audit.proofs.Counting.{count_aside, some_left}
 use Rattle.trace_audit.proofs.Hearing.{IsElsewhere, hears_offer, hears_take, hears_close, hears_nothing}
@@ -49,12 +49,12 @@ sayings_push (m ∷ ns) n = ap (λ xs. told_by m ∷ xs) (sayings_push ns n)
 -- ## one more note
 
 -- what is known of a state besides what was said
-record IsKeptAs (y : Calls) (v : State) : Type 0 where
+record IsKeptAs (y : CallBook) (v : State) : Type 0 where
   held : (i : ℕ) → y.held i ≡ held_of v.calls i
   next : v.next_call ≡ length y.clients + 1
   unique : (c d : Call) → Contains v.calls c → Contains v.calls d → c.client.index ≡ d.client.index → c ≡ d
 
-spoken_more : (ns : List Note) (n : Note) (y : Calls) (v : State) → AreGoodSayings (sayings ns) → Hears (sayings ns) (told_by n) y true → IsKeptAs y v → IsSpoken (ns ++ n ∷ []) v
+spoken_more : (ns : List Note) (n : Note) (y : CallBook) (v : State) → AreGoodSayings (sayings ns) → Hears (sayings ns) (told_by n) y true → IsKeptAs y v → IsSpoken (ns ++ n ∷ []) v
 spoken_more ns n y v good h k = record {
   kept = y;
   held = k.held;
@@ -128,7 +128,7 @@ spoken_offer : (ns : List Note) (s : State) (k : Call) → k.number ≡ s.next_c
 unfolding with_call
 spoken_offer ns s k number phase free h =
     let none = unmade s k.client.index free in
-    let y : Calls = record { clients = h.kept.clients ++ k.client.index ∷ []; held = held_of (s.calls ++ k ∷ []); left = h.kept.left + 1 } in
+    let y : CallBook = record { clients = h.kept.clients ++ k.client.index ∷ []; held = held_of (s.calls ++ k ∷ []); left = h.kept.left + 1 } in
     let empty : h.kept.held k.client.index ≡ None = h.held k.client.index ∙ ap open_of none in
     spoken_more ns (note.Offer k.number k.client.index k.server.index) y _ h.good
     (hears_offer (sayings ns) h.kept y h.told k.number k.client.index (number ∙ h.next) empty refl
@@ -150,7 +150,7 @@ pub spoken_take : (ns : List Note) (s : State) (k : Call) (copied : ℕ) → Con
 unfolding with_taken
 spoken_take ns s k copied here phase h =
     let found = found_here s.calls k h.unique here in
-    let y : Calls = record { clients = h.kept.clients; held = held_of (map (taken_from k.client.index) s.calls); left = h.kept.left } in
+    let y : CallBook = record { clients = h.kept.clients; held = held_of (map (taken_from k.client.index) s.calls); left = h.kept.left } in
     let was : h.kept.held k.client.index ≡ Some (record { call = k.number; taken = false }) = h.held k.client.index ∙ ap open_of found ∙ ap (λ p. Some (record { call = k.number; taken = is_taken p })) phase in
     spoken_more ns (note.Take k.number copied) y _ h.good
     (hears_take (sayings ns) h.kept y h.told k.number k.client.index was refl
@@ -182,7 +182,7 @@ spoken_close : (ns : List Note) (s : State) (i : ℕ) (e : Ending) (d : Call) �
 unfolding without_call
 spoken_close ns s i e d is ends h =
     let found = made s i d is in
-    let y : Calls = record { clients = h.kept.clients; held = held_of (filter (λ c. not (eqb c.client.index i)) s.calls); left = h.kept.left - 1 } in
+    let y : CallBook = record { clients = h.kept.clients; held = held_of (filter (λ c. not (eqb c.client.index i)) s.calls); left = h.kept.left - 1 } in
     let was : h.kept.held i ≡ Some (record { call = d.number; taken = is_taken d.phase }) = h.held i ∙ ap open_of found in
     let a = open_as (sayings ns) h.kept h.told d.number i (is_taken d.phase) was in
     let one : 1 ≤ h.kept.left = some_left (sayings ns) d.number h.kept.left a.still (h.told.once d.number i a.offered) h.told.count in
@@ -265,7 +265,7 @@ spoken_start g devices = record {
   good = λ before s after e. never before s after e;
 }
   where
-    none : Calls
+    none : CallBook
     none = record { clients = []; held = λ i. None; left = 0 }
 
     never : (before : List Saying) (s : Saying) (after : List Saying) → [] ≡ before ++ s ∷ after → IsGoodSaying before s

@@ -1,24 +1,24 @@
 -- The text of a run: its notes, its end, and three lines of each task.
-use Rattle.std.proofs.Common.{◌≡◌, ℕ, ◌^◌, ◌<◌, ◌≤◌, ◌%◌, inl, inr, List, [], ◌∷◌, ◌++◌, length, Option, None, Some, refl, sym, subst, ap, ◌∙◌, arith, append_assoc}
+use Rattle.std.proofs.Common.{◌≡◌, ℕ, ◌^◌, ◌<◌, ◌%◌, inl, inr, List, [], ◌∷◌, ◌++◌, length, Option, None, Some, refl, sym, subst, ap, ◌∙◌, arith, append_assoc}
 use Rattle.std.specs.List.{flat_map, range_with_len}
 use Rattle.kernel_abi.specs.declared.Note.{Note}
-use Rattle.task_table.specs.State.{Setup, Task, State, Call, Listen}
+use Rattle.task_table.specs.model.State.{Setup, Task, State, Call, Listen}
 use Rattle.task_table.specs.declared.slot.Phase.{Phase}
 use Rattle.task_table.specs.declared.slot.Phase.TheVariants.{Offered, Taken}
-use Rattle.task_table.specs.Reading.{task_at, call_of, listen_of}
-use Rattle.task_table.specs.Sane.{Sane}
+use Rattle.task_table.specs.model.Reading.{task_at, call_of, listen_of}
+use Rattle.task_table.specs.model.Sane.{Sane}
 use Rattle.trace_text.specs.Fit.{AreFit}
 use Rattle.board_model.specs.declared.outcomes.End.{End}
 use Rattle.board_model.specs.declared.outcomes.End.TheVariants.{Bound, Still, Supervisor}
 use Rattle.board_model.specs.Run.{Run}
 use Rattle.board_model.specs.Lifetimes.{notes_in}
 use Rattle.board_run.specs.Text.{wait_text, low_text, high_text, task_lines, task_text, end_name, end_text, trace_text, end_line as told_end}
-use Rattle.trace_audit.specs.declared.reading.Line.{Line}
-use Rattle.trace_audit.specs.declared.reading.Line.TheVariants as line
+use Rattle.trace_audit.specs.declared.reading.TraceLine.{TraceLine}
+use Rattle.trace_audit.specs.declared.reading.TraceLine.TheVariants as line
 use Rattle.trace_audit.specs.declared.reading.Saying.{Saying}
 use Rattle.trace_audit.specs.Rules.{IsGoodWait, IsGood}
 use Rattle.trace_audit.specs.Texts.{lines_of}
-use Rattle.trace_audit.specs.Verdicts.{HasNoCause, read_lines}
+use Rattle.trace_audit.specs.Judgements.{HasNoCause, read_lines}
 use Rattle.audit_laws.specs.Told.{told_by}
 use Rattle.audit_laws.specs.Ends.{IsHow, IsWaitText, end_line}
 use Rattle.trace_text.specs.Lines.{notes_text, task_line}
@@ -65,7 +65,7 @@ texts_at : State → List ℕ → List (List ℕ)
 texts_at s [] = []
 texts_at s (i ∷ is) = line_at s i (task_at s i) ∷ low_of (task_at s i) ∷ high_of (task_at s i) ∷ texts_at s is
 
-lines_at : State → List ℕ → List Line
+lines_at : State → List ℕ → List TraceLine
 lines_at s [] = []
 lines_at s (i ∷ is) = line.Waits i (wait_by_call (call_of s i)) ∷ line.Shows ∷ line.Shows ∷ lines_at s is
 
@@ -112,7 +112,7 @@ sayings_same (n ∷ notes) = ap (λ ss. told_by n.1 ∷ ss) (sayings_same notes)
 
 -- ## lines behind
 
-shown_by : List (List ℕ) → List Line
+shown_by : List (List ℕ) → List TraceLine
 shown_by [] = []
 shown_by (t ∷ texts) = line.Shows ∷ shown_by texts
 
@@ -134,7 +134,7 @@ unfolding shown_by
 shown_last told [] = tt
 shown_last told (t ∷ texts) = (tt, shown_last told texts)
 
-lines_more : (xs ys : List (List ℕ)) (ls ms : List Line) → AreLines xs ls → AreLines ys ms → AreLines (xs ++ ys) (ls ++ ms)
+lines_more : (xs ys : List (List ℕ)) (ls ms : List TraceLine) → AreLines xs ls → AreLines ys ms → AreLines (xs ++ ys) (ls ++ ms)
 lines_more [] ys [] ms h k = k
 lines_more [] ys (l ∷ ls) ms h k = absurd h
 lines_more (x ∷ xs) ys [] ms h k = absurd h
@@ -144,7 +144,7 @@ short_more : (xs ys : List (List ℕ)) → AreShort xs → AreShort ys → AreSh
 short_more [] ys h k = k
 short_more (x ∷ xs) ys h k = (h.0, short_more xs ys h.1 k)
 
-last_more : (told : List Saying) (ls ms : List Line) → AreLastLines told ls → AreLastLines told ms → AreLastLines told (ls ++ ms)
+last_more : (told : List Saying) (ls ms : List TraceLine) → AreLastLines told ls → AreLastLines told ms → AreLastLines told (ls ++ ms)
 last_more told [] ms h k = k
 last_more told (l ∷ ls) ms h k = (h.0, last_more told ls ms h.1 k)
 
@@ -188,7 +188,7 @@ module _ (g : Setup) (r : Run) (more : List (List ℕ)) (sane : Sane g r.last) (
   all : List ℕ
   all = range_with_len 0 (length r.last.tasks)
 
-  rest : List Line
+  rest : List TraceLine
   rest = lines_at r.last all ++ shown_by more
 
   tasks : AreFitTasks r.last all

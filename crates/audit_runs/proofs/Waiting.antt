@@ -2,19 +2,19 @@
 use Rattle.std.proofs.Common.{◌≡◌, ◌≢◌, ℕ, ◌⊎◌, inl, inr, true, false, eqb, List, ◌++◌, Option, Some, None, refl, ap, ◌∙◌}
 use Rattle.std.proofs.lemmas.Bool.Decides.{eqb_tells}
 use Rattle.kernel_abi.specs.declared.Note.{Note}
-use Rattle.task_table.specs.State.{Setup, State, Call, Turn}
-use Rattle.task_table.specs.Reading.{call_of}
-use Rattle.task_table.specs.Chain.{Chain}
+use Rattle.task_table.specs.model.State.{Setup, State, Call, Turn}
+use Rattle.task_table.specs.model.Reading.{call_of}
+use Rattle.task_table.specs.model.Chain.{Chain}
 use Rattle.task_table.specs.declared.slot.Phase.{Phase}
 use Rattle.task_table.specs.declared.slot.Phase.TheVariants.{Offered, Taken}
-use Rattle.task_table.proofs.Chains.{chain_keeps}
-use Rattle.task_table.proofs.Keeps.{unmade}
-use Rattle.task_table.proofs.Happens.{chain_moves}
-use Rattle.task_table.proofs.Moves.{Move}
-use Rattle.task_table.specs.Placed.{ArePlaced}
-use Rattle.task_table.specs.Step.{Step}
+use Rattle.task_table.proofs.model.Chains.{chain_keeps}
+use Rattle.task_table.proofs.model.Keeps.{unmade}
+use Rattle.task_table.proofs.model.Happens.{chain_moves}
+use Rattle.task_table.proofs.model.Moves.{Move}
+use Rattle.task_table.specs.model.Placed.{ArePlaced}
+use Rattle.task_table.specs.model.Step.{Step}
 use Rattle.trace_audit.proofs.Adding.{judged}
-use Rattle.trace_audit.specs.declared.reading.Wait.TheVariants as wait
+use Rattle.trace_audit.specs.declared.reading.FinalWait.TheVariants as wait
 use Rattle.trace_audit.specs.Books.{waits_as}
 use Rattle.trace_audit.specs.Rules.{IsGoodWait}
 use Rattle.audit_runs.specs.Spoken.{sayings, is_taken, open_of, IsSpoken, wait_in, wait_by_call}

@@ -1,8 +1,8 @@
 -- What is known of the last state of a run, and of the lines behind those of its tasks.
 use Rattle.std.specs.Prelude.{ℕ, ◌≤◌, ◌≡◌, List, [], ◌∷◌, ◌++◌, length}
-use Rattle.task_table.specs.State.{State}
-use Rattle.task_table.specs.Sane.{IsCounted}
-use Rattle.trace_audit.specs.declared.reading.Line.TheVariants as line
+use Rattle.task_table.specs.model.State.{State}
+use Rattle.task_table.specs.model.Sane.{IsCounted}
+use Rattle.trace_audit.specs.declared.reading.TraceLine.TheVariants as line
 use Rattle.audit_laws.specs.Told.{IsLine}
 use Rattle.board_run.specs.Timers.{HasFitTimers}
 use Rattle.audit_laws.specs.Whole.{joined}
@@ -13,7 +13,7 @@ use Rattle.board_model.specs.Run.{run}
 use Rattle.trace_text.specs.Fit.{AreFit}
 use Rattle.trace_audit.specs.Rules.{IsGood}
 use Rattle.trace_audit.specs.Texts.{lines_of}
-use Rattle.trace_audit.specs.Verdicts.{read_lines, HasNoCause}
+use Rattle.trace_audit.specs.Judgements.{read_lines, HasNoCause}
 
 -- no more turns than a run has, no more tasks than an image, and each deadline below 2^64
 pub record IsFitLast (s : State) : Type 0 where

@@ -1,14 +1,14 @@
 -- What the notes of a run say of calls, and that it is good and agrees with the calls that are open.
 use Rattle.std.specs.Prelude.{ℕ, ◌+◌, ◌≡◌, Bool, true, false, List, length, map, Contains, find, Option, Some, None, ◌==◌}
 use Rattle.kernel_abi.specs.declared.Note.{Note}
-use Rattle.task_table.specs.State.{State, Call}
+use Rattle.task_table.specs.model.State.{State, Call}
 use Rattle.task_table.specs.declared.slot.Phase.{Phase}
 use Rattle.task_table.specs.declared.slot.Phase.TheVariants.{Offered, Taken}
 use Rattle.trace_audit.specs.declared.book.Open.{Open}
 use Rattle.trace_audit.specs.declared.reading.Saying.{Saying}
-use Rattle.trace_audit.specs.declared.reading.Wait.{Wait}
-use Rattle.trace_audit.specs.declared.reading.Wait.TheVariants as wait
-use Rattle.trace_audit.specs.Books.{Calls, IsTold}
+use Rattle.trace_audit.specs.declared.reading.FinalWait.{FinalWait}
+use Rattle.trace_audit.specs.declared.reading.FinalWait.TheVariants as wait
+use Rattle.trace_audit.specs.Books.{CallBook, IsTold}
 use Rattle.audit_laws.specs.Told.{told_by}
 use Rattle.audit_laws.specs.Whole.{AreGoodSayings}
 
@@ -30,7 +30,7 @@ held_of calls i = open_of (find (λ c. c.client.index == i) calls)
 
 -- the sayings of the notes are good, and an audit that has read them keeps the calls that are open
 pub record IsSpoken (notes : List Note) (s : State) : Type 0 where
-  pub kept : Calls
+  pub kept : CallBook
   pub held : (i : ℕ) → kept.held i ≡ held_of s.calls i
   pub next : s.next_call ≡ length kept.clients + 1
   pub told : IsTold (sayings notes) kept
@@ -38,10 +38,10 @@ pub record IsSpoken (notes : List Note) (s : State) : Type 0 where
   pub good : AreGoodSayings (sayings notes)
 
 -- what the line of a task says that it waits for, by its open call
-abbrev pub wait_in : Phase → ℕ → Wait
+abbrev pub wait_in : Phase → ℕ → FinalWait
 wait_in Offered number = wait.Offered number
 wait_in Taken number = wait.Taken number
 
-abbrev pub wait_by_call : Option Call → Wait
+abbrev pub wait_by_call : Option Call → FinalWait
 wait_by_call None = wait.Other
 wait_by_call (Some c) = wait_in c.phase c.number

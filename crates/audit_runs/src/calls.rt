@@ -1,12 +1,12 @@
 //! What notes say of calls.
 ghost use Rattle.std.specs.Prelude.{ℕ, List, [], ◌++◌};
 ghost use Rattle.kernel_abi.specs.declared.Note.{Note};
-ghost use Rattle.task_table.specs.State.{Setup, State, Turn};
-ghost use Rattle.task_table.specs.Placed.{ArePlaced};
-ghost use Rattle.task_table.specs.Reading.{call_of};
-ghost use Rattle.task_table.specs.Start.{start};
-ghost use Rattle.task_table.specs.Chain.{Chain};
-ghost use Rattle.task_table.specs.Step.{Step};
+ghost use Rattle.task_table.specs.model.State.{Setup, State, Turn};
+ghost use Rattle.task_table.specs.model.Placed.{ArePlaced};
+ghost use Rattle.task_table.specs.model.Reading.{call_of};
+ghost use Rattle.task_table.specs.model.Start.{start};
+ghost use Rattle.task_table.specs.model.Chain.{Chain};
+ghost use Rattle.task_table.specs.model.Step.{Step};
 ghost use Rattle.trace_audit.specs.Rules.{IsGoodWait};
 ghost use Rattle.audit_runs.specs.Spoken.{sayings, wait_by_call, IsSpoken};
 

@@ -1,8 +1,7 @@
 -- The run from the start, seen at its turns: a state that is as the run's at one turn goes on as the run does.
 use Rattle.std.proofs.Common.{◌≡◌, ◌∙◌, ℕ, zero, suc, ◌+◌, ◌-◌, ◌≤◌, ◌<◌, Option, Some, None, refl, sym, ap, subst, arith}
-use Rattle.task_table.specs.State.{State, Turn}
-use Rattle.task_table.specs.Sane.{Sane}
-use Rattle.task_table.specs.Start.{start}
+use Rattle.task_table.specs.model.State.{State, Turn}
+use Rattle.task_table.specs.model.Sane.{Sane}
 use Rattle.board_model.specs.declared.outcomes.End.{End}
 use Rattle.board_model.specs.declared.outcomes.End.TheVariants.{Bound}
 use Rattle.board_model.specs.declared.outcomes.Level.{Level}
@@ -21,6 +20,7 @@ use Rattle.board_model.proofs.RunCuts.{cut, reached, sane-cut}
 use Rattle.board_model.proofs.TurnChains.{sane-after}
 use Rattle.board_model.proofs.Views.{reduced-turn}
 use Rattle.board_run.proofs.Going.{run_stays}
+use Rattle.board_model.proofs.SameTurn.{first_turn, same_turn}
 use Rattle.debug_core.specs.Runs.{state_at}
 
 abbrev pub run_on : Scenario → ℕ → State → State
@@ -63,10 +63,6 @@ same_end x n s = sym (before_bound x s (suc n) (omega arith)) ∙ before_bound x
 
 -- ---- states that are equal with births modulo 64
 
-pub same_turn : (s u : State) → reduced s ≡ reduced u → s.turn ≡ u.turn
-unfolding seen
-same_turn s u e = ap (λ (v : State). v.turn) e
-
 pub same_now : (s u : State) → reduced s ≡ reduced u → s.now ≡ u.now
 unfolding seen
 same_now s u e = ap (λ (v : State). v.now) e
@@ -99,10 +95,6 @@ pub turns_made : (x : Scenario) (n : ℕ) (u : State) → ending x 1 u ≡ None 
 unfolding state_after
 turns_made x n u first on zero lt = first
 turns_made x n u first on (suc k) lt = on k (omega (arith, lt))
-
-pub first_turn : (x : Scenario) → (start_of x).turn ≡ 0
-unfolding start
-first_turn x = refl
 
 module _ (x : Scenario) (sane : Sane x.setup (start_of x)) where
   pub sane_at : (n : ℕ) → Sane x.setup (state_at x n)

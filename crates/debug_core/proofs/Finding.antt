@@ -5,7 +5,7 @@ use Rattle.std.specs.Prelude.{find}
 use Rattle.std.specs.Option.{option_map}
 use Rattle.kernel_abi.specs.declared.Note.{Note}
 use Rattle.mem_banks.specs.Memory.{Memory, byte_at, is_held}
-use Rattle.task_table.specs.State.{State, Turn}
+use Rattle.task_table.specs.model.State.{State, Turn}
 use Rattle.board_model.specs.declared.outcomes.End.{End}
 use Rattle.board_model.specs.declared.outcomes.Level.TheVariants.{All, Calls}
 use Rattle.board_model.specs.Run.{ending, state_after, turn_after}
@@ -14,7 +14,7 @@ use Rattle.board_model.specs.Turn.{turn, turned}
 use Rattle.board_model.proofs.Further.{last_turn}
 use Rattle.board_model.proofs.Views.{less_noted-turn}
 use Rattle.board_core.specs.declared.board.Board.{Board}
-use Rattle.board_core.specs.Advanced.{IsAdvanced}
+use Rattle.board_core.specs.fast.Advanced.{IsAdvanced}
 use Rattle.board_core.specs.Changes.{change_in, runner_of}
 use Rattle.board_core.specs.declared.changes.Change.{Change}
 use Rattle.board_core.proofs.Changing.{change_told, no_change_in}

@@ -7,7 +7,7 @@ use Rattle.board_model.specs.declared.outcomes.Turned.TheVariants.{Idle, Ran}
 use Rattle.board_model.specs.Run.{ending, state_after, turn_after}
 use Rattle.board_model.specs.Script.{Scenario}
 use Rattle.board_model.specs.Turn.{turned}
-use Rattle.board_core.specs.Breakpoints.{hit_of, is_hit, stands}
+use Rattle.board_core.specs.fast.Breakpoints.{hit_of, is_hit, stands}
 use Rattle.board_core.specs.Data.{Shows}
 use Rattle.board_core.specs.Stands.{turns_of}
 use Rattle.debug_core.specs.declared.timeline.Timeline.{Timeline}

@@ -10,8 +10,8 @@ use Rattle.std.proofs.lemmas.List.Elements.{Contains-append_left, Contains-appen
 use Rattle.kernel_abi.specs.declared.Note.{Note}
 use Rattle.mem_banks.specs.Memory.{Memory, byte_at}
 use Rattle.region_check.proofs.FirstBad.{find_range_some}
-use Rattle.task_table.specs.State.{State}
-use Rattle.task_table.specs.Sane.{Sane}
+use Rattle.task_table.specs.model.State.{State}
+use Rattle.task_table.specs.model.Sane.{Sane}
 use Rattle.board_model.specs.declared.outcomes.End.{End}
 use Rattle.board_model.specs.declared.outcomes.Level.TheVariants.{Calls}
 use Rattle.board_model.specs.Cut.{left_of}
@@ -22,6 +22,7 @@ use Rattle.board_model.proofs.Changes.{ram_turn}
 use Rattle.board_model.proofs.RunCuts.{cut}
 use Rattle.board_model.proofs.TurnChains.{found_in, sane-after}
 use Rattle.board_core.specs.Changes.{change_by, change_of, runner_of}
+use Rattle.board_model.proofs.SameTurn.{first_turn}
 use Rattle.debug_core.specs.declared.answer.Answer.TheVariants.{Told}
 use Rattle.debug_core.specs.declared.command.Command.TheVariants.{BackFor, GoFor}
 use Rattle.debug_core.specs.declared.command.NoteKind.{NoteKind}
@@ -30,7 +31,7 @@ use Rattle.debug_core.specs.declared.command.Sought.TheVariants.{Change}
 use Rattle.debug_core.specs.Runs.{end_here, forward, most_turns, notes_of_run, state_at}
 use Rattle.debug_core.specs.Searched.{can_be, first_found, is_found, is_sought, last_found, last_of, told_at}
 use Rattle.debug_core.specs.Session.{Session, after, ahead, behind, gone, gone_back}
-use Rattle.debug_core.proofs.Ahead.{first_turn, makes, reaches, sane_at}
+use Rattle.debug_core.proofs.Ahead.{makes, reaches, sane_at}
 use Rattle.debug_core.proofs.Lasts.{IsLast, last_is}
 use Rattle.debug_core.proofs.Onward.{goes_on, memory_after}
 

@@ -8,7 +8,6 @@ pub mod Hitting
 pub mod Lasting
 pub mod Lasts
 pub mod Latest
-pub mod OnlyReading
 pub mod Onward
 pub mod Others
 pub mod Owners

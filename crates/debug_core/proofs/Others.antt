@@ -1,7 +1,7 @@
 -- Addresses of which none is twice.
 use Rattle.std.proofs.Common.{◌≡◌, ◌∙◌, ℕ, suc, ◌≤◌, ◌<◌, ◌||◌, not, Bool, true, false, cond, eqb, List, [], ◌∷◌, length, refl, ap, arith}
 use Rattle.std.proofs.lemmas.Bool.{lt-ltb, le-ltb, or_parts}
-use Rattle.board_core.specs.Breakpoints.{stands}
+use Rattle.board_core.specs.fast.Breakpoints.{stands}
 use Rattle.debug_core.specs.Session.{is_full, others}
 
 -- where it is none of them all are others

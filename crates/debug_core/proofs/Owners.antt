@@ -2,8 +2,8 @@
 use Rattle.std.proofs.Common.{◌≡◌, ◌∙◌, ℕ, suc, ◌+◌, ◌<◌, eqb, Bool, true, false, cond, List, length, drop, get_or, map, Option, Some, arith, ap, drop-cons}
 use Rattle.std.specs.Prelude.{find}
 use Rattle.task_table.specs.declared.start.LineStart.{LineStart}
-use Rattle.task_table.specs.Parts.{line_setup}
-use Rattle.task_table.specs.State.{LineSetup}
+use Rattle.task_table.specs.kept.Parts.{line_setup}
+use Rattle.task_table.specs.model.State.{LineSetup}
 
 abbrev pub owner_in : ℕ → List LineStart → Option LineSetup
 owner_in line owners = find (λ (l : LineSetup). eqb l.line line) (map line_setup owners)

@@ -3,7 +3,7 @@ use Rattle.std.proofs.Common.{◌≡◌, ◌∙◌, ℕ, ◌+◌, ◌-◌, ◌�
 use Rattle.std.proofs.lemmas.Bool.{cases_lt}
 use Rattle.std.specs.Prelude.{find}
 use Rattle.std.specs.List.{range_with_len}
-use Rattle.task_table.specs.State.{State}
+use Rattle.task_table.specs.model.State.{State}
 use Rattle.board_model.specs.declared.outcomes.End.{End}
 use Rattle.board_model.specs.Run.{ending}
 use Rattle.board_model.specs.Script.{Scenario}

@@ -11,9 +11,9 @@ use Rattle.kernel_abi.specs.declared.TaskId.{TaskId}
 use Rattle.task_table.specs.declared.Line.{Line}
 use Rattle.task_table.specs.declared.slot.FromId.TheVariants as from_id
 use Rattle.task_table.specs.declared.slot.Wait.TheVariants as wait
-use Rattle.task_table.specs.Holds.{id_at, wait_of}
-use Rattle.task_table.specs.State.{Birth, LineSetup, Setup, State, Task}
-use Rattle.task_table.specs.Reading.{call_of, line_at, listen_of, no_line as no_line_there, task_at}
+use Rattle.task_table.specs.kept.Holds.{id_at, wait_of}
+use Rattle.task_table.specs.model.State.{Birth, LineSetup, Setup, State, Task}
+use Rattle.task_table.specs.model.Reading.{call_of, line_at, listen_of, no_line as no_line_there, task_at}
 use Rattle.board_model.specs.Alike.{but_memory, reduced, seen, seen_birth}
 use Rattle.board_model.proofs.Alike.{call_alike, count_alike, line_alike, listen_alike, shown, task_alike}
 use Rattle.board_model.specs.Script.{Scenario}
@@ -29,7 +29,7 @@ use Rattle.debug_core.specs.declared.answer.Answer.TheVariants as answered
 use Rattle.debug_core.specs.declared.answer.Answer.TheVariants.{Absent, Registers}
 use Rattle.debug_core.specs.Answers.{device_by, device_of, irq_by, irq_of, owner_of, registers_of, task_of, task_view}
 use Rattle.board_core.proofs.Queues.{few_wait}
-use Rattle.snapshot.proofs.SpelledAlike.{from_seen, call_seen, wait_seen}
+use Rattle.snapshot.proofs.SpelledAlike.{wait_seen}
 use Rattle.debug_core.proofs.Hitting.{one_same}
 
 abbrev births : ℕ → ℕ

@@ -6,8 +6,8 @@ use Rattle.std.proofs.lemmas.List.{length-set, get_or-set_other, get_or-set_same
 use Rattle.std.proofs.lemmas.List.Elements.{All-set, All-get_or}
 use Rattle.kernel_abi.specs.declared.Kind.{Kind}
 use Rattle.kernel_abi.specs.Devices.{DeviceData}
-use Rattle.task_table.specs.State.{Setup, State}
-use Rattle.task_table.specs.Sane.{Sane, IsCounted}
+use Rattle.task_table.specs.model.State.{Setup, State}
+use Rattle.task_table.specs.model.Sane.{Sane, IsCounted}
 use Rattle.board_model.specs.declared.outcomes.End.{End}
 use Rattle.board_model.specs.declared.outcomes.Level.TheVariants.{Calls}
 use Rattle.board_model.specs.Alike.{seen, reduced}
@@ -22,11 +22,12 @@ use Rattle.snapshot.specs.Saved.{SpellsState, expected_of}
 use Rattle.snapshot.specs.Waits.{state_fault}
 use Rattle.snapshot.proofs.Fixed.{fixed_run}
 use Rattle.snapshot.proofs.Stood.{as_long}
+use Rattle.board_model.proofs.SameTurn.{first_turn, same_turn}
 use Rattle.debug_core.specs.declared.timeline.Checkpoint.{Checkpoint}
 use Rattle.debug_core.specs.declared.timeline.Timeline.{Timeline}
 use Rattle.debug_core.specs.Runs.{most_turns, state_at}
 use Rattle.debug_core.specs.Times.{IsAt, IsFree, IsKept, IsSaved}
-use Rattle.debug_core.proofs.Ahead.{Follows, ahead, ends_at, first_turn, run_on, same_turn, sane_at, stays, turns_ahead, turns_made}
+use Rattle.debug_core.proofs.Ahead.{Follows, ahead, ends_at, run_on, sane_at, stays, turns_ahead, turns_made}
 use Rattle.snapshot.proofs.Few.{few_tasks}
 use Rattle.debug_core.proofs.Bytes.{no_byte}
 use Rattle.debug_core.proofs.Latest.{some_same}

@@ -5,7 +5,7 @@ use Rattle.debug_core.specs.declared.command.Command.{Command}
 use Rattle.debug_core.specs.declared.command.CommandFault.{CommandFault}
 use Rattle.debug_core.specs.declared.command.CommandFault.TheVariants as fault
 use Rattle.debug_core.specs.Lines.{said}
-use Rattle.debug_core.specs.Reading.{Stops, go_on, stated, with_lines, with_said}
+use Rattle.debug_core.specs.Reading.{Refuses, go_on, stated, with_lines, with_said}
 
 pub no_line : (commands : List Command) (number : ℕ) → with_lines commands number [] ≡ Ok commands
 unfolding with_lines
@@ -20,7 +20,7 @@ goes_on commands next number line lines rest e h =
     ap (with_lines commands number) e ∙ one_line commands number line lines
     ∙ ap (λ (r : Result (List Command) ℕ). go_on number r (λ next. with_lines next (number + 1) lines)) h
 
-pub stops_at : (commands : List Command) (number : ℕ) (line : List ℕ) (lines rest : List (List ℕ)) (whole : Result (List Command) Refusal) (f : CommandFault) → whole ≡ with_lines commands number rest → rest ≡ line ∷ lines → Stops f number (with_said commands (said line)) → IfSome (stated f) (λ t. whole ≡ Err t)
+pub stops_at : (commands : List Command) (number : ℕ) (line : List ℕ) (lines rest : List (List ℕ)) (whole : Result (List Command) Refusal) (f : CommandFault) → whole ≡ with_lines commands number rest → rest ≡ line ∷ lines → Refuses f number (with_said commands (said line)) → IfSome (stated f) (λ t. whole ≡ Err t)
 stops_at commands number line lines rest whole (fault.Refused cause place) w e h =
     w ∙ ap (with_lines commands number) e ∙ one_line commands number line lines
     ∙ ap (λ (r : Result (List Command) ℕ). go_on number r (λ next. with_lines next (number + 1) lines)) h.1

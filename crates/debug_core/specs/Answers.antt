@@ -6,9 +6,9 @@ use Rattle.kernel_abi.specs.declared.Kind.{Kind}
 use Rattle.kernel_abi.specs.declared.Kind.TheVariants.{Console, Port}
 use Rattle.kernel_abi.specs.Devices.{DeviceData}
 use Rattle.mem_banks.specs.Memory.{Memory, is_held}
-use Rattle.task_table.specs.State.{LineSetup, Setup, State}
-use Rattle.task_table.specs.Reading.{call_of, line_at, listen_of, task_at}
-use Rattle.task_table.specs.Holds.{wait_of}
+use Rattle.task_table.specs.model.State.{LineSetup, Setup, State}
+use Rattle.task_table.specs.model.Reading.{call_of, line_at, listen_of, task_at}
+use Rattle.task_table.specs.kept.Holds.{wait_of}
 use Rattle.trace_text.specs.Text.{bit, byte_hex, hex, line_of, spaced_hex}
 use Rattle.board_run.specs.MemoryText.{byte_of}
 use Rattle.board_run.specs.Text.{end_name, high_text, low_text}
@@ -22,7 +22,7 @@ use Rattle.board_model.specs.Run.{at_turn as notes_at}
 use Rattle.board_model.specs.Script.{Scenario}
 use Rattle.board_model.specs.Turn.{turn, turned}
 use Rattle.board_core.specs.declared.views.TaskView.{TaskView}
-use Rattle.board_core.specs.Breakpoints.{stands}
+use Rattle.board_core.specs.fast.Breakpoints.{stands}
 use Rattle.debug_core.specs.declared.answer.Answer.{Answer}
 use Rattle.debug_core.specs.declared.answer.Answer.TheVariants as answered
 use Rattle.debug_core.specs.declared.answer.Answer.TheVariants.{Absent, At, Bytes, Changed, Cleared, Full, Hit, Registers, Set, Told}

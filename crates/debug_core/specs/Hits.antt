@@ -3,7 +3,7 @@ use Rattle.std.specs.Prelude.{ℕ, ◌≡◌, ◌≤◌, ◌<◌, ◌+◌, ◌-�
 use Rattle.board_model.specs.declared.outcomes.Turned.TheVariants.{Ran}
 use Rattle.board_model.specs.Script.{Scenario}
 use Rattle.board_model.specs.Turn.{turned}
-use Rattle.board_core.specs.Breakpoints.{is_hit, hit_of}
+use Rattle.board_core.specs.fast.Breakpoints.{is_hit, hit_of}
 use Rattle.board_core.specs.Data.{Shows}
 use Rattle.debug_core.specs.declared.timeline.Timeline.{Timeline}
 use Rattle.debug_core.specs.Runs.{state_at}

@@ -86,10 +86,3 @@ pub record BreaksTelling (x : Scenario) (s : Session) (name : List ℕ) (before 
   pub bytes : List ℕ
   pub taken : MayBeTaken (before.contents name) bytes
   pub told : AppendsFront w.written w'.written (live_text x s bytes)
-
--- files are only read: the counts of failed reads and of bytes may rise, their contents and the count of failed puts stay
-pub record OnlyReads (before after : FilesSeen) : Type 0 where
-  pub later : before.read_faults ≤ after.read_faults
-  pub grown : before.given ≤ after.given
-  pub contents : after.contents ≡ before.contents
-  pub puts : after.put_faults ≡ before.put_faults

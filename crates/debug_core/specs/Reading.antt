@@ -44,6 +44,6 @@ stated (fault.Refused cause line) = Some (cause, line)
 stated fault.Memory = None
 
 -- the fault is the cause with the line, or want of memory
-abbrev pub Stops : CommandFault → ℕ → Result (List Command) ℕ → Type 0
-Stops (fault.Refused cause place) line answer = (place ≡ line) × (answer ≡ Err cause)
-Stops fault.Memory line answer = Unit {0}
+abbrev pub Refuses : CommandFault → ℕ → Result (List Command) ℕ → Type 0
+Refuses (fault.Refused cause place) line answer = (place ≡ line) × (answer ≡ Err cause)
+Refuses fault.Memory line answer = Unit {0}

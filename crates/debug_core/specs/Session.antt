@@ -3,7 +3,7 @@ use Rattle.std.specs.Prelude.{ℕ, ◌+◌, ◌-◌, ◌==◌, Bool, not, List, 
 use Rattle.std.specs.List.{range_with_len}
 use Rattle.board_model.specs.Script.{Scenario}
 use Rattle.board_model.specs.Turn.{turned}
-use Rattle.board_core.specs.Breakpoints.{stands, is_hit}
+use Rattle.board_core.specs.fast.Breakpoints.{stands, is_hit}
 use Rattle.debug_core.specs.declared.command.Command.{Command}
 use Rattle.debug_core.specs.declared.command.Command.TheVariants.{Break, Clear, Step, Back, Go, At, GoFor, BackFor, Notes, Regs, Task, Irq, Device, Mem}
 use Rattle.debug_core.specs.declared.command.Sought.{Sought}

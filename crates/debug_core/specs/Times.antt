@@ -1,8 +1,8 @@
 -- A run that goes forwards and back: at which turn of it a board stands, with states of the run that were saved on the way.
 use Rattle.std.specs.Prelude.{ℕ, ◌≡◌, ◌≤◌, ◌&&◌, nat_le, if◌then◌else◌, List, length, Option, Some, None}
 use Rattle.std.specs.List.{All, HoldsAt}
-use Rattle.task_table.specs.State.{State}
-use Rattle.task_table.specs.Sane.{Sane, IsCounted}
+use Rattle.task_table.specs.model.State.{State}
+use Rattle.task_table.specs.model.Sane.{Sane, IsCounted}
 use Rattle.board_model.specs.Alike.{reduced}
 use Rattle.board_model.specs.Script.{Scenario, start_of}
 use Rattle.board_core.specs.Data.{Shows}

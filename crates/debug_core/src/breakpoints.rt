@@ -1,7 +1,7 @@
 //! The breakpoints of a session.
 
 ghost use Rattle.std.specs.Prelude.{◌≡◌, if◌then◌else◌};
-ghost use Rattle.board_core.specs.Breakpoints.{stands};
+ghost use Rattle.board_core.specs.fast.Breakpoints.{stands};
 ghost use Rattle.debug_core.specs.Session.{is_full, others, with_breakpoint};
 
 use crate::answer::Answer;

@@ -1,8 +1,8 @@
 //! The commands of a text, line by line.
 
-ghost use Rattle.std.specs.Prelude.{◌≡◌, OnOk, IfOk, IfErr, IfSome, Ok, Err, Option, Result, ℕ};
+ghost use Rattle.std.specs.Prelude.{◌≡◌, OnOk, IfOk, IfErr, IfSome, Ok, Err, Option, Result};
 ghost use Rattle.std.specs.List.{All};
-ghost use Rattle.debug_core.specs.Reading.{AsksForFew, Stops, commands_or_fault, stated, with_said};
+ghost use Rattle.debug_core.specs.Reading.{AsksForFew, Refuses, commands_or_fault, stated, with_said};
 
 use crate::command::{Command, CommandFault};
 use crate::line::said;
@@ -18,7 +18,7 @@ fn take(
     line: usize,
 ) -> Result<(), CommandFault>
     ensures ok { OnOk result (with_said commands.old.items said ≡ Ok commands.new.items) }
-    ensures err { IfErr result (λ e. Stops e line (with_said commands.old.items said)) }
+    ensures err { IfErr result (λ e. Refuses e line (with_said commands.old.items said)) }
 {
     match said {
         Err(cause) => Err(CommandFault::Refused { cause, line }),

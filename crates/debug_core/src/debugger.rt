@@ -2,8 +2,8 @@
 
 ghost use Rattle.std.specs.Prelude.{ℕ, ◌≡◌, ◌≤◌, ◌<◌, ◌+◌, ◌-◌, ◌==◌, find, map, min, IfOk};
 ghost use Rattle.std.specs.Option.{option_map};
-ghost use Rattle.task_table.specs.Parts.{line_setup};
-ghost use Rattle.task_table.specs.State.{State};
+ghost use Rattle.task_table.specs.kept.Parts.{line_setup};
+ghost use Rattle.task_table.specs.model.State.{State};
 ghost use Rattle.mem_banks.specs.Memory.{byte_at};
 ghost use Rattle.outside_io.specs.Outside.{Pushes, HasCause};
 ghost use Rattle.board_model.specs.Script.{Scenario, start_of};

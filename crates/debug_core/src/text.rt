@@ -1,10 +1,10 @@
 //! The text of an answer, a push a line.
 
-ghost use Rattle.std.specs.Prelude.{◌≡◌, ◌≤◌, ◌+◌, ◌*◌, ◌++◌, ◌∷◌, [], codes, decimal, length};
+ghost use Rattle.std.specs.Prelude.{◌≡◌, ◌≤◌, ◌+◌, ◌*◌, ◌++◌, ◌∷◌, [], decimal, length};
 ghost use Rattle.std.specs.List.{flat_map};
 ghost use Rattle.arrayvec.specs.ArrayString.{array_string_len};
 ghost use Rattle.outside_io.specs.Outside.{Pushes, HasCause};
-ghost use Rattle.trace_text.specs.Text.{bit as bit_digit, byte_hex, hex, line_of};
+ghost use Rattle.trace_text.specs.Text.{bit as bit_digit, byte_hex, line_of};
 ghost use Rattle.board_run.specs.Text.{low_text, high_text};
 ghost use Rattle.debug_core.specs.Answers.{address_line, at_line, bytes_line, change_line, device_line, end_word, hit_line, irq_line, kind_words, refusal_line, text_of};
 

@@ -1,8 +1,8 @@
 //! A run that goes forwards and back: a board, and states of its run that were saved on the way.
 
-ghost use Rattle.std.specs.Prelude.{ℕ, ◌≡◌, ◌≢◌, ◌≤◌, ◌<◌, ◌+◌, ◌-◌, length, IfOk, IsNone, Some, None};
+ghost use Rattle.std.specs.Prelude.{ℕ, ◌≡◌, ◌≤◌, ◌<◌, ◌+◌, ◌-◌, length, IfOk, IsNone, Some, None};
 ghost use Rattle.std.specs.List.{All, HoldsAt};
-ghost use Rattle.task_table.specs.State.{State};
+ghost use Rattle.task_table.specs.model.State.{State};
 ghost use Rattle.board_model.specs.Alike.{reduced};
 ghost use Rattle.board_model.specs.Run.{ending};
 ghost use Rattle.board_model.specs.Script.{Scenario, start_of};

@@ -2,8 +2,8 @@
 use Rattle.std.proofs.Common.{◌≡◌, ◌≤◌, true, length, arith, lt-ltb}
 use Rattle.std.specs.Prelude.{Result, Ok, Err, IfOk}
 use Rattle.mem_banks.specs.Memory.{is_held}
-use Rattle.task_table.specs.State.{State}
-use Rattle.task_table.specs.Start.{start}
+use Rattle.task_table.specs.model.State.{State}
+use Rattle.task_table.specs.model.Start.{start}
 use Rattle.board_core.specs.Data.{Shows}
 use Rattle.board_core.specs.declared.board.Board.{Board}
 use Rattle.board_model.specs.Script.{Scenario, start_of}

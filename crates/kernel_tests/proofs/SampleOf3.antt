@@ -5,8 +5,8 @@ use Rattle.kernel_abi.specs.declared.Handled.TheVariants as handled
 use Rattle.kernel_abi.specs.declared.FromIndex.TheVariants as from_index
 use Rattle.kernel_abi.specs.declared.Note.{Note}
 use Rattle.kernel_abi.specs.declared.Note.TheVariants as note
-use Rattle.task_table.specs.Start.{start}
-use Rattle.task_table.specs.State.{Setup}
+use Rattle.task_table.specs.model.Start.{start}
+use Rattle.task_table.specs.model.State.{Setup}
 use Rattle.board_model.specs.Run.{run}
 use Rattle.board_model.specs.Script.{Scenario}
 use Rattle.board_model.specs.declared.outcomes.Level.TheVariants.{Calls}

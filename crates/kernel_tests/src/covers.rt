@@ -7,7 +7,7 @@ use crate::board::HEAD;
 use board_core::{Board, End};
 use image_format::Image;
 use outside_io::MemSink;
-use run_cover::{Counts, Cover, Source, write_cover, write_tracefile};
+use run_cover::{Cover, PlaceCounts, Source, write_cover, write_tracefile};
 use run_script::Script;
 use std::alloc::{AllocError, Global};
 use std::process::Abort;
@@ -183,7 +183,7 @@ fn what_lcov_reads(rt: HostRuntime) -> Result<(), Fail> {
         },
     ];
     let mut board = board_of(&rt, alloc, &code)?;
-    let mut counts = Counts::open(alloc)?;
+    let mut counts = PlaceCounts::open(alloc)?;
     let (text, end) = write_tracefile(alloc, &mut board, 5, &mut counts, &sources)?;
     let expected = "\
 TN:

@@ -1,6 +1,6 @@
 //! Eight devices that a board was handed, four consoles and four ports in turn: what each gives out and what it has come to, after
 //! stores, bytes from outside and loads.
-ghost use Rattle.std.specs.Prelude.{◌≡◌, ◌+◌, ◌≤◌, length, IfOk};
+ghost use Rattle.std.specs.Prelude.{◌+◌, ◌≤◌};
 ghost use Rattle.board_core.specs.Data.{boxed};
 ghost use Rattle.board_core.specs.Stands.{Stood, turns_of};
 

@@ -1,6 +1,6 @@
 //! Why bytes are refused as a saved state: a base, what is changed of it, and the cause and the place that docs/FORMATS.md, Saved
 //! state, says; 0 and 0 where they are accepted.
-ghost use Rattle.std.specs.Prelude.{◌≤◌, IfOk, length};
+ghost use Rattle.std.specs.Prelude.{◌≤◌, length};
 
 use kernel_abi::Kind;
 use region_check::{Region, Rights};

@@ -1,5 +1,5 @@
 ghost use Rattle.std.specs.Prelude.{◌≡◌, ◌≤◌, IfOk, length};
-ghost use Rattle.task_table.specs.Holds.{task_count, note_count, memory_of};
+ghost use Rattle.task_table.specs.kept.Holds.{task_count, note_count, memory_of};
 
 use crate::memory::{memory_of, memory_with_ram, store};
 use crate::window::Stamp;
@@ -187,16 +187,25 @@ fn a_kernel_stores_and_lends_its_memory(rt: HostRuntime) -> Result<(), Fail> {
     };
     let mut stamp = Stamp {
         seen: 0,
+        second_seen: 0,
         byte: 0x5A,
     };
     let opened = [
-        kernel.open_window(&ram, &flash, &none, &mut stamp),
-        kernel.open_window(&flash, &ram, &none, &mut stamp),
-        kernel.open_window(&flash, &ram, &ram, &mut stamp),
-        kernel.open_window(&flash, &none, &ram, &mut stamp),
+        kernel.open_window(&ram, &flash, &none, &none, &mut stamp),
+        kernel.open_window(&flash, &ram, &none, &none, &mut stamp),
+        kernel.open_window(&flash, &ram, &ram, &none, &mut stamp),
+        kernel.open_window(&flash, &none, &ram, &none, &mut stamp),
     ];
     let left = kernel.number(RAM, 2);
+    stamp.byte = 0x6B;
+    let with_second = [
+        kernel.open_window(&flash, &none, &none, &ram, &mut stamp),
+        kernel.open_window(&flash, &ram, &none, &ram, &mut stamp),
+        kernel.open_window(&flash, &none, &ram, &ram, &mut stamp),
+    ];
+    let second_left = (stamp.second_seen, kernel.number(RAM, 2));
     assert!(rt; stored == (0x0201, Some(0x21)));
     assert!(rt; (opened, stamp.seen, left) == ([false, true, false, true], 0x20, 0x025A));
+    assert!(rt; (with_second, second_left) == ([true, false, false], (0x5A, 0x026B)));
     Ok(())
 }

@@ -2,11 +2,11 @@
 use Rattle.std.specs.Prelude.{ℕ, ◌+◌, ◌-◌, ◌*◌, ◌==◌, nat_le, nat_lt, if◌then◌else◌, List, [], ◌∷◌, ◌++◌, length, fold, max, sum_by, slice_index_or, codes, decimal, find, Option, Some, None, unwrap_or}
 use Rattle.std.specs.List.{flat_map, range_with_len}
 use Rattle.lane_picture.specs.declared.parts.Arrow.{Arrow}
-use Rattle.lane_picture.specs.declared.parts.Calls.{Calls}
+use Rattle.lane_picture.specs.declared.parts.TaskCalls.{TaskCalls}
 use Rattle.lane_picture.specs.declared.parts.Longest.{Longest}
-use Rattle.lane_picture.specs.declared.parts.Asked.{Asked}
-use Rattle.lane_picture.specs.declared.parts.Way.{Way}
-use Rattle.lane_picture.specs.declared.parts.Way.TheVariants as way
+use Rattle.lane_picture.specs.declared.parts.AskedCall.{AskedCall}
+use Rattle.lane_picture.specs.declared.parts.ArrowKind.{ArrowKind}
+use Rattle.lane_picture.specs.declared.parts.ArrowKind.TheVariants as way
 use Rattle.lane_picture.specs.Sizes.{Drawn, columns, column_width, column_left, turn_left, tasks, lane_height, lane_top, lane_bottom, lane_words, lanes_end, row_line, cell_at, part, word_height}
 
 -- a byte of a name as XML has it: what has no place in a text is a question mark
@@ -103,17 +103,17 @@ abbrev pub longest_text : Drawn → Option Longest → List ℕ
 longest_text d None = []
 longest_text d (Some l) = codes ", the longest of " ++ decimal l.turns ++ codes " turns from turn " ++ decimal l.from ++ codes " to " ++ name_at d l.server
 
-abbrev pub asked_text : Drawn → Option Asked → List ℕ
+abbrev pub asked_text : Drawn → Option AskedCall → List ℕ
 asked_text d None = []
 asked_text d (Some a) = codes ", open since turn " ++ decimal a.since ++ codes " to " ++ name_at d a.server
 
-abbrev pub calls_text : Drawn → Calls → List ℕ
+abbrev pub calls_text : Drawn → TaskCalls → List ℕ
 calls_text d c = if c.count == 0 then [] else codes "; calls: " ++ decimal c.count ++ longest_text d c.longest ++ asked_text d c.asked
 
-abbrev pub no_calls : Calls
+abbrev pub no_calls : TaskCalls
 no_calls = record { count = 0; asked = None; longest = None }
 
-abbrev pub calls_at : Drawn → ℕ → Calls
+abbrev pub calls_at : Drawn → ℕ → TaskCalls
 calls_at d i = slice_index_or d.calls i no_calls
 
 -- a word of a task in a column: its box stands on those of the words before it
@@ -144,7 +144,7 @@ lane_text d i = words_text d i ++ flat_map (word_path d i) (range_with_len 0 7) 
 
 -- ## arrows
 
-abbrev pub way_class : Way → List ℕ
+abbrev pub way_class : ArrowKind → List ℕ
 way_class way.Call = codes "c"
 way_class way.Answer = codes "r"
 way_class way.Break = codes "x"
@@ -167,11 +167,15 @@ row_text d j class text = codes "<text x=\"176\" y=\"" ++ decimal (row_line d j)
 abbrev pub event_text : Drawn → ℕ → List ℕ
 event_text d j = row_text d (j + 1) (codes "d") (escaped (slice_index_or d.events j []))
 
+-- how many more there are than are listed
+abbrev pub more_text : Drawn → List ℕ
+more_text d = row_text d (length d.events + 1) (codes "d") (codes "and " ++ decimal (d.all_events - length d.events) ++ codes " more")
+
 -- there are none, or more
 abbrev pub rest_text : Drawn → List ℕ
 rest_text d =
     if d.all_events == 0 then row_text d 1 (codes "d") (codes "none")
-    else if nat_lt (length d.events) d.all_events then row_text d (length d.events + 1) (codes "d") (codes "and " ++ decimal (d.all_events - length d.events) ++ codes " more")
+    else if nat_lt (length d.events) d.all_events then more_text d
     else []
 
 abbrev pub events_text : Drawn → List ℕ

@@ -1,9 +1,9 @@
 -- What a picture of lanes is made of, and where its parts lie: numbers are units of the picture (docs/FORMATS.md, Picture; this project's own).
 use Rattle.std.specs.Prelude.{ℕ, ◌+◌, ◌-◌, ◌*◌, ◌/◌, ◌<◌, ◌≤◌, ◌==◌, false, nat_le, if◌then◌else◌, List, length, map, take, sum, slice_index_or, replicate, string_bytes}
 use Rattle.lane_picture.specs.declared.parts.Arrow.{Arrow}
-use Rattle.lane_picture.specs.declared.parts.Calls.{Calls}
+use Rattle.lane_picture.specs.declared.parts.TaskCalls.{TaskCalls}
 use Rattle.lane_picture.specs.declared.parts.Cell.{Cell}
-use Rattle.lane_picture.specs.declared.parts.Picture.{Picture}
+use Rattle.lane_picture.specs.declared.parts.LanePicture.{LanePicture}
 
 -- what is drawn
 pub record Drawn : Type 0 where
@@ -20,14 +20,14 @@ pub record Drawn : Type 0 where
   -- of each column the cells of the tasks
   pub cells : List Cell
   -- of each task
-  pub calls : List Calls
+  pub calls : List TaskCalls
   pub arrows : List Arrow
   -- of these the first ones may be all that is there: how many there are
   pub all_arrows : ℕ
   pub events : List (List ℕ)
   pub all_events : ℕ
 
-abbrev pub drawn_of : Picture → Drawn
+abbrev pub drawn_of : LanePicture → Drawn
 drawn_of p = record {
   title = p.title.now;
   ending = p.ending.now;
@@ -111,7 +111,7 @@ word_height d c word = part (lane_height d) (sum (take word c.words)) (cell_turn
 
 -- ## bounds: what a picture may have at most
 
-pub record IsBounded (p : Picture) : Type 0 where
+pub record IsBounded (p : LanePicture) : Type 0 where
   pub columns : length p.outside.now ≤ 1200
   pub tasks : length p.names.now ≤ 65536
   pub events : length p.events.now ≤ 10

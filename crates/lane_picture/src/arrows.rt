@@ -5,23 +5,23 @@ ghost use Rattle.lane_picture.specs.Sizes.{IsBounded, drawn_of, lane_bottom, lan
 ghost use Rattle.lane_picture.specs.Drawing.{arrow_text, arrows_text, way_class};
 
 use crate::heading::MOST_ARROWS;
-use crate::parts::{Arrow, Picture, Way};
+use crate::parts::{Arrow, ArrowKind, LanePicture};
 use crate::sizes::{lane_bottom, lane_top, turn_left};
 use crate::text::{push_decimal, push_text};
 use std::alloc::AllocError;
 
-fn way_class(way: Way) -> &'static str
+fn way_class(way: ArrowKind) -> &'static str
     ensures { result.now ≡ way_class way }
 {
     match way {
-        Way::Call => "c",
-        Way::Answer => "r",
-        Way::Break => "x",
+        ArrowKind::Call => "c",
+        ArrowKind::Answer => "r",
+        ArrowKind::Break => "x",
     }
 }
 
 /// Where an arrow begins: on the side of its lane that is the nearer one to the other's.
-fn start_line(picture: &Picture<'_>, arrow: &Arrow) -> u64
+fn start_line(picture: &LanePicture<'_>, arrow: &Arrow) -> u64
     requires { IsBounded picture.now }
     ensures { result ≡ (if nat_lt arrow.now.from arrow.now.to then lane_bottom (drawn_of picture.now) arrow.now.from else lane_top (drawn_of picture.now) arrow.now.from) }
 {
@@ -34,7 +34,7 @@ fn start_line(picture: &Picture<'_>, arrow: &Arrow) -> u64
 }
 
 /// Where it ends.
-fn end_line(picture: &Picture<'_>, arrow: &Arrow) -> u64
+fn end_line(picture: &LanePicture<'_>, arrow: &Arrow) -> u64
     requires { IsBounded picture.now }
     ensures { result ≡ (if nat_lt arrow.now.from arrow.now.to then lane_top (drawn_of picture.now) arrow.now.to else lane_bottom (drawn_of picture.now) arrow.now.to) }
 {
@@ -47,7 +47,7 @@ fn end_line(picture: &Picture<'_>, arrow: &Arrow) -> u64
 }
 
 #[tactic(auto, unfolding(crate::specs::Drawing::arrow_text))]
-fn push_arrow(picture: &Picture<'_>, arrow: &Arrow, out: &mut Vec<u8>) -> Result<(), AllocError>
+fn push_arrow(picture: &LanePicture<'_>, arrow: &Arrow, out: &mut Vec<u8>) -> Result<(), AllocError>
     requires { IsBounded picture.now }
     ensures { OnOk result (out.new.items ≡ out.old.items ++ arrow_text (drawn_of picture.now) arrow.now) }
 {
@@ -65,7 +65,7 @@ fn push_arrow(picture: &Picture<'_>, arrow: &Arrow, out: &mut Vec<u8>) -> Result
 }
 
 /// The arrows, where there are not too many.
-pub fn push_arrows(picture: &Picture<'_>, out: &mut Vec<u8>) -> Result<(), AllocError>
+pub fn push_arrows(picture: &LanePicture<'_>, out: &mut Vec<u8>) -> Result<(), AllocError>
     requires { IsBounded picture.now }
     ensures { OnOk result (out.new.items ≡ out.old.items ++ arrows_text (drawn_of picture.now)) }
 {

@@ -8,7 +8,7 @@ use crate::events::push_events;
 use crate::heading::{push_axis, push_head, push_look, push_opening};
 use crate::lanes::push_lanes;
 use crate::outside::push_outside;
-use crate::parts::Picture;
+use crate::parts::LanePicture;
 use crate::text::push_text;
 use std::alloc::{AllocError, Global};
 
@@ -18,7 +18,7 @@ use std::alloc::{AllocError, Global};
 ///
 /// Only want of memory.
 #[tactic(auto, unfolding(crate::specs::Drawing::drawing_text))]
-pub fn draw(alloc: Global, picture: &Picture<'_>) -> Result<Vec<u8>, AllocError>
+pub fn draw(alloc: Global, picture: &LanePicture<'_>) -> Result<Vec<u8>, AllocError>
     requires columns { length picture.now.outside.now ≤ 1200 }
     requires tasks { length picture.now.names.now ≤ 65536 }
     requires events { length picture.now.events.now ≤ 10 }

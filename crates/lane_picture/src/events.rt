@@ -3,16 +3,16 @@ ghost use Rattle.std.specs.Prelude.{◌≡◌, ◌++◌, ◌+◌, ◌-◌, ◌<�
 ghost use Rattle.std.specs.Result.{OnOk};
 ghost use Rattle.std.specs.List.{flat_map, range_with_len};
 ghost use Rattle.lane_picture.specs.Sizes.{IsBounded, drawn_of, row_line};
-ghost use Rattle.lane_picture.specs.Drawing.{event_text, events_text, rest_text, row_text};
+ghost use Rattle.lane_picture.specs.Drawing.{event_text, events_text, rest_text, more_text, row_text};
 
-use crate::parts::Picture;
+use crate::parts::LanePicture;
 use crate::sizes::row_line;
 use crate::text::{push_decimal, push_escaped, push_text};
 use std::alloc::AllocError;
 
 // What stands before the words of a row.
 fn begin_row(
-    picture: &Picture<'_>,
+    picture: &LanePicture<'_>,
     j: u32,
     class: &str,
     out: &mut Vec<u8>,
@@ -36,7 +36,7 @@ fn end_row(out: &mut Vec<u8>) -> Result<(), AllocError>
 
 #[tactic(auto, unfolding(crate::specs::Drawing::row_text))]
 fn push_row(
-    picture: &Picture<'_>,
+    picture: &LanePicture<'_>,
     j: u32,
     class: &str,
     text: &str,
@@ -51,7 +51,7 @@ fn push_row(
 }
 
 #[tactic(auto, unfolding(crate::specs::Drawing::row_text))]
-fn push_event(picture: &Picture<'_>, j: u32, out: &mut Vec<u8>) -> Result<(), AllocError>
+fn push_event(picture: &LanePicture<'_>, j: u32, out: &mut Vec<u8>) -> Result<(), AllocError>
     requires bounded { IsBounded picture.now }
     requires within { j < length picture.now.events.now }
     ensures { OnOk result (out.new.items ≡ out.old.items ++ event_text (drawn_of picture.now) j) }
@@ -61,7 +61,7 @@ fn push_event(picture: &Picture<'_>, j: u32, out: &mut Vec<u8>) -> Result<(), Al
     end_row(out)
 }
 
-fn push_each_event(picture: &Picture<'_>, out: &mut Vec<u8>) -> Result<(), AllocError>
+fn push_each_event(picture: &LanePicture<'_>, out: &mut Vec<u8>) -> Result<(), AllocError>
     requires { IsBounded picture.now }
     ensures { OnOk result (out.new.items ≡ out.old.items ++ flat_map (event_text (drawn_of picture.now)) (range_with_len 0 (length (drawn_of picture.now).events))) }
 {
@@ -72,10 +72,10 @@ fn push_each_event(picture: &Picture<'_>, out: &mut Vec<u8>) -> Result<(), Alloc
 }
 
 #[tactic(auto, unfolding(crate::specs::Drawing::row_text))]
-fn push_more(picture: &Picture<'_>, out: &mut Vec<u8>) -> Result<(), AllocError>
+fn push_more(picture: &LanePicture<'_>, out: &mut Vec<u8>) -> Result<(), AllocError>
     requires bounded { IsBounded picture.now }
     requires more { length picture.now.events.now < picture.now.all_events }
-    ensures { OnOk result (out.new.items ≡ out.old.items ++ row_text (drawn_of picture.now) (length (drawn_of picture.now).events + 1) (codes "d") (codes "and " ++ decimal (picture.now.all_events - length (drawn_of picture.now).events) ++ codes " more")) }
+    ensures { OnOk result (out.new.items ≡ out.old.items ++ more_text (drawn_of picture.now)) }
 {
     let told = picture.events.len();
     begin_row(picture, told as u32 + 1, "d", out)?;
@@ -86,7 +86,7 @@ fn push_more(picture: &Picture<'_>, out: &mut Vec<u8>) -> Result<(), AllocError>
 }
 
 /// That there are none, or more.
-fn push_rest(picture: &Picture<'_>, out: &mut Vec<u8>) -> Result<(), AllocError>
+fn push_rest(picture: &LanePicture<'_>, out: &mut Vec<u8>) -> Result<(), AllocError>
     requires { IsBounded picture.now }
     ensures { OnOk result (out.new.items ≡ out.old.items ++ rest_text (drawn_of picture.now)) }
 {
@@ -99,7 +99,7 @@ fn push_rest(picture: &Picture<'_>, out: &mut Vec<u8>) -> Result<(), AllocError>
     }
 }
 
-pub fn push_events(picture: &Picture<'_>, out: &mut Vec<u8>) -> Result<(), AllocError>
+pub fn push_events(picture: &LanePicture<'_>, out: &mut Vec<u8>) -> Result<(), AllocError>
     requires { IsBounded picture.now }
     ensures { OnOk result (out.new.items ≡ out.old.items ++ events_text (drawn_of picture.now)) }
 {

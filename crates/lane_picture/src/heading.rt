@@ -1,10 +1,10 @@
 //! What stands before the lanes: the looks, the title, and the axis.
-ghost use Rattle.std.specs.Prelude.{◌≡◌, ◌++◌, length};
+ghost use Rattle.std.specs.Prelude.{◌≡◌, ◌++◌};
 ghost use Rattle.std.specs.Result.{OnOk};
 ghost use Rattle.lane_picture.specs.Sizes.{IsBounded, drawn_of};
 ghost use Rattle.lane_picture.specs.Drawing.{axis_text, grid_line, grid_line_within, head_text, height, left_out_text, look_text, opening_text, scale_text, step};
 
-use crate::parts::Picture;
+use crate::parts::LanePicture;
 use crate::sizes::{lanes_end, row_line, turn_left};
 use crate::text::{push_decimal, push_escaped, push_text};
 use std::alloc::AllocError;
@@ -22,7 +22,7 @@ const STEPS: [u32; 26] = [
     500000, 1000000, 2000000, 5000000, 10000000, 20000000, 50000000, 100000000, 200000000,
 ];
 
-fn height(picture: &Picture<'_>) -> u64
+fn height(picture: &LanePicture<'_>) -> u64
     requires { IsBounded picture.now }
     ensures { result ≡ height (drawn_of picture.now) }
 {
@@ -30,7 +30,7 @@ fn height(picture: &Picture<'_>) -> u64
 }
 
 #[tactic(auto, unfolding(crate::specs::Drawing::opening_text))]
-pub fn push_opening(picture: &Picture<'_>, out: &mut Vec<u8>) -> Result<(), AllocError>
+pub fn push_opening(picture: &LanePicture<'_>, out: &mut Vec<u8>) -> Result<(), AllocError>
     requires { IsBounded picture.now }
     ensures { OnOk result (out.new.items ≡ out.old.items ++ opening_text (drawn_of picture.now)) }
 {
@@ -81,7 +81,7 @@ fn push_left_out(arrows: u64, out: &mut Vec<u8>) -> Result<(), AllocError>
 }
 
 #[tactic(auto, unfolding(crate::specs::Drawing::head_text))]
-pub fn push_head(picture: &Picture<'_>, out: &mut Vec<u8>) -> Result<(), AllocError>
+pub fn push_head(picture: &LanePicture<'_>, out: &mut Vec<u8>) -> Result<(), AllocError>
     ensures { OnOk result (out.new.items ≡ out.old.items ++ head_text (drawn_of picture.now)) }
 {
     push_text("<text x=\"8\" y=\"20\" class=\"t b\">", out)?;
@@ -110,7 +110,7 @@ fn step(turns: u32) -> u32
 }
 
 #[tactic(auto, unfolding(crate::specs::Drawing::grid_line))]
-fn push_grid_line(picture: &Picture<'_>, turn: u32, out: &mut Vec<u8>) -> Result<(), AllocError>
+fn push_grid_line(picture: &LanePicture<'_>, turn: u32, out: &mut Vec<u8>) -> Result<(), AllocError>
     requires { IsBounded picture.now }
     ensures { OnOk result (out.new.items ≡ out.old.items ++ grid_line (drawn_of picture.now) turn) }
 {
@@ -127,7 +127,7 @@ fn push_grid_line(picture: &Picture<'_>, turn: u32, out: &mut Vec<u8>) -> Result
 }
 
 fn push_grid_line_within(
-    picture: &Picture<'_>,
+    picture: &LanePicture<'_>,
     turn: u64,
     out: &mut Vec<u8>,
 ) -> Result<(), AllocError>
@@ -142,7 +142,7 @@ fn push_grid_line_within(
 }
 
 /// The axis: at most ten steps.
-pub fn push_axis(picture: &Picture<'_>, out: &mut Vec<u8>) -> Result<(), AllocError>
+pub fn push_axis(picture: &LanePicture<'_>, out: &mut Vec<u8>) -> Result<(), AllocError>
     requires { IsBounded picture.now }
     ensures { OnOk result (out.new.items ≡ out.old.items ++ axis_text (drawn_of picture.now)) }
 {

@@ -6,7 +6,7 @@ ghost use Rattle.lane_picture.specs.Sizes.{IsBounded, columns, drawn_of, tasks};
 ghost use Rattle.lane_picture.specs.Drawing.{birth_box, fault_box, lane_text, marks_text, running, share_text, word_box, word_path, words_text};
 
 use crate::names::{push_calls_at, push_name};
-use crate::parts::Picture;
+use crate::parts::LanePicture;
 use crate::sizes::{
     cell_at, column_left, column_width, columns, lane_bottom, lane_height, lane_top, lane_words,
     part, tasks, word_height,
@@ -15,7 +15,7 @@ use crate::text::{push_box, push_box_or_none, push_decimal, push_text};
 use std::alloc::AllocError;
 
 /// In how many turns a task runs.
-fn running(picture: &Picture<'_>, i: u32) -> u64
+fn running(picture: &LanePicture<'_>, i: u32) -> u64
     requires { IsBounded picture.now }
     ensures is { result ≡ running (drawn_of picture.now) i }
     ensures few { result ≤ 1200 * 4294967295 }
@@ -42,7 +42,7 @@ fn push_share(runs: u64, turns: u32, out: &mut Vec<u8>) -> Result<(), AllocError
 
 /// A word of a task in a column: its box stands on those of the words before it.
 fn push_word_box(
-    picture: &Picture<'_>,
+    picture: &LanePicture<'_>,
     i: u32,
     word: usize,
     k: u16,
@@ -68,7 +68,7 @@ fn push_word_box(
 }
 
 fn push_word_boxes(
-    picture: &Picture<'_>,
+    picture: &LanePicture<'_>,
     i: u32,
     word: usize,
     out: &mut Vec<u8>,
@@ -85,7 +85,7 @@ fn push_word_boxes(
 
 #[tactic(auto, unfolding(crate::specs::Drawing::word_path))]
 fn push_word_path(
-    picture: &Picture<'_>,
+    picture: &LanePicture<'_>,
     i: u32,
     word: usize,
     out: &mut Vec<u8>,
@@ -101,7 +101,7 @@ fn push_word_path(
     push_text("\"/>\n", out)
 }
 
-fn push_word_paths(picture: &Picture<'_>, i: u32, out: &mut Vec<u8>) -> Result<(), AllocError>
+fn push_word_paths(picture: &LanePicture<'_>, i: u32, out: &mut Vec<u8>) -> Result<(), AllocError>
     requires { IsBounded picture.now }
     ensures { OnOk result (out.new.items ≡ out.old.items ++ flat_map (word_path (drawn_of picture.now) i) (range_with_len 0 7)) }
 {
@@ -113,7 +113,7 @@ fn push_word_paths(picture: &Picture<'_>, i: u32, out: &mut Vec<u8>) -> Result<(
 
 /// A column in which a task faulted is marked over its lane.
 fn push_fault_box(
-    picture: &Picture<'_>,
+    picture: &LanePicture<'_>,
     i: u32,
     k: u16,
     out: &mut Vec<u8>,
@@ -135,7 +135,7 @@ fn push_fault_box(
     }
 }
 
-fn push_fault_boxes(picture: &Picture<'_>, i: u32, out: &mut Vec<u8>) -> Result<(), AllocError>
+fn push_fault_boxes(picture: &LanePicture<'_>, i: u32, out: &mut Vec<u8>) -> Result<(), AllocError>
     requires { IsBounded picture.now }
     ensures { OnOk result (out.new.items ≡ out.old.items ++ flat_map (fault_box (drawn_of picture.now) i) (range_with_len 0 (columns (drawn_of picture.now)))) }
 {
@@ -147,7 +147,7 @@ fn push_fault_boxes(picture: &Picture<'_>, i: u32, out: &mut Vec<u8>) -> Result<
 
 /// A column in which a task was born is marked below its lane.
 fn push_birth_box(
-    picture: &Picture<'_>,
+    picture: &LanePicture<'_>,
     i: u32,
     k: u16,
     out: &mut Vec<u8>,
@@ -163,7 +163,7 @@ fn push_birth_box(
     }
 }
 
-fn push_birth_boxes(picture: &Picture<'_>, i: u32, out: &mut Vec<u8>) -> Result<(), AllocError>
+fn push_birth_boxes(picture: &LanePicture<'_>, i: u32, out: &mut Vec<u8>) -> Result<(), AllocError>
     requires { IsBounded picture.now }
     ensures { OnOk result (out.new.items ≡ out.old.items ++ flat_map (birth_box (drawn_of picture.now) i) (range_with_len 0 (columns (drawn_of picture.now)))) }
 {
@@ -174,7 +174,7 @@ fn push_birth_boxes(picture: &Picture<'_>, i: u32, out: &mut Vec<u8>) -> Result<
 }
 
 #[tactic(auto, unfolding(crate::specs::Drawing::marks_text))]
-fn push_marks(picture: &Picture<'_>, i: u32, out: &mut Vec<u8>) -> Result<(), AllocError>
+fn push_marks(picture: &LanePicture<'_>, i: u32, out: &mut Vec<u8>) -> Result<(), AllocError>
     requires { IsBounded picture.now }
     ensures { OnOk result (out.new.items ≡ out.old.items ++ marks_text (drawn_of picture.now) i) }
 {
@@ -186,7 +186,7 @@ fn push_marks(picture: &Picture<'_>, i: u32, out: &mut Vec<u8>) -> Result<(), Al
 }
 
 #[tactic(auto, unfolding(crate::specs::Drawing::words_text))]
-fn push_words(picture: &Picture<'_>, i: u32, out: &mut Vec<u8>) -> Result<(), AllocError>
+fn push_words(picture: &LanePicture<'_>, i: u32, out: &mut Vec<u8>) -> Result<(), AllocError>
     requires { IsBounded picture.now }
     ensures { OnOk result (out.new.items ≡ out.old.items ++ words_text (drawn_of picture.now) i) }
 {
@@ -205,7 +205,7 @@ fn push_words(picture: &Picture<'_>, i: u32, out: &mut Vec<u8>) -> Result<(), Al
     push_text("</text>\n", out)
 }
 
-fn push_lane(picture: &Picture<'_>, i: u32, out: &mut Vec<u8>) -> Result<(), AllocError>
+fn push_lane(picture: &LanePicture<'_>, i: u32, out: &mut Vec<u8>) -> Result<(), AllocError>
     requires { IsBounded picture.now }
     ensures { OnOk result (out.new.items ≡ out.old.items ++ lane_text (drawn_of picture.now) i) }
 {
@@ -214,7 +214,7 @@ fn push_lane(picture: &Picture<'_>, i: u32, out: &mut Vec<u8>) -> Result<(), All
     push_marks(picture, i, out)
 }
 
-pub fn push_lanes(picture: &Picture<'_>, out: &mut Vec<u8>) -> Result<(), AllocError>
+pub fn push_lanes(picture: &LanePicture<'_>, out: &mut Vec<u8>) -> Result<(), AllocError>
     requires { IsBounded picture.now }
     ensures { OnOk result (out.new.items ≡ out.old.items ++ flat_map (lane_text (drawn_of picture.now)) (range_with_len 0 (tasks (drawn_of picture.now)))) }
 {

@@ -14,4 +14,4 @@ mod sizes;
 mod text;
 
 pub use drawing::draw;
-pub use parts::{Arrow, Asked, Calls, Cell, Longest, Picture, Way};
+pub use parts::{Arrow, ArrowKind, AskedCall, Cell, LanePicture, Longest, TaskCalls};

@@ -1,14 +1,14 @@
 //! The name of a task, and what is told of its calls.
-ghost use Rattle.std.specs.Prelude.{◌≡◌, ◌++◌, ◌^◌, ◌<◌};
+ghost use Rattle.std.specs.Prelude.{◌≡◌, ◌++◌, ◌<◌};
 ghost use Rattle.std.specs.Result.{OnOk};
 ghost use Rattle.lane_picture.specs.Sizes.{drawn_of};
 ghost use Rattle.lane_picture.specs.Drawing.{asked_text, calls_at, calls_text, longest_text, name_at};
 
-use crate::parts::{Asked, Calls, Longest, Picture};
+use crate::parts::{AskedCall, LanePicture, Longest, TaskCalls};
 use crate::text::{push_decimal, push_escaped, push_text};
 use std::alloc::AllocError;
 
-pub fn push_name(picture: &Picture<'_>, i: u32, out: &mut Vec<u8>) -> Result<(), AllocError>
+pub fn push_name(picture: &LanePicture<'_>, i: u32, out: &mut Vec<u8>) -> Result<(), AllocError>
     ensures { OnOk result (out.new.items ≡ out.old.items ++ name_at (drawn_of picture.now) i) }
 {
     match picture.names.get(i as usize) {
@@ -18,7 +18,7 @@ pub fn push_name(picture: &Picture<'_>, i: u32, out: &mut Vec<u8>) -> Result<(),
 }
 
 fn push_longest(
-    picture: &Picture<'_>,
+    picture: &LanePicture<'_>,
     longest: Option<Longest>,
     out: &mut Vec<u8>,
 ) -> Result<(), AllocError>
@@ -38,8 +38,8 @@ fn push_longest(
 }
 
 fn push_asked(
-    picture: &Picture<'_>,
-    asked: Option<Asked>,
+    picture: &LanePicture<'_>,
+    asked: Option<AskedCall>,
     out: &mut Vec<u8>,
 ) -> Result<(), AllocError>
     ensures { OnOk result (out.new.items ≡ out.old.items ++ asked_text (drawn_of picture.now) asked) }
@@ -55,7 +55,11 @@ fn push_asked(
     }
 }
 
-fn push_calls(picture: &Picture<'_>, calls: &Calls, out: &mut Vec<u8>) -> Result<(), AllocError>
+fn push_calls(
+    picture: &LanePicture<'_>,
+    calls: &TaskCalls,
+    out: &mut Vec<u8>,
+) -> Result<(), AllocError>
     ensures { OnOk result (out.new.items ≡ out.old.items ++ calls_text (drawn_of picture.now) calls.now) }
 {
     if calls.count == 0 {
@@ -69,7 +73,7 @@ fn push_calls(picture: &Picture<'_>, calls: &Calls, out: &mut Vec<u8>) -> Result
 }
 
 /// The calls of a task.
-pub fn push_calls_at(picture: &Picture<'_>, i: u32, out: &mut Vec<u8>) -> Result<(), AllocError>
+pub fn push_calls_at(picture: &LanePicture<'_>, i: u32, out: &mut Vec<u8>) -> Result<(), AllocError>
     ensures { OnOk result (out.new.items ≡ out.old.items ++ calls_text (drawn_of picture.now) (calls_at (drawn_of picture.now) i)) }
 {
     match picture.calls.get(i as usize) {

@@ -4,12 +4,12 @@ ghost use Rattle.std.specs.Result.{OnOk};
 ghost use Rattle.lane_picture.specs.Sizes.{IsBounded, drawn_of};
 ghost use Rattle.lane_picture.specs.Drawing.{most_outside, outside_box, outside_boxes, outside_text};
 
-use crate::parts::Picture;
+use crate::parts::LanePicture;
 use crate::sizes::{column_left, column_width, columns, part};
 use crate::text::{push_box_or_none, push_decimal, push_text};
 use std::alloc::AllocError;
 
-fn most_outside(picture: &Picture<'_>) -> u32
+fn most_outside(picture: &LanePicture<'_>) -> u32
     ensures { result ≡ most_outside (drawn_of picture.now) }
 {
     let mut most = 0u32;
@@ -19,7 +19,7 @@ fn most_outside(picture: &Picture<'_>) -> u32
     most
 }
 
-fn outside_at(picture: &Picture<'_>, k: u16) -> u32
+fn outside_at(picture: &LanePicture<'_>, k: u16) -> u32
     ensures { result ≡ slice_index_or picture.now.outside.now k 0 }
 {
     match picture.outside.get(k as usize) {
@@ -29,7 +29,7 @@ fn outside_at(picture: &Picture<'_>, k: u16) -> u32
 }
 
 fn push_outside_box(
-    picture: &Picture<'_>,
+    picture: &LanePicture<'_>,
     most: u32,
     k: u16,
     out: &mut Vec<u8>,
@@ -45,7 +45,11 @@ fn push_outside_box(
     push_box_or_none(left, top, column_width(picture, k), high, out)
 }
 
-fn push_outside_boxes(picture: &Picture<'_>, most: u32, out: &mut Vec<u8>) -> Result<(), AllocError>
+fn push_outside_boxes(
+    picture: &LanePicture<'_>,
+    most: u32,
+    out: &mut Vec<u8>,
+) -> Result<(), AllocError>
     requires bounded { IsBounded picture.now }
     requires most { most ≡ most_outside (drawn_of picture.now) }
     ensures { OnOk result (out.new.items ≡ out.old.items ++ outside_boxes (drawn_of picture.now)) }
@@ -57,7 +61,7 @@ fn push_outside_boxes(picture: &Picture<'_>, most: u32, out: &mut Vec<u8>) -> Re
 }
 
 #[tactic(auto, unfolding(crate::specs::Drawing::outside_text))]
-pub fn push_outside(picture: &Picture<'_>, out: &mut Vec<u8>) -> Result<(), AllocError>
+pub fn push_outside(picture: &LanePicture<'_>, out: &mut Vec<u8>) -> Result<(), AllocError>
     requires { IsBounded picture.now }
     ensures { OnOk result (out.new.items ≡ out.old.items ++ outside_text (drawn_of picture.now)) }
 {

@@ -11,7 +11,7 @@ pub struct Cell {
 
 /// A call that is open: its number, the index of its server, and the turn of the offer.
 #[derive(Clone, Copy)]
-pub struct Asked {
+pub struct AskedCall {
     pub call: u32,
     pub server: u16,
     pub since: u32,
@@ -27,15 +27,15 @@ pub struct Longest {
 
 /// The calls of a task: how many it offered, which one it has asked and is open, and the first of the longest of those that were closed.
 #[derive(Clone, Copy)]
-pub struct Calls {
+pub struct TaskCalls {
     pub count: u64,
-    pub asked: Option<Asked>,
+    pub asked: Option<AskedCall>,
     pub longest: Option<Longest>,
 }
 
 /// What an arrow shows.
 #[derive(Clone, Copy)]
-pub enum Way {
+pub enum ArrowKind {
     /// A call, from the turn of its offer to that in which it was taken.
     Call,
     /// A reply.
@@ -47,7 +47,7 @@ pub enum Way {
 /// From a task in a turn to a task in a turn.
 #[derive(Clone, Copy)]
 pub struct Arrow {
-    pub way: Way,
+    pub way: ArrowKind,
     pub from: u16,
     pub at: u32,
     pub to: u16,
@@ -56,7 +56,7 @@ pub struct Arrow {
 
 /// What a picture shows.
 #[derive(Clone, Copy)]
-pub struct Picture<'a> {
+pub struct LanePicture<'a> {
     pub title: &'a str,
     /// How the run ended.
     pub ending: &'a str,
@@ -71,7 +71,7 @@ pub struct Picture<'a> {
     /// The cells of the tasks, of each column one behind the other.
     pub cells: &'a [Cell],
     /// Of each task.
-    pub calls: &'a [Calls],
+    pub calls: &'a [TaskCalls],
     /// The first ones, or all.
     pub arrows: &'a [Arrow],
     pub all_arrows: u64,

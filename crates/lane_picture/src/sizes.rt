@@ -1,8 +1,8 @@
 //! Where the parts of a picture lie.
 ghost use Rattle.std.specs.Prelude.{◌≡◌, ◌+◌, ◌*◌, ◌^◌, ◌<◌, ◌≤◌, sum, take};
-ghost use Rattle.lane_picture.specs.Sizes.{IsBounded, cell_at, cell_turns, column_left, column_width, columns, drawn_of, lane_bottom, lane_height, lane_pitch, lane_top, lane_words, lanes_end, part, row_line, tasks, turn_left, word_height};
+ghost use Rattle.lane_picture.specs.Sizes.{IsBounded, cell_at, column_left, column_width, columns, drawn_of, lane_bottom, lane_height, lane_pitch, lane_top, lane_words, lanes_end, part, row_line, tasks, turn_left, word_height};
 
-use crate::parts::{Cell, Picture};
+use crate::parts::{Cell, LanePicture};
 
 /// How much of a height or a width so many of all are.
 pub fn part(room: u64, some: u64, all: u64) -> u64
@@ -12,7 +12,7 @@ pub fn part(room: u64, some: u64, all: u64) -> u64
     if all == 0 { 0 } else { room * some / all }
 }
 
-pub fn columns(picture: &Picture<'_>) -> u16
+pub fn columns(picture: &LanePicture<'_>) -> u16
     requires { IsBounded picture.now }
     ensures is { result ≡ columns (drawn_of picture.now) }
     ensures few { result ≤ 1200 }
@@ -20,14 +20,14 @@ pub fn columns(picture: &Picture<'_>) -> u16
     picture.outside.len() as u16
 }
 
-pub fn column_left(picture: &Picture<'_>, k: u32) -> u64
+pub fn column_left(picture: &LanePicture<'_>, k: u32) -> u64
     requires { IsBounded picture.now }
     ensures { result ≡ column_left (drawn_of picture.now) k }
 {
     176 + part(1200, u64::from(k), u64::from(columns(picture)))
 }
 
-pub fn column_width(picture: &Picture<'_>, k: u16) -> u64
+pub fn column_width(picture: &LanePicture<'_>, k: u16) -> u64
     requires { IsBounded picture.now }
     ensures { result ≡ column_width (drawn_of picture.now) k }
 {
@@ -37,14 +37,14 @@ pub fn column_width(picture: &Picture<'_>, k: u16) -> u64
 }
 
 /// The left end of the column of a turn.
-pub fn turn_left(picture: &Picture<'_>, turn: u32) -> u64
+pub fn turn_left(picture: &LanePicture<'_>, turn: u32) -> u64
     requires { IsBounded picture.now }
     ensures { result ≡ turn_left (drawn_of picture.now) turn }
 {
     column_left(picture, turn / picture.column_turns)
 }
 
-pub fn tasks(picture: &Picture<'_>) -> u32
+pub fn tasks(picture: &LanePicture<'_>) -> u32
     requires { IsBounded picture.now }
     ensures is { result ≡ tasks (drawn_of picture.now) }
     ensures few { result ≤ 65536 }
@@ -52,7 +52,7 @@ pub fn tasks(picture: &Picture<'_>) -> u32
     picture.names.len() as u32
 }
 
-pub fn lane_height(picture: &Picture<'_>) -> u64
+pub fn lane_height(picture: &LanePicture<'_>) -> u64
     requires { IsBounded picture.now }
     ensures is { result ≡ lane_height (drawn_of picture.now) }
     ensures low { result ≤ 18 }
@@ -60,7 +60,7 @@ pub fn lane_height(picture: &Picture<'_>) -> u64
     if tasks(picture) <= 32 { 18 } else { 9 }
 }
 
-fn lane_pitch(picture: &Picture<'_>) -> u64
+fn lane_pitch(picture: &LanePicture<'_>) -> u64
     requires { IsBounded picture.now }
     ensures is { result ≡ lane_pitch (drawn_of picture.now) }
     ensures low { result ≤ 28 }
@@ -68,7 +68,7 @@ fn lane_pitch(picture: &Picture<'_>) -> u64
     if tasks(picture) <= 32 { 28 } else { 12 }
 }
 
-pub fn lane_top(picture: &Picture<'_>, i: u32) -> u64
+pub fn lane_top(picture: &LanePicture<'_>, i: u32) -> u64
     requires { IsBounded picture.now }
     ensures is { result ≡ lane_top (drawn_of picture.now) i }
     ensures above { 118 ≤ result }
@@ -77,7 +77,7 @@ pub fn lane_top(picture: &Picture<'_>, i: u32) -> u64
     118 + u64::from(i) * lane_pitch(picture)
 }
 
-pub fn lane_bottom(picture: &Picture<'_>, i: u32) -> u64
+pub fn lane_bottom(picture: &LanePicture<'_>, i: u32) -> u64
     requires { IsBounded picture.now }
     ensures { result ≡ lane_bottom (drawn_of picture.now) i }
 {
@@ -85,7 +85,7 @@ pub fn lane_bottom(picture: &Picture<'_>, i: u32) -> u64
 }
 
 /// The line on which the words of a lane stand.
-pub fn lane_words(picture: &Picture<'_>, i: u32) -> u64
+pub fn lane_words(picture: &LanePicture<'_>, i: u32) -> u64
     requires { IsBounded picture.now }
     ensures { result ≡ lane_words (drawn_of picture.now) i }
 {
@@ -93,7 +93,7 @@ pub fn lane_words(picture: &Picture<'_>, i: u32) -> u64
     lane_top(picture, i) + down
 }
 
-pub fn lanes_end(picture: &Picture<'_>) -> u64
+pub fn lanes_end(picture: &LanePicture<'_>) -> u64
     requires { IsBounded picture.now }
     ensures is { result ≡ lanes_end (drawn_of picture.now) }
     ensures below { result < 2 ^ 40 }
@@ -102,7 +102,7 @@ pub fn lanes_end(picture: &Picture<'_>) -> u64
 }
 
 /// The line of a row below the lanes.
-pub fn row_line(picture: &Picture<'_>, j: u32) -> u64
+pub fn row_line(picture: &LanePicture<'_>, j: u32) -> u64
     requires { IsBounded picture.now }
     ensures { result ≡ row_line (drawn_of picture.now) j }
 {
@@ -116,7 +116,7 @@ const NO_CELL: Cell = Cell {
 };
 
 /// The cell of a column and a task.
-pub fn cell_at(picture: &Picture<'_>, k: u16, i: u32) -> Cell
+pub fn cell_at(picture: &LanePicture<'_>, k: u16, i: u32) -> Cell
     requires { IsBounded picture.now }
     ensures { result ≡ cell_at (drawn_of picture.now) k i }
 {
@@ -143,7 +143,7 @@ fn turns_before(cell: &Cell, word: usize) -> u64
 }
 
 /// From the bottom of a lane up to where a word begins.
-pub fn word_height(picture: &Picture<'_>, cell: &Cell, word: usize) -> u64
+pub fn word_height(picture: &LanePicture<'_>, cell: &Cell, word: usize) -> u64
     requires bounded { IsBounded picture.now }
     requires word { word ≤ 7 }
     ensures { result ≡ word_height (drawn_of picture.now) cell.now word }

@@ -3,24 +3,24 @@ use Rattle.std.proofs.Common.{◌≡◌, inl, inr, ◌<◌, ◌≤◌, ℕ, eqb,
 use Rattle.std.proofs.lemmas.List.{get_or-set_same, get_or-set_other, length-set, get_or-replicate, get_or_past, length-replicate}
 use Rattle.std.proofs.lemmas.Bool.{eq-eqb, ne_eqb, cond-true, cond-false, cases_eq, cases_lt}
 use Rattle.run_cover.specs.declared.counts.Count.{Count}
-use Rattle.run_cover.specs.declared.counts.Counts.{Counts}
+use Rattle.run_cover.specs.declared.counts.PlaceCounts.{PlaceCounts}
 use Rattle.run_cover.specs.declared.counts.What.{What}
 use Rattle.run_cover.specs.Counted.{no_count, item_at, count_at, count_of, raised_in, IsCounted, IsNewlyCounted}
 use Rattle.run_cover.specs.Places.{place_of, address_of}
 use Rattle.run_cover.proofs.Numbered.{numbered, placed}
 
-pub count_of_place : (t : Counts) (a k : ℕ) → place_of a ≡ Some k → count_of t a ≡ item_at t k
+pub count_of_place : (t : PlaceCounts) (a k : ℕ) → place_of a ≡ Some k → count_of t a ≡ item_at t k
 unfolding count_of
 count_of_place t a k e = ap (count_at t) e
 
-pub count_of_none : (t : Counts) (a : ℕ) → place_of a ≡ None → count_of t a ≡ no_count
+pub count_of_none : (t : PlaceCounts) (a : ℕ) → place_of a ≡ None → count_of t a ≡ no_count
 unfolding count_of
 count_of_none t a e = ap (count_at t) e
 
-pub count_of_past : (t : Counts) (a k : ℕ) → place_of a ≡ Some k → length t.counts.items ≤ k → count_of t a ≡ no_count
+pub count_of_past : (t : PlaceCounts) (a k : ℕ) → place_of a ≡ Some k → length t.counts.items ≤ k → count_of t a ≡ no_count
 count_of_past t a k e past = count_of_place t a k e ∙ get_or_past t.counts.items k no_count past
 
-pub no_counts : (t : Counts) (n : ℕ) → t.counts.items ≡ replicate n no_count → (k : ℕ) → item_at t k ≡ no_count
+pub no_counts : (t : PlaceCounts) (n : ℕ) → t.counts.items ≡ replicate n no_count → (k : ℕ) → item_at t k ≡ no_count
 no_counts t n e k = elim (cases_lt k n) [
   | inl lt ↦ ap (λ (cs : List Count). get_or cs k no_count) e ∙ get_or-replicate n k no_count no_count lt
   | inr le ↦ ap (λ (cs : List Count). get_or cs k no_count) e ∙ get_or_past (replicate n no_count) k no_count (omega (arith, le, length-replicate n no_count))
@@ -36,7 +36,7 @@ no_number_here j e = cc
 only_there : (at k j : ℕ) → place_of at ≡ Some k → j < 655360 → at ≡ address_of j → j ≡ k
 only_there at k j e few is = some_number j k (sym (placed j few) ∙ ap place_of (sym is) ∙ e)
 
-pub counted_there : (t u : Counts) (at k : ℕ) (what : What) → place_of at ≡ Some k → k < length t.counts.items → u.begun ≡ t.begun → u.counts.items ≡ set t.counts.items k (raised_in what (item_at t k)) → IsCounted t at what u
+pub counted_there : (t u : PlaceCounts) (at k : ℕ) (what : What) → place_of at ≡ Some k → k < length t.counts.items → u.begun ≡ t.begun → u.counts.items ≡ set t.counts.items k (raised_in what (item_at t k)) → IsCounted t at what u
 counted_there t u at k what e inside begun items = record {
   begun = begun;
   as_many = ap length items ∙ length-set t.counts.items k (raised_in what (item_at t k));
@@ -55,7 +55,7 @@ counted_there t u at k what e inside begun items = record {
       ];
 }
 
-pub counted_nowhere : (t : Counts) (at : ℕ) (what : What) → ((j : ℕ) → j < length t.counts.items → j < 655360 → place_of at ≡ Some j → ⊥) → IsCounted t at what t
+pub counted_nowhere : (t : PlaceCounts) (at : ℕ) (what : What) → ((j : ℕ) → j < length t.counts.items → j < 655360 → place_of at ≡ Some j → ⊥) → IsCounted t at what t
 counted_nowhere t at what none = record {
   begun = refl;
   as_many = refl;

@@ -13,12 +13,12 @@ use Rattle.run_script.specs.declared.events.Event.TheVariants.{Tick, Irq, Feed}
 use Rattle.run_script.specs.Scripts.{events_of}
 use Rattle.thumb_exec.specs.Effect.{Effect, Next, Syscall, Trap, Move, Puts, Takes}
 use Rattle.thumb_exec.specs.declared.fetch.Fetched.{Fetched}
-use Rattle.task_table.specs.State.{Setup, LineSetup, State, Turn}
-use Rattle.task_table.specs.Reading.{task_at, register, chosen}
-use Rattle.task_table.specs.Effects.{noted, clocked}
-use Rattle.task_table.specs.Events.{expired_by, expired, ticked, fed, owner_of, interrupted_by, interrupted}
-use Rattle.task_table.specs.Sane.{Sane}
-use Rattle.task_table.specs.Start.{begun}
+use Rattle.task_table.specs.model.State.{Setup, LineSetup, State, Turn}
+use Rattle.task_table.specs.model.Reading.{task_at, register, chosen}
+use Rattle.task_table.specs.model.Effects.{noted, clocked}
+use Rattle.task_table.specs.model.Events.{expired_by, expired, ticked, fed, owner_of, interrupted_by, interrupted}
+use Rattle.task_table.specs.model.Sane.{Sane}
+use Rattle.task_table.specs.model.Start.{begun}
 use Rattle.board_model.specs.declared.outcomes.Level.TheVariants.{All}
 use Rattle.board_model.specs.Lifetimes.{notes_in}
 use Rattle.board_model.specs.Script.{Scenario}
@@ -28,7 +28,7 @@ use Rattle.board_model.proofs.Counts.{turn_more}
 use Rattle.board_model.proofs.Further.{last_turn}
 use Rattle.board_model.proofs.OfTurns.{run_of_turns}
 use Rattle.board_model.proofs.RunKeeps.{sane_turns}
-use Rattle.run_cover.specs.declared.counts.Counts.{Counts}
+use Rattle.run_cover.specs.declared.counts.PlaceCounts.{PlaceCounts}
 use Rattle.run_cover.specs.Counted.{is_at, executed, count_of, counts, Heard, IsNewlyCounted}
 use Rattle.run_cover.specs.Executing.{is_executed_by, is_executed, turns_executing}
 use Rattle.run_cover.proofs.Growing.{told}
@@ -181,6 +181,6 @@ few_in_run x n s a h =
     omega (arith, few, most, m.is, length-range_with_len 0 m.turns)
 
 -- and a table that was told the notes of a run has the counts of the run
-pub run_counted : (x : Scenario) (limit : ℕ) (s : State) (t u : Counts) → Sane x.setup s → limit ≤ 1000000000 → IsNewlyCounted t → Heard t (run All x (limit - s.turn) s).notes u → count_of u ≡ counts (run All x (limit - s.turn) s).notes
+pub run_counted : (x : Scenario) (limit : ℕ) (s : State) (t u : PlaceCounts) → Sane x.setup s → limit ≤ 1000000000 → IsNewlyCounted t → Heard t (run All x (limit - s.turn) s).notes u → count_of u ≡ counts (run All x (limit - s.turn) s).notes
 run_counted x limit s t u sane few new heard =
     told t u (run All x (limit - s.turn) s).notes new heard (λ a. let le = few_in_run x (limit - s.turn) s a sane in omega (arith, le, few))

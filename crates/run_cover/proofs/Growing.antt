@@ -8,7 +8,7 @@ use Rattle.kernel_abi.specs.declared.Note.TheVariants as note
 use Rattle.board_model.specs.Run.{at_turn}
 use Rattle.run_cover.specs.declared.counts.Begun.{Begun}
 use Rattle.run_cover.specs.declared.counts.Count.{Count}
-use Rattle.run_cover.specs.declared.counts.Counts.{Counts}
+use Rattle.run_cover.specs.declared.counts.PlaceCounts.{PlaceCounts}
 use Rattle.run_cover.specs.Counted.{is_at, executed, begun_after, is_taken, faults_at, takes_at, times, faulted, taken, no_count, counts, item_at, count_at, count_of, IsNewlyCounted, raised_if, counted_in, HeardNote, Grew, HasGrown, begun_at_end, Heard}
 use Rattle.run_cover.specs.Places.{place_of, address_of}
 use Rattle.run_cover.proofs.Numbered.{numbered}
@@ -54,7 +54,7 @@ grown_by_note o turn n a c d e =
       faulted = grew_as _ _ _ _ (one_time (faults_at a) o turn n) (grew_if (faults_at a n o) c.faulted);
     }
 
-pub heard_note : (t u : Counts) (turn : ℕ) (n : Note) → HeardNote t n u → Heard t ((turn, n) ∷ []) u
+pub heard_note : (t u : PlaceCounts) (turn : ℕ) (n : Note) → HeardNote t n u → Heard t ((turn, n) ∷ []) u
 unfolding begun_at_end
 heard_note t u turn n h = record {
   begun = h.begun;
@@ -71,7 +71,7 @@ no_times : (p : Note → Option Begun → Bool) (o : Option Begun) → times p o
 unfolding times
 no_times p o = refl
 
-pub heard_none : (t : Counts) → Heard t [] t
+pub heard_none : (t : PlaceCounts) → Heard t [] t
 unfolding begun_at_end
 heard_none t = record {
   begun = refl;
@@ -85,7 +85,7 @@ grew_more n m k x y both e g h fits =
     let two : k ≡ m + y = h (omega arith) in
     omega arith
 
-pub heard_more : (t u v : Counts) (a b : List (ℕ × Note)) → Heard t a u → Heard u b v → Heard t (a ++ b) v
+pub heard_more : (t u v : PlaceCounts) (a b : List (ℕ × Note)) → Heard t a u → Heard u b v → Heard t (a ++ b) v
 heard_more t u v a b g h = record {
   begun = h.begun ∙ ap (λ (o : Option Begun). begun_at_end o b) g.begun ∙ sym (begun_append t.begun a b);
   as_many = h.as_many ∙ g.as_many;
@@ -160,7 +160,7 @@ grew_from_none : (n by now : ℕ) → n ≡ 0 → by < 2 ^ 32 → Grew n by now 
 grew_from_none n by now e fits g = let is = g (omega (arith, e, fits)) in omega (arith, e, is)
 
 -- where nothing was counted before, and 32 bits hold how often each was executed
-module _ (t u : Counts) (notes : List (ℕ × Note)) (new : IsNewlyCounted t) (heard : Heard t notes u) (few : (a : ℕ) → executed notes a < 2 ^ 32) where
+module _ (t u : PlaceCounts) (notes : List (ℕ × Note)) (new : IsNewlyCounted t) (heard : Heard t notes u) (few : (a : ℕ) → executed notes a < 2 ^ 32) where
   told_at : (a k : ℕ) → place_of a ≡ Some k → item_at u k ≡ record { executed = executed notes a; taken = taken notes a; faulted = faulted notes a }
   told_at a k e =
       let n = numbered a k e in

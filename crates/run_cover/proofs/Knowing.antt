@@ -3,7 +3,7 @@ use Rattle.std.proofs.Common.{◌≡◌, ◌⊎◌, inl, inr, ◌<◌, ◌+◌, 
 use Rattle.std.specs.Prelude.{Contains}
 use Rattle.std.proofs.lemmas.Bool.{false≢true, cases_eq}
 use Rattle.mem_banks.specs.Memory.{Memory}
-use Rattle.task_table.specs.State.{Setup}
+use Rattle.task_table.specs.model.State.{Setup}
 use Rattle.run_cover.specs.declared.counts.Count.{Count}
 use Rattle.run_cover.specs.declared.known.Marks.{Marks}
 use Rattle.run_cover.specs.Known.{is_code, Leads, Known, Executed, Led, IsKnown, HasBegun, HaveBegun, HasLed, HasFollowed}

@@ -17,10 +17,10 @@ use Rattle.kernel_abi.specs.Devices.{DeviceData}
 use Rattle.words_core.specs.declared.Flags.{Flags}
 use Rattle.task_table.specs.declared.Line.{Line}
 use Rattle.task_table.specs.declared.slot.Slice.{Slice}
-use Rattle.task_table.specs.State.{Setup, Call, Listen, Ground, Message, Read, Turn}
-use Rattle.task_table.specs.Reading.{listen_of, call_of}
-use Rattle.task_table.specs.Effects.{without_listen, changed, noted, with_processor, with_health, stored, copied, looked, given, returned, past_syscall, bits_added, bits_cleared, woken_by, posted, woken, with_timer, clocked, with_line, with_devices, given_out, device_stored, device_taken, close_notes, closed, faulted_as, faulted, offered, handed, dead_answered, restarted}
-use Rattle.task_table.specs.Sends.{taken_at_once, offers_call}
+use Rattle.task_table.specs.model.State.{Setup, Call, Listen, Ground, Message, Read, Turn}
+use Rattle.task_table.specs.model.Reading.{listen_of, call_of}
+use Rattle.task_table.specs.model.Effects.{without_listen, changed, noted, with_processor, with_health, stored, copied, looked, given, returned, past_syscall, bits_added, bits_cleared, woken_by, posted, woken, with_timer, clocked, with_line, with_devices, given_out, device_stored, device_taken, close_notes, closed, faulted_as, faulted, offered, handed, dead_answered, restarted}
+use Rattle.task_table.specs.model.Sends.{taken_at_once, offers_call}
 use Rattle.run_cover.specs.Counted.{is_at}
 
 -- as many notes of the instruction at an address

@@ -14,15 +14,15 @@ use Rattle.kernel_abi.specs.declared.arguments.RecvArgs.{RecvArgs}
 use Rattle.kernel_abi.specs.declared.arguments.ReplyArgs.{ReplyArgs}
 use Rattle.kernel_abi.specs.declared.arguments.SendArgs.{SendArgs}
 use Rattle.task_table.specs.declared.slot.Slice.{Slice}
-use Rattle.task_table.specs.State.{Setup, LineSetup, Call, From, Turn}
-use Rattle.task_table.specs.Reading.{task_at, arguments}
-use Rattle.task_table.specs.Effects.{past_syscall, faulted}
-use Rattle.task_table.specs.Rows.{goes_on, goes_on_with, panicked, timer_set, timer_answered, owns_with, line_controlled, irq_controlled, irq_answered, listens, receives_or_listens, takes_bits, message_received, received, syscall_noted}
-use Rattle.task_table.specs.Sends.{sends, sent, replied_to, replied, reply_faulted_to, reply_faulted, post_made, refreshed}
-use Rattle.task_table.specs.Borrows.{Way, moved, lent, granted, borrowed_by, borrowed, informed_by, informed}
-use Rattle.task_table.specs.Orders.{Order, injected_by, injected, orders, obeyed, order_of, ordered}
-use Rattle.task_table.specs.Syscalls.{syscall_made}
-use Rattle.task_table.proofs.OrderChains.{each_found}
+use Rattle.task_table.specs.model.State.{Setup, LineSetup, Call, From, Turn}
+use Rattle.task_table.specs.model.Reading.{task_at, arguments}
+use Rattle.task_table.specs.model.Effects.{past_syscall, faulted}
+use Rattle.task_table.specs.model.Rows.{goes_on, goes_on_with, panicked, timer_set, timer_answered, owns_with, line_controlled, irq_controlled, irq_answered, listens, receives_or_listens, takes_bits, message_received, received, syscall_noted}
+use Rattle.task_table.specs.model.Sends.{sends, sent, replied_to, replied, reply_faulted_to, reply_faulted, post_made, refreshed}
+use Rattle.task_table.specs.model.Borrows.{Way, moved, lent, granted, borrowed_by, borrowed, informed_by, informed}
+use Rattle.task_table.specs.model.Requests.{Request, injected_by, injected, requests, served, request_of, requested}
+use Rattle.task_table.specs.model.Syscalls.{syscall_made}
+use Rattle.task_table.proofs.model.RequestChains.{each_found}
 use Rattle.run_cover.proofs.Quiet.{IsQuiet, quiet_if, quiet_fold, quiet_noted, quiet_same, quiet_stored, quiet_copied, quiet_looked, quiet_given, quiet_past_syscall, quiet_cleared, quiet_timer, quiet_line, quiet_returned, quiet_posted, quiet_closed, quiet_faulted_as, quiet_faulted, quiet_handed, quiet_offers, quiet_restarted}
 
 module _ (a : ℕ) (t : Turn) (g : Setup) (c : ℕ) where
@@ -156,19 +156,19 @@ module _ (a : ℕ) (t : Turn) (g : Setup) (c : ℕ) where
   quiet_injected i u h = injects i (task_at u.state i).health u h
 
   -- what it does to a task leaves it quiet
-  IsQuietOrder : Order → Type 0
-  IsQuietOrder o = (x : SendArgs) (i : ℕ) (u : Turn) → IsQuiet a t u → IsQuiet a t (o.does g x i u)
+  IsQuietRequest : Request → Type 0
+  IsQuietRequest o = (x : SendArgs) (i : ℕ) (u : Turn) → IsQuiet a t u → IsQuiet a t (o.does g x i u)
 
-  obeys : (x : SendArgs) (o : Option Order) → IfSome o IsQuietOrder → (u : Turn) → IsQuiet a t u → IsQuiet a t (obeyed g c x o u)
-  unfolding IsQuietOrder
-  obeys x None each u h = fails _ u h
-  obeys x (Some o) each u h = search (quiet_if, fails, goes_with, each) depth 12
+  serves : (x : SendArgs) (o : Option Request) → IfSome o IsQuietRequest → (u : Turn) → IsQuiet a t u → IsQuiet a t (served g c x o u)
+  unfolding IsQuietRequest
+  serves x None each u h = fails _ u h
+  serves x (Some o) each u h = search (quiet_if, fails, goes_with, each) depth 12
 
-  obeys_each : (x : SendArgs) (number : ℕ) (u : Turn) → IsQuiet a t u → IsQuiet a t (obeyed g c x (order_of number) u)
-  unfolding IsQuietOrder
-  obeys_each x number u h =
-      obeys x (order_of number)
-      (each_found IsQuietOrder orders number (
+  serves_each : (x : SendArgs) (number : ℕ) (u : Turn) → IsQuiet a t u → IsQuiet a t (served g c x (request_of number) u)
+  unfolding IsQuietRequest
+  serves_each x number u h =
+      serves x (request_of number)
+      (each_found IsQuietRequest requests number (
         λ y i v k. quiet_stored a t _ _ _ v k,
         (
           λ y i v k. quiet_restarted a t g i _ v k,
@@ -176,9 +176,9 @@ module _ (a : ℕ) (t : Turn) (g : Setup) (c : ℕ) where
         ),
       )) u h
 
-  quiet_ordered : (u : Turn) → IsQuiet a t u → IsQuiet a t (ordered g c u)
-  unfolding ordered
-  quiet_ordered u h = search (quiet_if, fails, obeys_each) depth 12
+  quiet_requested : (u : Turn) → IsQuiet a t u → IsQuiet a t (requested g c u)
+  unfolding requested
+  quiet_requested u h = search (quiet_if, fails, serves_each) depth 12
 
   -- ## every system call
 
@@ -188,4 +188,4 @@ module _ (a : ℕ) (t : Turn) (g : Setup) (c : ℕ) where
 
   pub quiet_syscall_made : (u : Turn) → IsQuiet a t u → IsQuiet a t (syscall_made g c u)
   unfolding syscall_made
-  quiet_syscall_made u h = search (quiet_if, fails, quiet_ordered, quiet_sent, quiet_received, quiet_replied, quiet_timer_set, quiet_borrowed, quiet_informed, quiet_irq_controlled, quiet_panicked, quiet_timer_answered, quiet_refreshed, quiet_post_made, quiet_reply_faulted, quiet_irq_answered) depth 40
+  quiet_syscall_made u h = search (quiet_if, fails, quiet_requested, quiet_sent, quiet_received, quiet_replied, quiet_timer_set, quiet_borrowed, quiet_informed, quiet_irq_controlled, quiet_panicked, quiet_timer_answered, quiet_refreshed, quiet_post_made, quiet_reply_faulted, quiet_irq_answered) depth 40

@@ -4,7 +4,7 @@ use Rattle.kernel_abi.specs.declared.Note.{Note}
 use Rattle.kernel_abi.specs.declared.Note.TheVariants as note
 use Rattle.run_cover.specs.declared.counts.Begun.{Begun}
 use Rattle.run_cover.specs.declared.counts.Count.{Count}
-use Rattle.run_cover.specs.declared.counts.Counts.{Counts}
+use Rattle.run_cover.specs.declared.counts.PlaceCounts.{PlaceCounts}
 use Rattle.run_cover.specs.declared.counts.What.{What}
 use Rattle.run_cover.specs.declared.counts.What.TheVariants.{Executed, Taken, Faulted}
 use Rattle.run_cover.specs.declared.covering.Cover.{Cover}
@@ -72,19 +72,19 @@ leads_on c = c.executed == 0 || nat_lt c.faulted c.executed
 
 -- ## a table of counts, by the numbers of places
 
-abbrev pub item_at : Counts → ℕ → Count
+abbrev pub item_at : PlaceCounts → ℕ → Count
 item_at t k = slice_index_or t.counts.items k no_count
 
-abbrev pub count_at : Counts → Option ℕ → Count
+abbrev pub count_at : PlaceCounts → Option ℕ → Count
 count_at t None = no_count
 count_at t (Some k) = item_at t k
 
 -- what it tells of an address
-unfoldable pub count_of : Counts → ℕ → Count
+unfoldable pub count_of : PlaceCounts → ℕ → Count
 count_of t a = count_at t (place_of a)
 
 -- nothing was counted
-pub record IsNewlyCounted (t : Counts) : Type 0 where
+pub record IsNewlyCounted (t : PlaceCounts) : Type 0 where
   pub as_many : length t.counts.items ≡ 655360
   pub none : (k : ℕ) → item_at t k ≡ no_count
   pub begun : t.begun ≡ None
@@ -99,7 +99,7 @@ raised_in Taken c = record c { taken = raised c.taken }
 raised_in Faulted c = record c { faulted = raised c.faulted }
 
 -- one more at an address
-pub record IsCounted (before : Counts) (at : ℕ) (what : What) (now : Counts) : Type 0 where
+pub record IsCounted (before : PlaceCounts) (at : ℕ) (what : What) (now : PlaceCounts) : Type 0 where
   pub begun : now.begun ≡ before.begun
   pub as_many : length now.counts.items ≡ length before.counts.items
   pub counts : (k : ℕ) → k < length before.counts.items → k < 655360 → item_at now k ≡ (if at == address_of k then raised_in what (item_at before k) else item_at before k)
@@ -113,7 +113,7 @@ abbrev pub counted_in : Option Begun → Note → ℕ → Count → Count
 counted_in o n a c = record { executed = raised_if (is_at a n) c.executed; taken = raised_if (takes_at a n o) c.taken; faulted = raised_if (faults_at a n o) c.faulted }
 
 -- a note was told
-pub record HeardNote (before : Counts) (n : Note) (now : Counts) : Type 0 where
+pub record HeardNote (before : PlaceCounts) (n : Note) (now : PlaceCounts) : Type 0 where
   pub begun : now.begun ≡ begun_after before.begun n
   pub as_many : length now.counts.items ≡ length before.counts.items
   pub counts : (k : ℕ) → k < length before.counts.items → k < 655360 → item_at now k ≡ counted_in before.begun n (address_of k) (item_at before k)
@@ -134,7 +134,7 @@ begun_at_end o [] = o
 begun_at_end o (n ∷ notes) = begun_at_end (begun_after o n.1) notes
 
 -- these notes were told
-pub record Heard (before : Counts) (notes : List (ℕ × Note)) (now : Counts) : Type 0 where
+pub record Heard (before : PlaceCounts) (notes : List (ℕ × Note)) (now : PlaceCounts) : Type 0 where
   pub begun : now.begun ≡ begun_at_end before.begun notes
   pub as_many : length now.counts.items ≡ length before.counts.items
   pub counts : (k : ℕ) → k < length before.counts.items → k < 655360 → HasGrown before.begun notes (address_of k) (item_at before k) (item_at now k)

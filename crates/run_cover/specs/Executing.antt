@@ -2,7 +2,7 @@
 use Rattle.std.specs.Prelude.{ℕ, Bool, false, ◌&&◌, ◌==◌, is_ok, count_by}
 use Rattle.std.specs.List.{range_with_len}
 use Rattle.thumb_exec.specs.Fetch.{fetched}
-use Rattle.task_table.specs.State.{Setup, State}
+use Rattle.task_table.specs.model.State.{Setup, State}
 use Rattle.board_model.specs.declared.outcomes.Level.TheVariants.{All}
 use Rattle.board_model.specs.declared.outcomes.Turned.{Turned}
 use Rattle.board_model.specs.declared.outcomes.Turned.TheVariants.{Idle, Ran}

@@ -4,7 +4,7 @@ use Rattle.region_check.specs.declared.Right.TheVariants.{Execute}
 use Rattle.region_check.specs.Rights.{gives}
 use Rattle.mem_banks.specs.Memory.{Memory}
 use Rattle.thumb_insn.specs.Table.{is_wide}
-use Rattle.task_table.specs.State.{Setup}
+use Rattle.task_table.specs.model.State.{Setup}
 use Rattle.board_model.specs.Run.{Run}
 use Rattle.board_run.specs.MemoryText.{regions_of}
 use Rattle.run_cover.specs.declared.counts.Count.{Count}

@@ -8,3 +8,4 @@ pub mod Text
 pub mod Totals
 pub mod Tracefile
 pub mod Ways
+pub mod Pushed

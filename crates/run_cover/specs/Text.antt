@@ -8,7 +8,7 @@ use Rattle.mem_banks.specs.Memory.{Memory}
 use Rattle.thumb_insn.specs.Table.{is_wide}
 use Rattle.thumb_asm.specs.Meaning.{Names}
 use Rattle.trace_text.specs.Text.{hex, code_decoded, decoded_text}
-use Rattle.task_table.specs.State.{Setup}
+use Rattle.task_table.specs.model.State.{Setup}
 use Rattle.board_model.specs.Run.{Run}
 use Rattle.board_run.specs.MemoryText.{regions_of}
 use Rattle.run_cover.specs.declared.counts.Count.{Count}

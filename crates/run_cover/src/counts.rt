@@ -39,7 +39,7 @@ pub struct Begun {
 
 /// A count for each place.
 #[derive(Drop)]
-pub struct Counts {
+pub struct PlaceCounts {
     pub counts: Vec<Count>,
     pub begun: Option<Begun>,
 }
@@ -86,17 +86,17 @@ impl Begun {
     }
 }
 
-impl Counts {
+impl PlaceCounts {
     /// Nothing was executed yet.
     ///
     /// # Errors
     ///
     /// Only want of memory.
-    pub fn open(alloc: Global) -> Result<Counts, AllocError>
+    pub fn open(alloc: Global) -> Result<PlaceCounts, AllocError>
         ensures { IfOk result IsNewlyCounted }
     {
         let counts = Vec::from_elem(alloc, Count::none(), PLACES)?;
-        Ok(Counts {
+        Ok(PlaceCounts {
             counts,
             begun: None,
         })
@@ -191,7 +191,7 @@ impl Counts {
 }
 
 /// Counting never fails.
-impl Teller for Counts {
+impl Teller for PlaceCounts {
     ghost heard = { Heard };
 
     ghost broke = { λ _ _ _. ⊥ };

@@ -2,7 +2,7 @@
 ghost use Rattle.std.specs.Prelude.{◌≡◌, ◌≤◌, ◌-◌, ℕ, Bool, IfOk};
 ghost use Rattle.outside_io.specs.Outside.{Pushes, HasCause};
 ghost use Rattle.thumb_asm.specs.Listed.{labels_in};
-ghost use Rattle.task_table.specs.State.{State};
+ghost use Rattle.task_table.specs.model.State.{State};
 ghost use Rattle.board_model.specs.declared.outcomes.Level.TheVariants.{All};
 ghost use Rattle.board_model.specs.Script.{Scenario};
 ghost use Rattle.board_model.specs.Run.{run};
@@ -12,7 +12,7 @@ ghost use Rattle.run_cover.specs.Counted.{IsNew, IsNewlyCounted, count_of, count
 ghost use Rattle.run_cover.specs.Known.{IsKnownOf};
 ghost use Rattle.run_cover.specs.Text.{cover_text};
 
-use crate::counts::Counts;
+use crate::counts::PlaceCounts;
 use crate::known::Marks;
 use crate::listing::push_listing;
 use board_core::{Board, End, Level};
@@ -25,7 +25,7 @@ use thumb_asm::Label;
 /// known to be code. All of it is made once.
 #[derive(Drop)]
 pub struct Cover {
-    pub counts: Counts,
+    pub counts: PlaceCounts,
     pub marks: Marks,
 }
 
@@ -38,14 +38,14 @@ impl Cover {
     pub fn open(alloc: Global) -> Result<Cover, AllocError>
         ensures { IfOk result IsNew }
     {
-        let counts = Counts::open(alloc)?;
+        let counts = PlaceCounts::open(alloc)?;
         let marks = Marks::open(alloc)?;
         Ok(Cover { counts, marks })
     }
 }
 
 /// Turns up to the end of the run, each of which is counted. No memory is taken in them, and counting never fails.
-pub fn count_run(board: &mut Board, limit: u32, counts: &mut Counts) -> End
+pub fn count_run(board: &mut Board, limit: u32, counts: &mut PlaceCounts) -> End
     requires stood { Stood (boxed shown) board.old }
     requires from { turns_of board.old ≤ limit }
     requires few { limit ≤ 1000000000 }

@@ -1,6 +1,6 @@
 //! What is known to be code: what was executed, and what the direct ways of known instructions lead to.
 ghost use Rattle.std.specs.Prelude.{◌≡◌, ◌≤◌, ◌<◌, ◌+◌, ◌^◌, ◌&&◌, true, false, IfOk};
-ghost use Rattle.task_table.specs.State.{State};
+ghost use Rattle.task_table.specs.model.State.{State};
 ghost use Rattle.board_model.specs.Script.{Scenario};
 ghost use Rattle.board_core.specs.Stands.{Stands};
 ghost use Rattle.board_core.specs.Data.{boxed};
@@ -11,7 +11,7 @@ ghost use Rattle.run_cover.specs.Known.{HasBegun, HasFollowed, HasLed, HaveBegun
 ghost use Rattle.run_cover.specs.Marked.{AreMarks, IsMarked, IsNext, IsUnmarked, known_of, work};
 ghost use Rattle.run_cover.specs.Places.{is_place};
 
-use crate::counts::Counts;
+use crate::counts::PlaceCounts;
 use crate::places::{PLACES, address_of, place_of};
 use crate::ways::{half_at, is_wide, stands_at, ways_at};
 use board_core::Board;
@@ -129,7 +129,7 @@ impl Marks {
     }
 
     // A place where an instruction was executed is known.
-    fn begin(&mut self, counts: &Counts, addr: u32)
+    fn begin(&mut self, counts: &PlaceCounts, addr: u32)
         requires marks { AreMarks self.old }
         requires place { is_place addr ≡ true }
         ensures { HasBegun (count_of counts.now) self.old addr self.new }
@@ -140,7 +140,7 @@ impl Marks {
     }
 
     // All such places are.
-    fn begin_all(&mut self, counts: &Counts)
+    fn begin_all(&mut self, counts: &PlaceCounts)
         requires { IsUnmarked self.old }
         ensures { HaveBegun (count_of counts.now) self.new }
     {
@@ -165,7 +165,7 @@ impl Marks {
     }
 
     // The ways of a known instruction are followed.
-    fn follow(&mut self, board: &Board, counts: &Counts, addr: u32)
+    fn follow(&mut self, board: &Board, counts: &PlaceCounts, addr: u32)
         requires marks { AreMarks self.old }
         requires known { known_of self.old addr ≡ true }
         ensures marks { AreMarks self.new }
@@ -189,7 +189,7 @@ impl Marks {
     }
 
     /// What is known, once a run was counted.
-    pub fn find(&mut self, board: &Board, counts: &Counts)
+    pub fn find(&mut self, board: &Board, counts: &PlaceCounts)
         requires { IsUnmarked self.old }
         ensures { (x : Scenario) (s : State) → Stands (boxed shown) x board.now s → IsKnown x.setup s.memory (count_of counts.now) (known_of self.new) }
     {

@@ -12,7 +12,7 @@ mod totals;
 mod tracefile;
 mod ways;
 
-pub use counts::Counts;
+pub use counts::PlaceCounts;
 pub use covering::{Cover, write_cover};
 pub use laws::{each_count_is_a_number_of_turns, taken_and_faulted_are_executed};
 pub use tracefile::{Source, write_tracefile};

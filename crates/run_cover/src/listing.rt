@@ -2,13 +2,14 @@
 ghost use Rattle.std.specs.Prelude.{◌≡◌, ◌≤◌, ◌<◌, ◌+◌, ◌*◌, ◌-◌, ◌^◌, ◌++◌, codes, IfSome};
 ghost use Rattle.outside_io.specs.Outside.{Pushes, HasCause};
 ghost use Rattle.thumb_asm.specs.Listed.{label_of, labels_in};
-ghost use Rattle.task_table.specs.State.{State};
+ghost use Rattle.task_table.specs.model.State.{State};
 ghost use Rattle.board_model.specs.Script.{Scenario};
 ghost use Rattle.board_core.specs.Stands.{Stands};
 ghost use Rattle.board_core.specs.Data.{boxed};
 ghost use Rattle.run_cover.specs.Counted.{count_of};
 ghost use Rattle.run_cover.specs.Covered.{covered};
 ghost use Rattle.run_cover.specs.Text.{all_totals, base_of, base_text, base_totals, bases_text, begins_rest, code_at, code_line, insn_line, is_code_at, is_taken_up, known_text, label_at, label_line, labels_text, listing_text, place_count, place_text, region_text, region_totals, rest_len, rest_line, rows_text, totals_text};
+ghost use Rattle.run_cover.specs.Pushed.{PushesFor};
 ghost use Rattle.run_cover.specs.Totals.{AreAtMost};
 
 use crate::covering::Cover;
@@ -80,7 +81,7 @@ fn begins_rest(board: &Board, cover: &Cover, addr: u32, j: u32) -> bool
 
 fn push_insn<S: Sink>(board: &Board, cover: &Cover, addr: u32, out: &mut S) -> Result<(), Failed>
     requires inside { addr + 3 < 2 ^ 32 }
-    ensures bytes { (x : Scenario) (s : State) → Stands (boxed shown) x board.now s → Pushes (S.seen out.old).written (S.seen out.new).written (insn_line s.memory (count_of cover.now.counts addr) addr) result }
+    ensures bytes { PushesFor (boxed shown) board.now (λ x s. insn_line s.memory (count_of cover.now.counts addr) addr) (S.seen out.old) (S.seen out.new) result }
     ensures cause { HasCause (S.seen out.old).faults (S.seen out.new).faults result }
 {
     let mut line = Line::new();
@@ -139,7 +140,7 @@ fn push_known<S: Sink>(
     out: &mut S,
 ) -> Result<(), Failed>
     requires inside { addr + 3 < 2 ^ 32 }
-    ensures bytes { (x : Scenario) (s : State) → Stands (boxed shown) x board.now s → Pushes (S.seen out.old).written (S.seen out.new).written (known_text (covered s.memory cover.now) (labels_in labels.now) addr) result }
+    ensures bytes { PushesFor (boxed shown) board.now (λ x s. known_text (covered s.memory cover.now) (labels_in labels.now) addr) (S.seen out.old) (S.seen out.new) result }
     ensures cause { HasCause (S.seen out.old).faults (S.seen out.new).faults result }
 {
     push_labels(labels, addr, out)?;
@@ -159,7 +160,7 @@ fn push_place<S: Sink>(
     requires one { j < count }
     requires above { 4 ≤ addr }
     requires inside { addr + 2 * (count - j) + 3 < 2 ^ 32 }
-    ensures bytes { (x : Scenario) (s : State) → Stands (boxed shown) x board.now s → Pushes (S.seen out.old).written (S.seen out.new).written (place_text (covered s.memory cover.now) (labels_in labels.now) count j addr) result }
+    ensures bytes { PushesFor (boxed shown) board.now (λ x s. place_text (covered s.memory cover.now) (labels_in labels.now) count j addr) (S.seen out.old) (S.seen out.new) result }
     ensures cause { HasCause (S.seen out.old).faults (S.seen out.new).faults result }
 {
     if cover.marks.has(addr) {
@@ -182,7 +183,7 @@ fn push_rows<S: Sink>(
 ) -> Result<(), Failed>
     requires above { 4 ≤ base }
     requires inside { base + 2 * count + 3 < 2 ^ 32 }
-    ensures bytes { (x : Scenario) (s : State) → Stands (boxed shown) x board.now s → Pushes (S.seen out.old).written (S.seen out.new).written (rows_text (covered s.memory cover.now) (labels_in labels.now) base count) result }
+    ensures bytes { PushesFor (boxed shown) board.now (λ x s. rows_text (covered s.memory cover.now) (labels_in labels.now) base count) (S.seen out.old) (S.seen out.new) result }
     ensures cause { HasCause (S.seen out.old).faults (S.seen out.new).faults result }
 {
     for j in 0..count {
@@ -246,7 +247,7 @@ fn push_region<S: Sink>(
 ) -> Result<(), Failed>
     requires above { 4 ≤ region.now.base }
     requires below { region.now.base < 2 ^ 31 }
-    ensures bytes { (x : Scenario) (s : State) → Stands (boxed shown) x board.now s → Pushes (S.seen out.old).written (S.seen out.new).written (region_text (covered s.memory cover.now) (labels_in labels.now) region.now) result }
+    ensures bytes { PushesFor (boxed shown) board.now (λ x s. region_text (covered s.memory cover.now) (labels_in labels.now) region.now) (S.seen out.old) (S.seen out.new) result }
     ensures cause { HasCause (S.seen out.old).faults (S.seen out.new).faults result }
 {
     push_code_line(region, out)?;
@@ -284,7 +285,7 @@ fn push_base<S: Sink>(
     out: &mut S,
 ) -> Result<(), Failed>
     requires inside { i < 5120 }
-    ensures bytes { (x : Scenario) (s : State) → Stands (boxed shown) x board.now s → Pushes (S.seen out.old).written (S.seen out.new).written (base_text x.setup (covered s.memory cover.now) (labels_in labels.now) i) result }
+    ensures bytes { PushesFor (boxed shown) board.now (λ x s. base_text x.setup (covered s.memory cover.now) (labels_in labels.now) i) (S.seen out.old) (S.seen out.new) result }
     ensures cause { HasCause (S.seen out.old).faults (S.seen out.new).faults result }
 {
     match code_at(board, base_of(i)) {
@@ -311,7 +312,7 @@ fn push_bases<S: Sink>(
     labels: &[Label],
     out: &mut S,
 ) -> Result<(), Failed>
-    ensures bytes { (x : Scenario) (s : State) → Stands (boxed shown) x board.now s → Pushes (S.seen out.old).written (S.seen out.new).written (bases_text x.setup (covered s.memory cover.now) (labels_in labels.now) 5120) result }
+    ensures bytes { PushesFor (boxed shown) board.now (λ x s. bases_text x.setup (covered s.memory cover.now) (labels_in labels.now) 5120) (S.seen out.old) (S.seen out.new) result }
     ensures cause { HasCause (S.seen out.old).faults (S.seen out.new).faults result }
 {
     for i in 0..BASES {
@@ -345,7 +346,7 @@ pub fn push_listing<S: Sink>(
     labels: &[Label],
     out: &mut S,
 ) -> Result<(), Failed>
-    ensures bytes { (x : Scenario) (s : State) → Stands (boxed shown) x board.now s → Pushes (S.seen out.old).written (S.seen out.new).written (listing_text x.setup (covered s.memory cover.now) (labels_in labels.now)) result }
+    ensures bytes { PushesFor (boxed shown) board.now (λ x s. listing_text x.setup (covered s.memory cover.now) (labels_in labels.now)) (S.seen out.old) (S.seen out.new) result }
     ensures cause { HasCause (S.seen out.old).faults (S.seen out.new).faults result }
 {
     push_bases(board, cover, labels, out)?;

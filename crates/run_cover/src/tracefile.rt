@@ -1,17 +1,16 @@
 //! lcov's tracefile of a run.
-ghost use Rattle.std.specs.Prelude.{◌≡◌, ◌≤◌, ◌<◌, ◌-◌, ◌*◌, ◌^◌, ◌++◌, ℕ, IfOk, OnOk, length, map, string_bytes};
+ghost use Rattle.std.specs.Prelude.{◌≡◌, ◌≤◌, ◌<◌, ◌-◌, ◌*◌, ◌++◌, IfOk, OnOk, map, string_bytes};
 ghost use Rattle.std.specs.List.{flat_map};
-ghost use Rattle.task_table.specs.State.{State};
+ghost use Rattle.task_table.specs.model.State.{State};
 ghost use Rattle.board_model.specs.declared.outcomes.Level.TheVariants.{All};
 ghost use Rattle.board_model.specs.Script.{Scenario};
 ghost use Rattle.board_model.specs.Run.{run};
 ghost use Rattle.board_core.specs.Stands.{Stands, Stood, turns_of};
 ghost use Rattle.board_core.specs.Data.{boxed};
 ghost use Rattle.run_cover.specs.Counted.{IsNewlyCounted, count_of};
-ghost use Rattle.run_cover.specs.Totals.{AreAtMost};
 ghost use Rattle.run_cover.specs.Tracefile.{branch_text, data_line, head_lines, is_branch, lines_found, run_tracefile, section_of, source_text, source_totals, times_text, tracefile_text, way_line, ways_found, ways_lines};
 
-use crate::counts::{Count, Counts};
+use crate::counts::{Count, PlaceCounts};
 use crate::covering::count_run;
 use crate::places::place_of;
 use crate::totals::{Totals, totals_of};
@@ -78,7 +77,7 @@ fn push_ways(alloc: Global, number: usize, count: Count, out: &mut String) -> Re
 fn push_branch(
     alloc: Global,
     board: &Board,
-    counts: &Counts,
+    counts: &PlaceCounts,
     line: &InsnLine,
     out: &mut String,
 ) -> Result<(), AllocError>
@@ -93,7 +92,7 @@ fn push_branch(
 fn push_branches(
     alloc: Global,
     board: &Board,
-    counts: &Counts,
+    counts: &PlaceCounts,
     lines: &[InsnLine],
     out: &mut String,
 ) -> Result<(), AllocError>
@@ -106,7 +105,7 @@ fn push_branches(
 }
 
 // How often a line was executed.
-fn data_line(alloc: Global, counts: &Counts, line: &InsnLine) -> Result<String, AllocError>
+fn data_line(alloc: Global, counts: &PlaceCounts, line: &InsnLine) -> Result<String, AllocError>
     ensures { IfOk result (λ text. string_bytes text ≡ data_line (count_of counts.now) line.now) }
 {
     let number = line.number;
@@ -117,7 +116,7 @@ fn data_line(alloc: Global, counts: &Counts, line: &InsnLine) -> Result<String, 
 
 fn push_data_lines(
     alloc: Global,
-    counts: &Counts,
+    counts: &PlaceCounts,
     lines: &[InsnLine],
     out: &mut String,
 ) -> Result<(), AllocError>
@@ -131,7 +130,7 @@ fn push_data_lines(
 
 // How many lines and ways there are, and how many of them were executed.
 #[tactic(auto, unfolding(crate::specs::Tracefile::source_totals))]
-fn source_totals(board: &Board, counts: &Counts, lines: &[InsnLine]) -> Totals
+fn source_totals(board: &Board, counts: &PlaceCounts, lines: &[InsnLine]) -> Totals
     ensures { (x : Scenario) (s : State) → Stands (boxed shown) x board.now s → result ≡ source_totals s.memory (count_of counts.now) lines.now }
 {
     let mut totals = Totals::none();
@@ -171,7 +170,7 @@ fn lines_found(alloc: Global, totals: Totals) -> Result<String, AllocError>
 fn push_source(
     alloc: Global,
     board: &Board,
-    counts: &Counts,
+    counts: &PlaceCounts,
     source: Source<'_>,
     out: &mut String,
 ) -> Result<(), AllocError>
@@ -189,7 +188,7 @@ fn push_source(
 fn tracefile_text(
     alloc: Global,
     board: &Board,
-    counts: &Counts,
+    counts: &PlaceCounts,
     sources: &[Source<'_>],
 ) -> Result<String, AllocError>
     ensures { (x : Scenario) (s : State) → Stands (boxed shown) x board.now s → IfOk result (λ text. string_bytes text ≡ tracefile_text s.memory (count_of counts.now) (map section_of sources.now)) }
@@ -212,7 +211,7 @@ pub fn write_tracefile(
     alloc: Global,
     board: &mut Board,
     limit: u32,
-    counts: &mut Counts,
+    counts: &mut PlaceCounts,
     sources: &[Source<'_>],
 ) -> Result<(String, End), AllocError>
     requires stood { Stood (boxed shown) board.old }

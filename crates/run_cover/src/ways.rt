@@ -2,7 +2,7 @@
 ghost use Rattle.std.specs.Prelude.{◌≡◌, ◌≤◌, ◌<◌, ◌+◌, ◌^◌};
 ghost use Rattle.thumb_insn.specs.Table.{is_wide};
 ghost use Rattle.thumb_insn.specs.Text.{branch_target};
-ghost use Rattle.task_table.specs.State.{State};
+ghost use Rattle.task_table.specs.model.State.{State};
 ghost use Rattle.board_model.specs.Script.{Scenario};
 ghost use Rattle.board_core.specs.Stands.{Stands};
 ghost use Rattle.board_core.specs.Data.{boxed};
@@ -10,8 +10,8 @@ ghost use Rattle.run_cover.specs.Ways.{decoded, goes_on, half_at, insn_code, ins
 
 use board_core::Board;
 use board_run::byte_at;
-use thumb_decode::decode;
 use thumb_insn::{Decoded, Insn};
+use trace_text::code_decoded;
 
 /// Where an instruction leads directly: to the place right behind it, and to the target of a branch.
 #[derive(Clone, Copy)]
@@ -65,11 +65,7 @@ fn insn_of(decoded: Decoded) -> Option<Insn>
 pub fn decoded(code: u32) -> Option<Insn>
     ensures { result ≡ decoded code }
 {
-    if code < 0x1_0000 {
-        insn_of(decode(code as u16, None))
-    } else {
-        insn_of(decode((code / 0x1_0000) as u16, Some((code % 0x1_0000) as u16)))
-    }
+    insn_of(code_decoded(code))
 }
 
 /// The instruction that stands at an address, if one does.

@@ -1,7 +1,7 @@
 -- What a task does in some turns, in turns of two columns and in a turn more.
-use Rattle.std.proofs.Common.{◌≡◌, ◌<◌, ◌≤◌, ℕ, suc, ◌+◌, ◌-◌, ◌^◌, ◌||◌, Bool, true, false, List, [], ◌∷◌, ◌++◌, length, map, get_or, set, refl, sym, ap, ◌∙◌, cond, if◌then◌else◌, arith}
+use Rattle.std.proofs.Common.{◌≡◌, ◌<◌, ℕ, suc, ◌+◌, ◌-◌, ◌^◌, ◌||◌, Bool, true, false, List, [], ◌∷◌, ◌++◌, length, map, get_or, set, refl, ap, ◌∙◌, cond, if◌then◌else◌, arith}
 use Rattle.std.specs.Prelude.{count_by, sum}
-use Rattle.std.specs.List.{list_any, range_with_len, sum_by}
+use Rattle.std.specs.List.{list_any}
 use Rattle.std.proofs.lemmas.List.Folds.{list_any-append}
 use Rattle.std.proofs.lemmas.List.Sums.{count_by-le-length, sum_by-append, sum_by-cons, sum_by_push}
 use Rattle.kernel_abi.specs.declared.Note.{Note}
@@ -9,9 +9,9 @@ use Rattle.lane_picture.specs.declared.parts.Cell.{Cell}
 use Rattle.run_lanes.specs.declared.word.Word.{Word}
 use Rattle.run_lanes.specs.declared.word.Word.TheVariants as word
 use Rattle.run_lanes.specs.Columns.{cell_of, is_birth_of, is_fault_of, is_noted, turns_with, words}
-use Rattle.run_lanes.specs.Counted.{both, counted, joined, marked, turned}
+use Rattle.run_lanes.specs.Counted.{both, counted, joined, turned}
 use Rattle.run_lanes.specs.Timeline.{word_at}
-use Rattle.run_lanes.specs.Words.{Sight, is_same, word_number}
+use Rattle.run_lanes.specs.Words.{TurnSight, is_same, word_number}
 use Rattle.run_lanes.proofs.Changes.{or_none}
 
 map_same : {A B : Type 0} (f g : A → B) → ((x : A) → f x ≡ g x) → (xs : List A) → map f xs ≡ map g xs
@@ -23,12 +23,12 @@ cell ws f b = record { words = ws; faulted = f; born = b }
 
 -- ## two columns
 
-pub count_both : (p : Sight → Bool) (xs ys : List Sight) → length xs + length ys < 2 ^ 32 → count_by p (xs ++ ys) ≡ both (count_by p xs) (count_by p ys)
+pub count_both : (p : TurnSight → Bool) (xs ys : List TurnSight) → length xs + length ys < 2 ^ 32 → count_by p (xs ++ ys) ≡ both (count_by p xs) (count_by p ys)
 count_both p xs ys few =
     let all : count_by p (xs ++ ys) ≡ count_by p xs + count_by p ys = sum_by-append (λ x. cond (p x) 1 0) xs ys in
     omega (arith, all, count_by-le-length p xs, count_by-le-length p ys)
 
-pub cell_joined : (xs ys : List Sight) (i : ℕ) → length xs + length ys < 2 ^ 32 → cell_of (xs ++ ys) i ≡ joined (cell_of xs i) (cell_of ys i)
+pub cell_joined : (xs ys : List TurnSight) (i : ℕ) → length xs + length ys < 2 ^ 32 → cell_of (xs ++ ys) i ≡ joined (cell_of xs i) (cell_of ys i)
 cell_joined xs ys i few =
     let counts : map (turns_with i (xs ++ ys)) words ≡ map (λ w. both (turns_with i xs w) (turns_with i ys w)) words =
     map_same (turns_with i (xs ++ ys)) (λ w. both (turns_with i xs w) (turns_with i ys w)) (λ w. count_both (λ t. is_same (word_at t.words i) w) xs ys few) words in
@@ -55,16 +55,16 @@ more_by : (n m : ℕ) (b : Bool) → n < 2 ^ 32 - 1 → m ≡ n + cond b 1 0 →
 more_by n m true few is = omega arith
 more_by n m false few is = omega arith
 
-pub count_push : (p : Sight → Bool) (xs : List Sight) (t : Sight) → length xs < 2 ^ 32 - 1 → count_by p (xs ++ (t ∷ [])) ≡ (if p t then both (count_by p xs) 1 else count_by p xs)
+pub count_push : (p : TurnSight → Bool) (xs : List TurnSight) (t : TurnSight) → length xs < 2 ^ 32 - 1 → count_by p (xs ++ (t ∷ [])) ≡ (if p t then both (count_by p xs) 1 else count_by p xs)
 count_push p xs t few =
     let all : count_by p (xs ++ (t ∷ [])) ≡ count_by p xs + cond (p t) 1 0 = sum_by_push (λ x. cond (p x) 1 0) xs t in
     let less : count_by p xs < 2 ^ 32 - 1 = omega (arith, count_by-le-length p xs) in
     more_by (count_by p xs) (count_by p (xs ++ (t ∷ []))) (p t) less all
 
-noted_push : (is : Note → Bool) (xs : List Sight) (t : Sight) → is_noted is (xs ++ (t ∷ [])) ≡ (is_noted is xs || list_any is t.notes)
+noted_push : (is : Note → Bool) (xs : List TurnSight) (t : TurnSight) → is_noted is (xs ++ (t ∷ [])) ≡ (is_noted is xs || list_any is t.notes)
 noted_push is xs t = list_any-append (λ u. list_any is u.notes) xs (t ∷ []) ∙ ap (λ (b : Bool). is_noted is xs || b) (or_none (list_any is t.notes))
 
-pub cell_turned : (xs : List Sight) (t : Sight) (i : ℕ) → length xs < 2 ^ 32 - 1 → cell_of (xs ++ (t ∷ [])) i ≡ turned t.words t.notes i (cell_of xs i)
+pub cell_turned : (xs : List TurnSight) (t : TurnSight) (i : ℕ) → length xs < 2 ^ 32 - 1 → cell_of (xs ++ (t ∷ [])) i ≡ turned t.words t.notes i (cell_of xs i)
 cell_turned xs t i few =
     let w = word_at t.words i in
     let counts : map (turns_with i (xs ++ (t ∷ []))) words ≡ map (one_more (turns_with i xs) w) words =
@@ -87,14 +87,14 @@ one_word word.Listens = refl
 one_word word.Faulted = refl
 one_word word.Stopped = refl
 
-with_cons : (i : ℕ) (t : Sight) (turns : List Sight) (v : Word) → turns_with i (t ∷ turns) v ≡ hit (word_at t.words i) v + turns_with i turns v
+with_cons : (i : ℕ) (t : TurnSight) (turns : List TurnSight) (v : Word) → turns_with i (t ∷ turns) v ≡ hit (word_at t.words i) v + turns_with i turns v
 with_cons i t turns v = sum_by-cons (λ u. cond (is_same (word_at u.words i) v) 1 0) t turns
 
 seven : (a b c d e f g a' b' c' d' e' f' g' a'' b'' c'' d'' e'' f'' g'' n : ℕ) → a'' ≡ a + a' → b'' ≡ b + b' → c'' ≡ c + c' → d'' ≡ d + d' → e'' ≡ e + e' → f'' ≡ f + f' → g'' ≡ g + g' →
     a + b + c + d + e + f + g ≡ 1 → 0 + a' + b' + c' + d' + e' + f' + g' ≡ n → 0 + a'' + b'' + c'' + d'' + e'' + f'' + g'' ≡ suc n
 seven a b c d e f g a' b' c' d' e' f' g' a'' b'' c'' d'' e'' f'' g'' n p q r s t u v one rest = omega arith
 
-pub words_sum : (i : ℕ) (turns : List Sight) → sum (cell_of turns i).words ≡ length turns
+pub words_sum : (i : ℕ) (turns : List TurnSight) → sum (cell_of turns i).words ≡ length turns
 words_sum i [] = refl
 words_sum i (t ∷ turns) =
     let w = word_at t.words i in

@@ -12,41 +12,41 @@ use Rattle.lane_picture.specs.Sizes.{no_cell}
 use Rattle.run_lanes.specs.declared.word.Word.{Word}
 use Rattle.run_lanes.specs.Columns.{cell_of, column_turns, is_outside}
 use Rattle.run_lanes.specs.Counted.{CellsOf, Changed, OutsideOf, both, column_by, comes_from_outside, joined, turned}
-use Rattle.run_lanes.specs.Words.{Sight}
+use Rattle.run_lanes.specs.Words.{TurnSight}
 use Rattle.run_lanes.proofs.Celled.{cell_joined, cell_turned, count_both, count_push}
 use Rattle.run_lanes.proofs.Tiled.{column_before, column_halves, column_here, column_none, flat_more, next_row, rows_below, take_plus}
 use Rattle.run_lanes.proofs.Widths.{width_doubles, width_stays}
 
-few_in_column : (w : ℕ) (turns : List Sight) (k : ℕ) → length (column_by w turns k) ≤ length turns
+few_in_column : (w : ℕ) (turns : List TurnSight) (k : ℕ) → length (column_by w turns k) ≤ length turns
 few_in_column w turns k = omega (arith, length-take w (drop (k * w) turns), length-drop (k * w) turns)
 
-abbrev sight_of : ℕ → List Word → List Note → Sight
+abbrev sight_of : ℕ → List Word → List Note → TurnSight
 sight_of turn words notes = record { turn = turn; words = words; notes = notes }
 
 -- ## a turn more
 
-one_longer : (turns : List Sight) (t : Sight) → length (turns ++ (t ∷ [])) ≡ length turns + 1
+one_longer : (turns : List TurnSight) (t : TurnSight) → length (turns ++ (t ∷ [])) ≡ length turns + 1
 one_longer turns t = length-append turns (t ∷ [])
 
-none_behind : (w : ℕ) (turns : List Sight) (t : Sight) (k c inside : ℕ) → length turns ≡ c * w + inside → inside < w → c < k → column_by w turns k ≡ column_by w (turns ++ (t ∷ [])) k
+none_behind : (w : ℕ) (turns : List TurnSight) (t : TurnSight) (k c inside : ℕ) → length turns ≡ c * w + inside → inside < w → c < k → column_by w turns k ≡ column_by w (turns ++ (t ∷ [])) k
 none_behind w turns t k c inside at less past =
     column_none w turns k c past (omega arith) ∙ sym (column_none w (turns ++ (t ∷ [])) k c past (omega (arith, one_longer turns t)))
 
-cell_by : (w c inside tasks : ℕ) (turns : List Sight) (t : Sight) (old new : List Cell) → length turns ≡ c * w + inside → inside < w → length turns < 1000000000 →
+cell_by : (w c inside tasks : ℕ) (turns : List TurnSight) (t : TurnSight) (old new : List Cell) → length turns ≡ c * w + inside → inside < w → length turns < 1000000000 →
     CellsOf w tasks turns old → Changed old new (c * tasks) tasks (turned t.words t.notes) → (k i : ℕ) (d : Cell) → k < 1200 → i < tasks → (k ≡ c) ⊎ ((k < c) ⊎ (c < k)) → get_or new (k * tasks + i) d ≡ cell_of (column_by w (turns ++ (t ∷ [])) k) i
 cell_by w c inside tasks turns t old new at less few was h k i d within lt (inl here) =
     let P : ℕ → Type 0 = λ j. get_or new (j * tasks + i) d ≡ cell_of (column_by w (turns ++ (t ∷ [])) j) i in
     let there : get_or old (c * tasks + i) d ≡ cell_of (column_by w turns c) i = was c i d (omega arith) lt in
     let is : P c = h.made i d lt ∙ ap (λ (x : Cell). turned t.words t.notes i x) there
-    ∙ sym (cell_turned (column_by w turns c) t i (omega (arith, few_in_column w turns c))) ∙ ap (λ (l : List Sight). cell_of l i) (sym (column_here w turns t c inside at less)) in
+    ∙ sym (cell_turned (column_by w turns c) t i (omega (arith, few_in_column w turns c))) ∙ ap (λ (l : List TurnSight). cell_of l i) (sym (column_here w turns t c inside at less)) in
     subst P (sym here) is
 cell_by w c inside tasks turns t old new at less few was h k i d within lt (inr (inl before)) =
     h.before (k * tasks + i) d (omega (arith, mul-add-lt k tasks i c before lt)) ∙ was k i d within lt
-    ∙ ap (λ (l : List Sight). cell_of l i) (sym (column_before w turns (t ∷ []) k c before (omega arith)))
+    ∙ ap (λ (l : List TurnSight). cell_of l i) (sym (column_before w turns (t ∷ []) k c before (omega arith)))
 cell_by w c inside tasks turns t old new at less few was h k i d within lt (inr (inr past)) =
-    h.behind (k * tasks + i) d (omega (arith, rows_below c k tasks past)) ∙ was k i d within lt ∙ ap (λ (l : List Sight). cell_of l i) (none_behind w turns t k c inside at less past)
+    h.behind (k * tasks + i) d (omega (arith, rows_below c k tasks past)) ∙ was k i d within lt ∙ ap (λ (l : List TurnSight). cell_of l i) (none_behind w turns t k c inside at less past)
 
-pub cells_more : (w c inside tasks : ℕ) (turns : List Sight) (t : Sight) (old new : List Cell) → length turns ≡ c * w + inside → inside < w → length turns < 1000000000 →
+pub cells_more : (w c inside tasks : ℕ) (turns : List TurnSight) (t : TurnSight) (old new : List Cell) → length turns ≡ c * w + inside → inside < w → length turns < 1000000000 →
     CellsOf w tasks turns old → Changed old new (c * tasks) tasks (turned t.words t.notes) → CellsOf w tasks (turns ++ (t ∷ [])) new
 cells_more w c inside tasks turns t old new at less few was h = λ k i d within lt. cell_by w c inside tasks turns t old new at less few was h k i d within lt (cases_order k c)
 
@@ -59,7 +59,7 @@ stays : (xs : List ℕ) (c k v : ℕ) (b : Bool) (d : ℕ) → (k ≡ c → ⊥)
 stays xs c k v true d ne = get_or-set_other xs c k v d ne
 stays xs c k v false d ne = refl
 
-outside_by : (w c inside : ℕ) (turns : List Sight) (t : Sight) (old new : List ℕ) → length turns ≡ c * w + inside → inside < w → length turns < 1000000000 → length old ≡ 1200 → OutsideOf w turns old →
+outside_by : (w c inside : ℕ) (turns : List TurnSight) (t : TurnSight) (old new : List ℕ) → length turns ≡ c * w + inside → inside < w → length turns < 1000000000 → length old ≡ 1200 → OutsideOf w turns old →
     new ≡ (if list_any is_outside t.notes then set old c (both (get_or old c 0) 1) else old) → (k d : ℕ) → k < 1200 → (k ≡ c) ⊎ ((k < c) ⊎ (c < k)) → get_or new k d ≡ count_by comes_from_outside (column_by w (turns ++ (t ∷ [])) k)
 outside_by w c inside turns t old new at less few all was is k d within (inl here) =
     let P : ℕ → Type 0 = λ j. get_or new j d ≡ count_by comes_from_outside (column_by w (turns ++ (t ∷ [])) j) in
@@ -68,25 +68,25 @@ outside_by w c inside turns t old new at less few all was is k d within (inl her
     let at_c : P c = ap (λ (l : List ℕ). get_or l c d) is ∙ rises old c (both (get_or old c 0) 1) b d (omega arith)
     ∙ ap (λ (n : ℕ). if b then both n 1 else get_or old c d) (was c 0 inside_c) ∙ ap (λ (n : ℕ). if b then both (count_by comes_from_outside (column_by w turns c)) 1 else n) (was c d inside_c)
     ∙ sym (count_push comes_from_outside (column_by w turns c) t (omega (arith, few_in_column w turns c)))
-    ∙ ap (λ (l : List Sight). count_by comes_from_outside l) (sym (column_here w turns t c inside at less)) in
+    ∙ ap (λ (l : List TurnSight). count_by comes_from_outside l) (sym (column_here w turns t c inside at less)) in
     subst P (sym here) at_c
 outside_by w c inside turns t old new at less few all was is k d within (inr (inl before)) =
     ap (λ (l : List ℕ). get_or l k d) is ∙ stays old c k (both (get_or old c 0) 1) (list_any is_outside t.notes) d (λ e. absurd (omega arith)) ∙ was k d within
-    ∙ ap (λ (l : List Sight). count_by comes_from_outside l) (sym (column_before w turns (t ∷ []) k c before (omega arith)))
+    ∙ ap (λ (l : List TurnSight). count_by comes_from_outside l) (sym (column_before w turns (t ∷ []) k c before (omega arith)))
 outside_by w c inside turns t old new at less few all was is k d within (inr (inr past)) =
     ap (λ (l : List ℕ). get_or l k d) is ∙ stays old c k (both (get_or old c 0) 1) (list_any is_outside t.notes) d (λ e. absurd (omega arith)) ∙ was k d within
-    ∙ ap (λ (l : List Sight). count_by comes_from_outside l) (none_behind w turns t k c inside at less past)
+    ∙ ap (λ (l : List TurnSight). count_by comes_from_outside l) (none_behind w turns t k c inside at less past)
 
-pub outside_more : (w c inside : ℕ) (turns : List Sight) (t : Sight) (old new : List ℕ) → length turns ≡ c * w + inside → inside < w → length turns < 1000000000 → length old ≡ 1200 → OutsideOf w turns old →
+pub outside_more : (w c inside : ℕ) (turns : List TurnSight) (t : TurnSight) (old new : List ℕ) → length turns ≡ c * w + inside → inside < w → length turns < 1000000000 → length old ≡ 1200 → OutsideOf w turns old →
     new ≡ (if list_any is_outside t.notes then set old c (both (get_or old c 0) 1) else old) → OutsideOf w (turns ++ (t ∷ [])) new
 outside_more w c inside turns t old new at less few all was is = λ k d within. outside_by w c inside turns t old new at less few all was is k d within (cases_order k c)
 
 -- ## neighbours become one
 
-halves_few : (w : ℕ) (turns : List Sight) (k : ℕ) → length turns < 1000000000 → length (column_by w turns (2 * k)) + length (column_by w turns (2 * k + 1)) < 2 ^ 32
+halves_few : (w : ℕ) (turns : List TurnSight) (k : ℕ) → length turns < 1000000000 → length (column_by w turns (2 * k)) + length (column_by w turns (2 * k + 1)) < 2 ^ 32
 halves_few w turns k few = omega (arith, few_in_column w turns (2 * k), few_in_column w turns (2 * k + 1))
 
-cell_halved : (w tasks : ℕ) (turns : List Sight) (old new : List Cell) → length turns ≤ 1200 * w → length turns < 1000000000 → length old ≡ 1200 * tasks → CellsOf w tasks turns old →
+cell_halved : (w tasks : ℕ) (turns : List TurnSight) (old new : List Cell) → length turns ≤ 1200 * w → length turns < 1000000000 → length old ≡ 1200 * tasks → CellsOf w tasks turns old →
     ((k i : ℕ) (d : Cell) → k < 600 → i < tasks → get_or new (k * tasks + i) d ≡ joined (get_or old (2 * k * tasks + i) no_cell) (get_or old (2 * k * tasks + tasks + i) no_cell)) →
     ((j : ℕ) (d : Cell) → 600 * tasks ≤ j → j < length old → get_or new j d ≡ no_cell) →
     (k i : ℕ) (d : Cell) → k < 1200 → i < tasks → (k < 600) ⊎ (600 ≤ k) → get_or new (k * tasks + i) d ≡ cell_of (column_by (2 * w) turns k) i
@@ -95,27 +95,27 @@ cell_halved w tasks turns old new room few all was made rest k i d within lt (in
     let one : get_or old (2 * k * tasks + i) no_cell ≡ cell_of (column_by w turns (2 * k)) i = was (2 * k) i no_cell (omega arith) lt in
     let two : get_or old (2 * k * tasks + tasks + i) no_cell ≡ cell_of (column_by w turns (2 * k + 1)) i = ap (λ (n : ℕ). get_or old n no_cell) next ∙ was (2 * k + 1) i no_cell (omega arith) lt in
     made k i d low lt ∙ ap (λ (x : Cell). joined x (get_or old (2 * k * tasks + tasks + i) no_cell)) one ∙ ap (λ (x : Cell). joined (cell_of (column_by w turns (2 * k)) i) x) two
-    ∙ sym (cell_joined (column_by w turns (2 * k)) (column_by w turns (2 * k + 1)) i (halves_few w turns k few)) ∙ ap (λ (l : List Sight). cell_of l i) (sym (column_halves w turns k))
+    ∙ sym (cell_joined (column_by w turns (2 * k)) (column_by w turns (2 * k + 1)) i (halves_few w turns k few)) ∙ ap (λ (l : List TurnSight). cell_of l i) (sym (column_halves w turns k))
 cell_halved w tasks turns old new room few all was made rest k i d within lt (inr high) =
     let past : 600 * tasks ≤ k * tasks + i = omega (arith, rows_below 599 k tasks (omega arith)) in
     let there : k * tasks + i < length old = omega (arith, mul-add-lt k tasks i 1200 within lt) in
-    rest (k * tasks + i) d past there ∙ ap (λ (l : List Sight). cell_of l i) (sym (column_none (2 * w) turns k 599 (omega arith) (omega arith)))
+    rest (k * tasks + i) d past there ∙ ap (λ (l : List TurnSight). cell_of l i) (sym (column_none (2 * w) turns k 599 (omega arith) (omega arith)))
 
-pub cells_halved : (w tasks : ℕ) (turns : List Sight) (old new : List Cell) → length turns ≤ 1200 * w → length turns < 1000000000 → length old ≡ 1200 * tasks → CellsOf w tasks turns old →
+pub cells_halved : (w tasks : ℕ) (turns : List TurnSight) (old new : List Cell) → length turns ≤ 1200 * w → length turns < 1000000000 → length old ≡ 1200 * tasks → CellsOf w tasks turns old →
     ((k i : ℕ) (d : Cell) → k < 600 → i < tasks → get_or new (k * tasks + i) d ≡ joined (get_or old (2 * k * tasks + i) no_cell) (get_or old (2 * k * tasks + tasks + i) no_cell)) →
     ((j : ℕ) (d : Cell) → 600 * tasks ≤ j → j < length old → get_or new j d ≡ no_cell) → CellsOf (2 * w) tasks turns new
 cells_halved w tasks turns old new room few all was made rest = λ k i d within lt. cell_halved w tasks turns old new room few all was made rest k i d within lt (cases_lt k 600)
 
-out_halved : (w : ℕ) (turns : List Sight) (old new : List ℕ) → length turns ≤ 1200 * w → length turns < 1000000000 → OutsideOf w turns old →
+out_halved : (w : ℕ) (turns : List TurnSight) (old new : List ℕ) → length turns ≤ 1200 * w → length turns < 1000000000 → OutsideOf w turns old →
     ((k d : ℕ) → k < 600 → get_or new k d ≡ both (get_or old (2 * k) 0) (get_or old (2 * k + 1) 0)) → ((k d : ℕ) → 600 ≤ k → k < 1200 → get_or new k d ≡ 0) →
     (k d : ℕ) → k < 1200 → (k < 600) ⊎ (600 ≤ k) → get_or new k d ≡ count_by comes_from_outside (column_by (2 * w) turns k)
 out_halved w turns old new room few was made rest k d within (inl low) =
     made k d low ∙ ap (λ (n : ℕ). both n (get_or old (2 * k + 1) 0)) (was (2 * k) 0 (omega arith)) ∙ ap (λ (n : ℕ). both (count_by comes_from_outside (column_by w turns (2 * k))) n) (was (2 * k + 1) 0 (omega arith))
-    ∙ sym (count_both comes_from_outside (column_by w turns (2 * k)) (column_by w turns (2 * k + 1)) (halves_few w turns k few)) ∙ ap (λ (l : List Sight). count_by comes_from_outside l) (sym (column_halves w turns k))
+    ∙ sym (count_both comes_from_outside (column_by w turns (2 * k)) (column_by w turns (2 * k + 1)) (halves_few w turns k few)) ∙ ap (λ (l : List TurnSight). count_by comes_from_outside l) (sym (column_halves w turns k))
 out_halved w turns old new room few was made rest k d within (inr high) =
-    rest k d high within ∙ ap (λ (l : List Sight). count_by comes_from_outside l) (sym (column_none (2 * w) turns k 599 (omega arith) (omega arith)))
+    rest k d high within ∙ ap (λ (l : List TurnSight). count_by comes_from_outside l) (sym (column_none (2 * w) turns k 599 (omega arith) (omega arith)))
 
-pub outside_halved : (w : ℕ) (turns : List Sight) (old new : List ℕ) → length turns ≤ 1200 * w → length turns < 1000000000 → OutsideOf w turns old →
+pub outside_halved : (w : ℕ) (turns : List TurnSight) (old new : List ℕ) → length turns ≤ 1200 * w → length turns < 1000000000 → OutsideOf w turns old →
     ((k d : ℕ) → k < 600 → get_or new k d ≡ both (get_or old (2 * k) 0) (get_or old (2 * k + 1) 0)) → ((k d : ℕ) → 600 ≤ k → k < 1200 → get_or new k d ≡ 0) → OutsideOf (2 * w) turns new
 outside_halved w turns old new room few was made rest = λ k d within. out_halved w turns old new room few was made rest k d within (cases_lt k 600)
 
@@ -126,21 +126,21 @@ column_empty w k = ap (take w) (drop_all (k * w) [] (omega arith)) ∙ take_all 
 
 pub cells_none : (w tasks : ℕ) (cells : List Cell) → cells ≡ replicate (1200 * tasks) no_cell → CellsOf w tasks [] cells
 cells_none w tasks cells is = λ k i d within lt.
-    ap (λ (l : List Cell). get_or l (k * tasks + i) d) is ∙ get_or-replicate (1200 * tasks) (k * tasks + i) no_cell d (omega (arith, mul-add-lt k tasks i 1200 within lt)) ∙ ap (λ (l : List Sight). cell_of l i) (sym (column_empty w k))
+    ap (λ (l : List Cell). get_or l (k * tasks + i) d) is ∙ get_or-replicate (1200 * tasks) (k * tasks + i) no_cell d (omega (arith, mul-add-lt k tasks i 1200 within lt)) ∙ ap (λ (l : List TurnSight). cell_of l i) (sym (column_empty w k))
 
 pub outside_none : (w : ℕ) (outside : List ℕ) → outside ≡ replicate 1200 0 → OutsideOf w [] outside
 outside_none w outside is = λ k d within.
-    ap (λ (l : List ℕ). get_or l k d) is ∙ get_or-replicate 1200 k 0 d within ∙ ap (λ (l : List Sight). count_by comes_from_outside l) (sym (column_empty w k))
+    ap (λ (l : List ℕ). get_or l k d) is ∙ get_or-replicate 1200 k 0 d within ∙ ap (λ (l : List TurnSight). count_by comes_from_outside l) (sym (column_empty w k))
 
 -- the same, of what is the same
-pub cells_moved : (w w' tasks tasks' : ℕ) (turns : List Sight) (xs ys : List Cell) → w' ≡ w → tasks' ≡ tasks → ys ≡ xs → CellsOf w tasks turns xs → CellsOf w' tasks' turns ys
+pub cells_moved : (w w' tasks tasks' : ℕ) (turns : List TurnSight) (xs ys : List Cell) → w' ≡ w → tasks' ≡ tasks → ys ≡ xs → CellsOf w tasks turns xs → CellsOf w' tasks' turns ys
 cells_moved w w' tasks tasks' turns xs ys same many is h =
     let P : ℕ → Type 0 = λ v. CellsOf v tasks turns xs in
     let Q : ℕ → Type 0 = λ n. CellsOf w' n turns xs in
     let R : List Cell → Type 0 = λ l. CellsOf w' tasks' turns l in
     subst R (sym is) (subst Q (sym many) (subst P (sym same) h))
 
-pub outside_moved : (w w' : ℕ) (turns : List Sight) (xs ys : List ℕ) → w' ≡ w → ys ≡ xs → OutsideOf w turns xs → OutsideOf w' turns ys
+pub outside_moved : (w w' : ℕ) (turns : List TurnSight) (xs ys : List ℕ) → w' ≡ w → ys ≡ xs → OutsideOf w turns xs → OutsideOf w' turns ys
 outside_moved w w' turns xs ys same is h =
     let P : ℕ → Type 0 = λ v. OutsideOf v turns xs in
     let R : List ℕ → Type 0 = λ l. OutsideOf w' turns l in
@@ -159,14 +159,14 @@ same_width n w c inside wide at less free =
 
 -- ## what is in use
 
-last_row : (w tasks : ℕ) (turns : List Sight) (cells : List Cell) (c : ℕ) → CellsOf w tasks turns cells → length cells ≡ 1200 * tasks → c < 1200 → take tasks (drop (c * tasks) cells) ≡ map (cell_of (column_by w turns c)) (range_with_len 0 tasks)
+last_row : (w tasks : ℕ) (turns : List TurnSight) (cells : List Cell) (c : ℕ) → CellsOf w tasks turns cells → length cells ≡ 1200 * tasks → c < 1200 → take tasks (drop (c * tasks) cells) ≡ map (cell_of (column_by w turns c)) (range_with_len 0 tasks)
 last_row w tasks turns cells c h all lt =
     let row : c * tasks + tasks ≤ 1200 * tasks = rows_below c 1200 tasks lt in
     let many : length (take tasks (drop (c * tasks) cells)) ≡ tasks = omega (arith, length-take tasks (drop (c * tasks) cells), length-drop (c * tasks) cells) in
     fill_by_all (cell_of (column_by w turns c)) (take tasks (drop (c * tasks) cells)) tasks no_cell many
     (λ i less. get_or-take tasks (drop (c * tasks) cells) i no_cell less ∙ get_or-drop (c * tasks) cells i no_cell ∙ h c i no_cell lt less)
 
-pub cells_in_use : (w tasks : ℕ) (turns : List Sight) (cells : List Cell) (c : ℕ) → CellsOf w tasks turns cells → length cells ≡ 1200 * tasks → c ≤ 1200 →
+pub cells_in_use : (w tasks : ℕ) (turns : List TurnSight) (cells : List Cell) (c : ℕ) → CellsOf w tasks turns cells → length cells ≡ 1200 * tasks → c ≤ 1200 →
     take (c * tasks) cells ≡ flat_map (λ k. map (cell_of (column_by w turns k)) (range_with_len 0 tasks)) (range_with_len 0 c)
 cells_in_use w tasks turns cells zero h all le = let none : zero * tasks ≡ 0 = omega arith in ap (λ (n : ℕ). take n cells) none
 cells_in_use w tasks turns cells (suc c) h all le =
@@ -175,7 +175,7 @@ cells_in_use w tasks turns cells (suc c) h all le =
     ∙ ap (λ (l : List Cell). flat_map (λ k. map (cell_of (column_by w turns k)) (range_with_len 0 tasks)) (range_with_len 0 c) ++ l) (last_row w tasks turns cells c h all (omega arith))
     ∙ sym (flat_more (λ k. map (cell_of (column_by w turns k)) (range_with_len 0 tasks)) c)
 
-pub outside_in_use : (w : ℕ) (turns : List Sight) (outside : List ℕ) (c : ℕ) → OutsideOf w turns outside → length outside ≡ 1200 → c ≤ 1200 →
+pub outside_in_use : (w : ℕ) (turns : List TurnSight) (outside : List ℕ) (c : ℕ) → OutsideOf w turns outside → length outside ≡ 1200 → c ≤ 1200 →
     take c outside ≡ map (λ k. count_by comes_from_outside (column_by w turns k)) (range_with_len 0 c)
 outside_in_use w turns outside c h all le =
     let many : length (take c outside) ≡ c = omega (arith, length-take c outside) in

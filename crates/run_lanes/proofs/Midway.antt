@@ -2,7 +2,7 @@
 use Rattle.std.proofs.Common.{◌≡◌, ℕ, zero, suc, ◌+◌, ◌-◌, ◌<◌, ◌≤◌, List, [], ◌∷◌, ◌++◌, length, Option, Some, None, refl, sym, ap, subst, ◌∙◌, append_assoc, length-append, arith}
 use Rattle.std.proofs.lemmas.List.{append-nil}
 use Rattle.kernel_abi.specs.declared.Note.{Note}
-use Rattle.task_table.specs.State.{State}
+use Rattle.task_table.specs.model.State.{State}
 use Rattle.board_core.specs.declared.board.Board.{Board}
 use Rattle.board_core.specs.Data.{Shows}
 use Rattle.board_core.specs.Stands.{Stands}
@@ -14,8 +14,8 @@ use Rattle.board_model.specs.Run.{Run, run, ending}
 use Rattle.board_model.proofs.Counts.{turn_more}
 use Rattle.board_run.proofs.Going.{goes_on, run_ends, run_goes}
 use Rattle.run_lanes.specs.declared.word.Word.{Word}
-use Rattle.run_lanes.specs.Words.{Sight, sight, sights, unless, words_in}
-use Rattle.run_lanes.specs.Seen.{BreaksSeeing, Seen}
+use Rattle.run_lanes.specs.Words.{TurnSight, sight, sights, unless, words_in}
+use Rattle.run_lanes.specs.Seen.{BreaksSeeing, HasWatched}
 
 -- ## the turns by the first one
 
@@ -30,7 +30,7 @@ sights_end x (suc left) s e is = ap (λ (o : Option End). unless o (sight x s) (
 
 -- ## midway
 
-pub seen_start : {W : Type 0} {X : Type 0} {H : X → Type 0} (shown : Shows X H) (saw : W → List Sight → W → Type 0) (x : Scenario) (w : W) (s : State) (b : Board X H) → saw w [] w → Stands shown x b s → Seen shown saw x w w s b
+pub seen_start : {W : Type 0} {X : Type 0} {H : X → Type 0} (shown : Shows X H) (saw : W → List TurnSight → W → Type 0) (x : Scenario) (w : W) (s : State) (b : Board X H) → saw w [] w → Stands shown x b s → HasWatched shown saw x w w s b
 seen_start shown saw x w s b none st = record {
   front = [];
   here = s;
@@ -41,21 +41,21 @@ seen_start shown saw x w s b none st = record {
   ends = λ left. let e : 0 + left ≡ left = omega arith in record { last = ap (λ (n : ℕ). (run Calls x n s).last) e; end = ap (λ (n : ℕ). (run Calls x n s).end) e };
 }
 
-abbrev pub seen_turn : ℕ → List Word → List Note → Sight
+abbrev pub seen_turn : ℕ → List Word → List Note → TurnSight
 seen_turn t ws ns = record { turn = t; words = ws; notes = ns }
 
 same_sight : (x : Scenario) (s : State) (t : ℕ) (ws : List Word) (ns : List Note) → t ≡ s.turn → ws ≡ words_in x s → ns ≡ (turn Calls x s).notes → seen_turn t ws ns ≡ sight x s
 same_sight x s t ws ns t_is ws_is ns_is =
     ap (λ (k : ℕ). seen_turn k ws ns) t_is ∙ ap (λ (l : List Word). seen_turn s.turn l ns) ws_is ∙ ap (λ (l : List Note). seen_turn s.turn (words_in x s) l) ns_is
 
-pub seen_more : {W : Type 0} {X : Type 0} {H : X → Type 0} (shown : Shows X H) (saw : W → List Sight → W → Type 0) (x : Scenario) (w w' w'' : W) (s : State) (b b' : Board X H) (t : ℕ) (ws : List Word) (ns : List Note) →
-    ((u v z : W) (a c : List Sight) → saw u a v → saw v c z → saw u (a ++ c) z) → (m : Seen shown saw x w w' s b) → Stands shown x b' (turn Calls x m.here).state → ending x 1 m.here ≡ None →
-    t ≡ m.here.turn → ws ≡ words_in x m.here → ns ≡ (turn Calls x m.here).notes → saw w' (seen_turn t ws ns ∷ []) w'' → Seen shown saw x w w'' s b'
+pub seen_more : {W : Type 0} {X : Type 0} {H : X → Type 0} (shown : Shows X H) (saw : W → List TurnSight → W → Type 0) (x : Scenario) (w w' w'' : W) (s : State) (b b' : Board X H) (t : ℕ) (ws : List Word) (ns : List Note) →
+    ((u v z : W) (a c : List TurnSight) → saw u a v → saw v c z → saw u (a ++ c) z) → (m : HasWatched shown saw x w w' s b) → Stands shown x b' (turn Calls x m.here).state → ending x 1 m.here ≡ None →
+    t ≡ m.here.turn → ws ≡ words_in x m.here → ns ≡ (turn Calls x m.here).notes → saw w' (seen_turn t ws ns ∷ []) w'' → HasWatched shown saw x w w'' s b'
 seen_more shown saw x w w' w'' s b b' t ws ns parts m st goes t_is ws_is ns_is saw_it =
     let here = m.here in
     let next = (turn Calls x here).state in
     let same = same_sight x here t ws ns t_is ws_is ns_is in
-    let P : Sight → Type 0 = λ one. saw w' (one ∷ []) w'' in
+    let P : TurnSight → Type 0 = λ one. saw w' (one ∷ []) w'' in
     record {
       front = m.front ++ (sight x here ∷ []);
       here = next;
@@ -64,7 +64,7 @@ seen_more shown saw x w w' w'' s b b' t ws ns parts m st goes t_is ws_is ns_is s
       told = parts w w' w'' m.front (sight x here ∷ []) m.told (subst P same saw_it);
       rest = λ left.
           let e : length (m.front ++ (sight x here ∷ [])) + left ≡ length m.front + suc left = omega (arith, length-append m.front (sight x here ∷ [])) in
-          ap (λ (n : ℕ). sights x n s) e ∙ m.rest (suc left) ∙ ap (λ (l : List Sight). m.front ++ l) (sights_go x left here (goes_on x here 1 left goes))
+          ap (λ (n : ℕ). sights x n s) e ∙ m.rest (suc left) ∙ ap (λ (l : List TurnSight). m.front ++ l) (sights_go x left here (goes_on x here 1 left goes))
           ∙ sym (append_assoc m.front (sight x here ∷ []) (sights x left next));
       ends = λ left.
           let e : length (m.front ++ (sight x here ∷ [])) + left ≡ length m.front + suc left = omega (arith, length-append m.front (sight x here ∷ [])) in
@@ -77,46 +77,46 @@ seen_more shown saw x w w' w'' s b b' t ws ns parts m st goes t_is ws_is ns_is s
     }
 
 -- the seeing of the next turn failed
-pub seen_breaks : {W : Type 0} {X : Type 0} {H : X → Type 0} (shown : Shows X H) (saw broke : W → List Sight → W → Type 0) (x : Scenario) (w w' w'' : W) (s : State) (b : Board X H) (limit t : ℕ) (ws : List Word) (ns : List Note) →
-    ((u v z : W) (a c : List Sight) → saw u a v → broke v c z → broke u (a ++ c) z) → (m : Seen shown saw x w w' s b) → ending x 1 m.here ≡ None → m.here.turn < limit →
+pub seen_breaks : {W : Type 0} {X : Type 0} {H : X → Type 0} (shown : Shows X H) (saw broke : W → List TurnSight → W → Type 0) (x : Scenario) (w w' w'' : W) (s : State) (b : Board X H) (limit t : ℕ) (ws : List Word) (ns : List Note) →
+    ((u v z : W) (a c : List TurnSight) → saw u a v → broke v c z → broke u (a ++ c) z) → (m : HasWatched shown saw x w w' s b) → ending x 1 m.here ≡ None → m.here.turn < limit →
     t ≡ m.here.turn → ws ≡ words_in x m.here → ns ≡ (turn Calls x m.here).notes → broke w' (seen_turn t ws ns ∷ []) w'' → BreaksSeeing broke x (limit - s.turn) s w w''
 seen_breaks shown saw broke x w w' w'' s b limit t ws ns fails m goes under t_is ws_is ns_is broke_it =
     let here = m.here in
     let left : ℕ = limit - here.turn - 1 in
     let all : limit - s.turn ≡ length m.front + suc left = omega (arith, m.at, under) in
     let same = same_sight x here t ws ns t_is ws_is ns_is in
-    let P : Sight → Type 0 = λ one. broke w' (one ∷ []) w'' in
+    let P : TurnSight → Type 0 = λ one. broke w' (one ∷ []) w'' in
     record {
       front = m.front ++ (sight x here ∷ []);
       rest = sights x left (turn Calls x here).state;
-      whole = ap (λ (n : ℕ). sights x n s) all ∙ m.rest (suc left) ∙ ap (λ (l : List Sight). m.front ++ l) (sights_go x left here (goes_on x here 1 left goes))
+      whole = ap (λ (n : ℕ). sights x n s) all ∙ m.rest (suc left) ∙ ap (λ (l : List TurnSight). m.front ++ l) (sights_go x left here (goes_on x here 1 left goes))
           ∙ sym (append_assoc m.front (sight x here ∷ []) (sights x left (turn Calls x here).state));
       broken = fails w w' w'' m.front (sight x here ∷ []) m.told (subst P same broke_it);
     }
 
 -- ## the end: with so many turns in all
 
-whole_front : {W : Type 0} {X : Type 0} {H : X → Type 0} (shown : Shows X H) (saw : W → List Sight → W → Type 0) (x : Scenario) (w w' : W) (s : State) (b : Board X H) (limit : ℕ) (e : End) →
-    (m : Seen shown saw x w w' s b) → m.here.turn ≤ limit → ending x (limit - m.here.turn) m.here ≡ Some e → sights x (limit - s.turn) s ≡ m.front
+whole_front : {W : Type 0} {X : Type 0} {H : X → Type 0} (shown : Shows X H) (saw : W → List TurnSight → W → Type 0) (x : Scenario) (w w' : W) (s : State) (b : Board X H) (limit : ℕ) (e : End) →
+    (m : HasWatched shown saw x w w' s b) → m.here.turn ≤ limit → ending x (limit - m.here.turn) m.here ≡ Some e → sights x (limit - s.turn) s ≡ m.front
 whole_front shown saw x w w' s b limit e m within is =
     let left = limit - m.here.turn in
     let all : limit - s.turn ≡ length m.front + left = omega (arith, m.at, within) in
-    ap (λ (n : ℕ). sights x n s) all ∙ m.rest left ∙ ap (λ (l : List Sight). m.front ++ l) (sights_end x left m.here e is) ∙ append-nil m.front
+    ap (λ (n : ℕ). sights x n s) all ∙ m.rest left ∙ ap (λ (l : List TurnSight). m.front ++ l) (sights_end x left m.here e is) ∙ append-nil m.front
 
-pub whole_told : {W : Type 0} {X : Type 0} {H : X → Type 0} (shown : Shows X H) (saw : W → List Sight → W → Type 0) (x : Scenario) (w w' : W) (s : State) (b : Board X H) (limit : ℕ) (e : End) →
-    (m : Seen shown saw x w w' s b) → m.here.turn ≤ limit → ending x (limit - m.here.turn) m.here ≡ Some e → saw w (sights x (limit - s.turn) s) w'
+pub whole_told : {W : Type 0} {X : Type 0} {H : X → Type 0} (shown : Shows X H) (saw : W → List TurnSight → W → Type 0) (x : Scenario) (w w' : W) (s : State) (b : Board X H) (limit : ℕ) (e : End) →
+    (m : HasWatched shown saw x w w' s b) → m.here.turn ≤ limit → ending x (limit - m.here.turn) m.here ≡ Some e → saw w (sights x (limit - s.turn) s) w'
 whole_told shown saw x w w' s b limit e m within is =
-    let P : List Sight → Type 0 = λ l. saw w l w' in
+    let P : List TurnSight → Type 0 = λ l. saw w l w' in
     subst P (sym (whole_front shown saw x w w' s b limit e m within is)) m.told
 
 -- as many turns were made
-pub whole_turns : {W : Type 0} {X : Type 0} {H : X → Type 0} (shown : Shows X H) (saw : W → List Sight → W → Type 0) (x : Scenario) (w w' : W) (s : State) (b : Board X H) (limit : ℕ) (e : End) →
-    (m : Seen shown saw x w w' s b) → m.here.turn ≤ limit → ending x (limit - m.here.turn) m.here ≡ Some e → m.here.turn ≡ s.turn + length (sights x (limit - s.turn) s)
+pub whole_turns : {W : Type 0} {X : Type 0} {H : X → Type 0} (shown : Shows X H) (saw : W → List TurnSight → W → Type 0) (x : Scenario) (w w' : W) (s : State) (b : Board X H) (limit : ℕ) (e : End) →
+    (m : HasWatched shown saw x w w' s b) → m.here.turn ≤ limit → ending x (limit - m.here.turn) m.here ≡ Some e → m.here.turn ≡ s.turn + length (sights x (limit - s.turn) s)
 whole_turns shown saw x w w' s b limit e m within is =
-    m.at ∙ ap (λ (l : List Sight). s.turn + length l) (sym (whole_front shown saw x w w' s b limit e m within is))
+    m.at ∙ ap (λ (l : List TurnSight). s.turn + length l) (sym (whole_front shown saw x w w' s b limit e m within is))
 
-pub whole_end : {W : Type 0} {X : Type 0} {H : X → Type 0} (shown : Shows X H) (saw : W → List Sight → W → Type 0) (x : Scenario) (w w' : W) (s : State) (b : Board X H) (limit : ℕ) (e : End) →
-    (m : Seen shown saw x w w' s b) → m.here.turn ≤ limit → ending x (limit - m.here.turn) m.here ≡ Some e →
+pub whole_end : {W : Type 0} {X : Type 0} {H : X → Type 0} (shown : Shows X H) (saw : W → List TurnSight → W → Type 0) (x : Scenario) (w w' : W) (s : State) (b : Board X H) (limit : ℕ) (e : End) →
+    (m : HasWatched shown saw x w w' s b) → m.here.turn ≤ limit → ending x (limit - m.here.turn) m.here ≡ Some e →
     (e ≡ (run Calls x (limit - s.turn) s).end) × Stands shown x b (run Calls x (limit - s.turn) s).last
 whole_end shown saw x w w' s b limit e m within is =
     let left = limit - m.here.turn in

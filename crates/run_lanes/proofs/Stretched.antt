@@ -7,7 +7,7 @@ use Rattle.std.specs.List.{flat_map}
 use Rattle.std.proofs.lemmas.Bool.{eqb-true}
 use Rattle.run_lanes.specs.declared.word.Word.{Word}
 use Rattle.run_lanes.specs.declared.word.Word.TheVariants as word
-use Rattle.run_lanes.specs.declared.lanes.Stretch.{Stretch}
+use Rattle.run_lanes.specs.declared.lanes.LaneStretch.{LaneStretch}
 use Rattle.run_lanes.specs.Stretches.{Alternate, ended, joined, stretches, told, turns_in}
 use Rattle.run_lanes.specs.Timeline.{nothing_yet}
 use Rattle.run_lanes.specs.Words.{is_same, word_number}
@@ -127,7 +127,7 @@ shifted : (v : Word) (n : ℕ) (ws : List Word) → replicate (suc n) v ++ ws �
 shifted v zero ws = refl
 shifted v (suc n) ws = ap (λ (l : List Word). v ∷ l) (shifted v n ws)
 
-abbrev since_turn : Word → ℕ → Stretch
+abbrev since_turn : Word → ℕ → LaneStretch
 since_turn w turn = record { word = w; since = turn }
 
 ended_none : (v : Word) (turn : ℕ) → ended turn (since_turn v turn) ≡ []

@@ -1,5 +1,5 @@
 -- The turns of columns, as a turn comes and as neighbours become one.
-use Rattle.std.proofs.Common.{◌≡◌, ◌<◌, ◌≤◌, ◌⊎◌, inl, inr, ℕ, zero, suc, ◌+◌, ◌-◌, ◌*◌, ◌/◌, List, [], ◌∷◌, ◌++◌, length, take, drop, refl, sym, ap, ◌∙◌, length-append, length-drop, append_assoc, arith}
+use Rattle.std.proofs.Common.{◌≡◌, ◌<◌, ◌≤◌, ◌⊎◌, inl, inr, ℕ, zero, suc, ◌+◌, ◌-◌, ◌*◌, ◌/◌, List, [], ◌∷◌, ◌++◌, length, take, drop, sym, ap, ◌∙◌, length-append, length-drop, append_assoc, arith}
 use Rattle.std.specs.Prelude.{min}
 use Rattle.std.proofs.lemmas.Bool.{cases_lt}
 use Rattle.std.specs.List.{flat_map, range_with_len}
@@ -7,7 +7,7 @@ use Rattle.std.proofs.Math.Nat.{lt-div-mul-add, mul-le-mul_right}
 use Rattle.std.proofs.lemmas.Nat.{div-mul-add, row_below_turned}
 use Rattle.std.proofs.lemmas.List.{append-nil, drop-append-le, drop-drop, drop-take, drop_all, take-append-drop, take-append-le, take-take, take_all}
 use Rattle.run_lanes.specs.Counted.{column_by}
-use Rattle.run_lanes.specs.Words.{Sight}
+use Rattle.run_lanes.specs.Words.{TurnSight}
 
 pub next_row : (k n : ℕ) → (k + 1) * n ≡ k * n + n
 next_row k n = omega arith
@@ -16,33 +16,33 @@ pub rows_below : (k c n : ℕ) → k < c → k * n + n ≤ c * n
 rows_below k c n lt = omega (arith, next_row k n, mul-le-mul_right {m = k + 1} {n = c} n (omega arith))
 
 -- columns before the one of the next turn, and those behind it
-pub column_before : (w : ℕ) (turns more : List Sight) (k c : ℕ) → k < c → c * w ≤ length turns → column_by w (turns ++ more) k ≡ column_by w turns k
+pub column_before : (w : ℕ) (turns more : List TurnSight) (k c : ℕ) → k < c → c * w ≤ length turns → column_by w (turns ++ more) k ≡ column_by w turns k
 column_before w turns more k c lt within =
     let le : k * w ≤ length turns = omega (arith, rows_below k c w lt) in
     let whole : w ≤ length (drop (k * w) turns) = omega (arith, rows_below k c w lt, length-drop (k * w) turns) in
     ap (take w) (drop-append-le (k * w) turns more le) ∙ take-append-le w (drop (k * w) turns) more whole
 
-pub column_none : (w : ℕ) (turns : List Sight) (k c : ℕ) → c < k → length turns ≤ c * w + w → column_by w turns k ≡ []
+pub column_none : (w : ℕ) (turns : List TurnSight) (k c : ℕ) → c < k → length turns ≤ c * w + w → column_by w turns k ≡ []
 column_none w turns k c lt within = ap (take w) (drop_all (k * w) turns (omega (arith, rows_below c k w lt))) ∙ take_all w [] (omega arith)
 
-pub column_here : (w : ℕ) (turns : List Sight) (t : Sight) (c inside : ℕ) → length turns ≡ c * w + inside → inside < w → column_by w (turns ++ (t ∷ [])) c ≡ column_by w turns c ++ (t ∷ [])
+pub column_here : (w : ℕ) (turns : List TurnSight) (t : TurnSight) (c inside : ℕ) → length turns ≡ c * w + inside → inside < w → column_by w (turns ++ (t ∷ [])) c ≡ column_by w turns c ++ (t ∷ [])
 column_here w turns t c inside at less =
     let le : c * w ≤ length turns = omega arith in
     let few : length (drop (c * w) turns) ≤ w = omega (arith, length-drop (c * w) turns) in
     let all : length (drop (c * w) turns ++ (t ∷ [])) ≤ w = omega (arith, length-drop (c * w) turns, length-append (drop (c * w) turns) (t ∷ [])) in
-    ap (take w) (drop-append-le (c * w) turns (t ∷ []) le) ∙ take_all w (drop (c * w) turns ++ (t ∷ [])) all ∙ ap (λ (l : List Sight). l ++ (t ∷ [])) (sym (take_all w (drop (c * w) turns) few))
+    ap (take w) (drop-append-le (c * w) turns (t ∷ []) le) ∙ take_all w (drop (c * w) turns ++ (t ∷ [])) all ∙ ap (λ (l : List TurnSight). l ++ (t ∷ [])) (sym (take_all w (drop (c * w) turns) few))
 
 -- neighbours
 pub take_plus : {X : Type 0} (m n : ℕ) (xs : List X) → take (m + n) xs ≡ take m xs ++ take n (drop m xs)
 take_plus m n xs =
     sym (take-append-drop m (take (m + n) xs)) ∙ ap (λ (l : List _). l ++ drop m (take (m + n) xs)) (take-take m (m + n) xs (omega arith)) ∙ ap (λ (l : List _). take m xs ++ l) (drop-take m n xs)
 
-pub column_halves : (w : ℕ) (turns : List Sight) (k : ℕ) → column_by (2 * w) turns k ≡ column_by w turns (2 * k) ++ column_by w turns (2 * k + 1)
+pub column_halves : (w : ℕ) (turns : List TurnSight) (k : ℕ) → column_by (2 * w) turns k ≡ column_by w turns (2 * k) ++ column_by w turns (2 * k + 1)
 column_halves w turns k =
-    let xs : List Sight = drop (k * (2 * w)) turns in
+    let xs : List TurnSight = drop (k * (2 * w)) turns in
     let one : k * (2 * w) ≡ (2 * k) * w = omega arith in
     let two : k * (2 * w) + w ≡ (2 * k + 1) * w = omega arith in
-    ap (λ (n : ℕ). take n xs) (omega arith) ∙ take_plus w w xs ∙ ap (λ (l : List Sight). take w xs ++ take w l) (drop-drop w (k * (2 * w)) turns)
+    ap (λ (n : ℕ). take n xs) (omega arith) ∙ take_plus w w xs ∙ ap (λ (l : List TurnSight). take w xs ++ take w l) (drop-drop w (k * (2 * w)) turns)
     ∙ ap (λ (n : ℕ). take w xs ++ take w (drop n turns)) two ∙ ap (λ (n : ℕ). take w (drop n turns) ++ column_by w turns (2 * k + 1)) one
 
 -- ## one column behind the other
@@ -56,17 +56,17 @@ flat_from f a (suc n) =
 pub flat_more : {X : Type 0} (f : ℕ → List X) (n : ℕ) → flat_map f (range_with_len 0 (suc n)) ≡ flat_map f (range_with_len 0 n) ++ f n
 flat_more f n = flat_from f 0 n ∙ ap (λ (k : ℕ). flat_map f (range_with_len 0 n) ++ f k) (omega arith)
 
-front_of : (w : ℕ) (turns : List Sight) (c : ℕ) → flat_map (column_by w turns) (range_with_len 0 c) ≡ take (c * w) turns
+front_of : (w : ℕ) (turns : List TurnSight) (c : ℕ) → flat_map (column_by w turns) (range_with_len 0 c) ≡ take (c * w) turns
 front_of w turns zero = let none : 0 ≡ zero * w = omega arith in ap (λ (n : ℕ). take n turns) none
 front_of w turns (suc c) =
     let more : c * w + w ≡ suc c * w = omega (arith, next_row c w) in
-    flat_more (column_by w turns) c ∙ ap (λ (l : List Sight). l ++ column_by w turns c) (front_of w turns c) ∙ sym (take_plus (c * w) w turns) ∙ ap (λ (n : ℕ). take n turns) more
+    flat_more (column_by w turns) c ∙ ap (λ (l : List TurnSight). l ++ column_by w turns c) (front_of w turns c) ∙ sym (take_plus (c * w) w turns) ∙ ap (λ (n : ℕ). take n turns) more
 
 -- as many columns as they need
 needed : (n w : ℕ) → 0 < w → n ≤ (n + w - 1) / w * w
 needed n w some = omega (arith, lt-div-mul-add {a = n + w - 1} {b = w} some)
 
-pub tile_by : (w : ℕ) (turns : List Sight) → 0 < w → flat_map (column_by w turns) (range_with_len 0 ((length turns + w - 1) / w)) ≡ turns
+pub tile_by : (w : ℕ) (turns : List TurnSight) → 0 < w → flat_map (column_by w turns) (range_with_len 0 ((length turns + w - 1) / w)) ≡ turns
 tile_by w turns some = front_of w turns ((length turns + w - 1) / w) ∙ take_all ((length turns + w - 1) / w * w) turns (needed (length turns) w some)
 
 pub few_columns : (n w : ℕ) → 0 < w → n ≤ 1200 * w → (n + w - 1) / w ≤ 1200

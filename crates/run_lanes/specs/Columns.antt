@@ -8,7 +8,7 @@ use Rattle.lane_picture.specs.declared.parts.Cell.{Cell}
 use Rattle.run_lanes.specs.declared.word.Word.{Word}
 use Rattle.run_lanes.specs.declared.word.Word.TheVariants as word
 use Rattle.run_lanes.specs.Timeline.{word_at}
-use Rattle.run_lanes.specs.Words.{Sight, is_same}
+use Rattle.run_lanes.specs.Words.{TurnSight, is_same}
 
 -- the most columns
 abbrev pub most_columns : ℕ
@@ -28,7 +28,7 @@ abbrev pub columns : ℕ → ℕ
 columns turns = (turns + column_turns turns - 1) / column_turns turns
 
 -- the turns of the k-th column
-abbrev pub column : List Sight → ℕ → List Sight
+abbrev pub column : List TurnSight → ℕ → List TurnSight
 column turns k = take (column_turns (length turns)) (drop (k * column_turns (length turns)) turns)
 
 -- the words in their order
@@ -36,11 +36,11 @@ abbrev pub words : List Word
 words = word.Runs ∷ word.Ready ∷ word.Offers ∷ word.Awaits ∷ word.Listens ∷ word.Faulted ∷ word.Stopped ∷ []
 
 -- in how many of some turns a task has a word
-abbrev pub turns_with : ℕ → List Sight → Word → ℕ
+abbrev pub turns_with : ℕ → List TurnSight → Word → ℕ
 turns_with i turns w = count_by (λ t. is_same (word_at t.words i) w) turns
 
 -- in one of them something like this is noted
-abbrev pub is_noted : (Note → Bool) → List Sight → Bool
+abbrev pub is_noted : (Note → Bool) → List TurnSight → Bool
 is_noted is turns = list_any (λ t. list_any is t.notes) turns
 
 abbrev pub is_fault_of : ℕ → Note → Bool
@@ -52,11 +52,11 @@ is_birth_of i (note.Restart task generation) = task == i
 is_birth_of i _ = false
 
 -- what a task does in some turns, and what befalls it
-abbrev pub cell_of : List Sight → ℕ → Cell
+abbrev pub cell_of : List TurnSight → ℕ → Cell
 cell_of turns i = record { words = map (turns_with i turns) words; faulted = is_noted (is_fault_of i) turns; born = is_noted (is_birth_of i) turns }
 
 -- the cells of so many tasks, of each column one behind the other
-abbrev pub cells : ℕ → List Sight → List Cell
+abbrev pub cells : ℕ → List TurnSight → List Cell
 cells tasks turns = flat_map (λ k. map (cell_of (column turns k)) (range_with_len 0 tasks)) (range_with_len 0 (columns (length turns)))
 
 abbrev pub is_outside : Note → Bool
@@ -67,5 +67,5 @@ is_outside (note.Out device byte) = true
 is_outside _ = false
 
 -- in how many turns of each column something came from outside
-abbrev pub outside : List Sight → List ℕ
+abbrev pub outside : List TurnSight → List ℕ
 outside turns = map (λ k. count_by (λ t. list_any is_outside t.notes) (column turns k)) (range_with_len 0 (columns (length turns)))

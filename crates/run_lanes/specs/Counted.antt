@@ -6,10 +6,10 @@ use Rattle.lane_picture.specs.declared.parts.Cell.{Cell}
 use Rattle.run_lanes.specs.declared.word.Word.{Word}
 use Rattle.run_lanes.specs.Columns.{cell_of, is_birth_of, is_fault_of, is_outside, most_columns}
 use Rattle.run_lanes.specs.Timeline.{word_at}
-use Rattle.run_lanes.specs.Words.{Sight, word_number}
+use Rattle.run_lanes.specs.Words.{TurnSight, word_number}
 
 -- the turns of the k-th column where each has so many
-abbrev pub column_by : ℕ → List Sight → ℕ → List Sight
+abbrev pub column_by : ℕ → List TurnSight → ℕ → List TurnSight
 column_by width turns k = take width (drop (k * width) turns)
 
 -- two counts, as far as a number of 32 bits says it
@@ -44,12 +44,12 @@ pub record Changed (old new : List Cell) (at many : ℕ) (f : ℕ → Cell → C
   pub behind : (j : ℕ) (d : Cell) → at + many ≤ j → slice_index_or new j d ≡ slice_index_or old j d
 
 -- something comes from outside in a turn
-abbrev pub comes_from_outside : Sight → Bool
+abbrev pub comes_from_outside : TurnSight → Bool
 comes_from_outside t = list_any is_outside t.notes
 
 -- cells are those of the columns of so many turns each
-abbrev pub CellsOf : ℕ → ℕ → List Sight → List Cell → Type 0
+abbrev pub CellsOf : ℕ → ℕ → List TurnSight → List Cell → Type 0
 CellsOf width tasks turns cells = (k i : ℕ) (d : Cell) → k < most_columns → i < tasks → slice_index_or cells (k * tasks + i) d ≡ cell_of (column_by width turns k) i
 
-abbrev pub OutsideOf : ℕ → List Sight → List ℕ → Type 0
+abbrev pub OutsideOf : ℕ → List TurnSight → List ℕ → Type 0
 OutsideOf width turns outside = (k d : ℕ) → k < most_columns → slice_index_or outside k d ≡ count_by comes_from_outside (column_by width turns k)

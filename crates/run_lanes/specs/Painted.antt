@@ -6,10 +6,10 @@ use Rattle.run_lanes.specs.Columned.{Columned}
 use Rattle.run_lanes.specs.First.{IsFirst}
 use Rattle.run_lanes.specs.Pictured.{most_events}
 use Rattle.run_lanes.specs.Told.{all_arrows, all_events, calls_at_end, no_calls_of}
-use Rattle.run_lanes.specs.Words.{Sight}
+use Rattle.run_lanes.specs.Words.{TurnSight}
 
 -- the turns so far, of so many tasks
-pub record Painted (tasks : ℕ) (c : Canvas) (turns : List Sight) : Type 0 where
+pub record Painted (tasks : ℕ) (c : Canvas) (turns : List TurnSight) : Type 0 where
   pub many : c.columns.tasks ≡ tasks
   pub columns : Columned c.columns (length turns) turns
   pub calls : c.exchange.calls.items ≡ calls_at_end (no_calls_of tasks) turns
@@ -17,5 +17,5 @@ pub record Painted (tasks : ℕ) (c : Canvas) (turns : List Sight) : Type 0 wher
   pub events : IsFirst most_events c.events.kept.items (vec_capacity c.events.kept) c.events.all (all_events turns)
 
 -- more turns were seen, of which there are at most a thousand million in all
-abbrev pub Paints : Canvas → List Sight → Canvas → Type 0
-Paints c turns d = (tasks : ℕ) (front : List Sight) → length front + length turns ≤ 1000000000 → Painted tasks c front → Painted tasks d (front ++ turns)
+abbrev pub Paints : Canvas → List TurnSight → Canvas → Type 0
+Paints c turns d = (tasks : ℕ) (front : List TurnSight) → length front + length turns ≤ 1000000000 → Painted tasks c front → Painted tasks d (front ++ turns)

@@ -9,15 +9,15 @@ use Rattle.lane_picture.specs.Sizes.{Drawn}
 use Rattle.run_lanes.specs.Columns.{cells, column_turns, outside}
 use Rattle.run_lanes.specs.First.{counted}
 use Rattle.run_lanes.specs.Told.{all_arrows, all_events, calls_at_end, event_text, no_calls_of}
-use Rattle.run_lanes.specs.Words.{Sight, sights}
-use Rattle.task_table.specs.State.{State}
+use Rattle.run_lanes.specs.Words.{TurnSight, sights}
+use Rattle.task_table.specs.model.State.{State}
 
 -- what befell tasks is told of the first ten
 abbrev pub most_events : ℕ
 most_events = 10
 
 -- what is drawn of a run and of its turns, of tasks with these names
-abbrev pub drawn : List ℕ → List (List ℕ) → Run → List Sight → Drawn
+abbrev pub drawn : List ℕ → List (List ℕ) → Run → List TurnSight → Drawn
 drawn title names r turns = record {
   title = title;
   ending = end_name r.end;

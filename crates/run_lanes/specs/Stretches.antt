@@ -2,12 +2,12 @@
 use Rattle.std.specs.Prelude.{◌≡◌, ℕ, ◌+◌, ◌-◌, ◌==◌, false, if◌then◌else◌, List, [], ◌∷◌, ◌++◌, map, replicate}
 use Rattle.std.specs.List.{flat_map}
 use Rattle.run_lanes.specs.declared.word.Word.{Word}
-use Rattle.run_lanes.specs.declared.lanes.Stretch.{Stretch}
+use Rattle.run_lanes.specs.declared.lanes.LaneStretch.{LaneStretch}
 use Rattle.run_lanes.specs.Timeline.{renewed, word_at}
-use Rattle.run_lanes.specs.Words.{Sight, is_same}
+use Rattle.run_lanes.specs.Words.{TurnSight, is_same}
 
 -- what task i does, turn by turn
-abbrev pub words_of : ℕ → List Sight → List Word
+abbrev pub words_of : ℕ → List TurnSight → List Word
 words_of i turns = map (λ t. word_at t.words i) turns
 
 -- a turn more before these stretches
@@ -38,10 +38,10 @@ turns_in (s ∷ stretches) = s.1 + turns_in stretches
 -- ## the stretches that a timeline tells of a task
 
 -- one that ends before a turn, unless it has no turn (Timeline's `ended_text`)
-abbrev pub ended : ℕ → Stretch → List (Word × ℕ)
+abbrev pub ended : ℕ → LaneStretch → List (Word × ℕ)
 ended turn s = if s.since == turn then [] else (s.word, turn - s.since) ∷ []
 
 -- those of a task that is in a stretch at a turn and does these words from then on (Timeline's `over_text`, `renewed` and, at the end, `ended_text`)
-unfoldable pub told : ℕ → Stretch → List Word → List (Word × ℕ)
+unfoldable pub told : ℕ → LaneStretch → List Word → List (Word × ℕ)
 told turn s [] = ended turn s
 told turn s (w ∷ words) = (if is_same s.word w then [] else ended turn s) ++ told (turn + 1) (renewed turn s w) words

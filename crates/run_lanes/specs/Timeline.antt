@@ -10,14 +10,14 @@ use Rattle.kernel_abi.specs.declared.Handled.{Handled}
 use Rattle.kernel_abi.specs.declared.Note.{Note}
 use Rattle.kernel_abi.specs.declared.Note.TheVariants as note
 use Rattle.trace_text.specs.Text.{byte_hex, fed_name, handled_name, spaced_hex}
-use Rattle.task_table.specs.State.{State}
+use Rattle.task_table.specs.model.State.{State}
 use Rattle.board_model.specs.Script.{Scenario}
 use Rattle.run_lanes.specs.declared.lanes.Offer.{Offer}
-use Rattle.run_lanes.specs.declared.lanes.Stretch.{Stretch}
+use Rattle.run_lanes.specs.declared.lanes.LaneStretch.{LaneStretch}
 use Rattle.run_lanes.specs.declared.word.Word.{Word}
 use Rattle.run_lanes.specs.declared.word.Word.TheVariants as word
 use Rattle.run_lanes.specs.Names.{fault_name, syscall_name}
-use Rattle.run_lanes.specs.Words.{Sight, is_same, sights}
+use Rattle.run_lanes.specs.Words.{TurnSight, is_same, sights}
 
 -- ## events, each behind the `,` and the LF that end the line before it
 
@@ -129,59 +129,59 @@ offers_at_end offers (n ∷ notes) = offers_at_end (offers_after offers n) notes
 
 -- ## stretches: what each task has done, and since when
 
-abbrev pub nothing_yet : ℕ → Stretch
+abbrev pub nothing_yet : ℕ → LaneStretch
 nothing_yet turn = record { word = word.Ready; since = turn }
 
-abbrev pub stretch_at : List Stretch → ℕ → Stretch
+abbrev pub stretch_at : List LaneStretch → ℕ → LaneStretch
 stretch_at stretches i = slice_index_or stretches i (nothing_yet 0)
 
 abbrev pub word_at : List Word → ℕ → Word
 word_at words i = slice_index_or words i word.Ready
 
 -- what is told of a stretch that ends before a turn: nothing where it has no turn
-abbrev pub ended_text : ℕ → ℕ → Stretch → List ℕ
+abbrev pub ended_text : ℕ → ℕ → LaneStretch → List ℕ
 ended_text turn i s = if s.since == turn then [] else stretch_text (thread_of i) s.word (turn - s.since) s.since
 
 -- it ends where the task does something else
-abbrev pub over_text : ℕ → ℕ → Stretch → Word → List ℕ
+abbrev pub over_text : ℕ → ℕ → LaneStretch → Word → List ℕ
 over_text turn i s w = if is_same s.word w then [] else ended_text turn i s
 
 -- and another one begins there
-abbrev pub renewed : ℕ → Stretch → Word → Stretch
+abbrev pub renewed : ℕ → LaneStretch → Word → LaneStretch
 renewed turn s w = if is_same s.word w then s else record { word = w; since = turn }
 
-unfoldable pub overs_text : ℕ → List Stretch → List Word → List ℕ
+unfoldable pub overs_text : ℕ → List LaneStretch → List Word → List ℕ
 overs_text turn stretches words = flat_map (λ i. over_text turn i (stretch_at stretches i) (word_at words i)) (range_with_len 0 (length stretches))
 
-unfoldable pub all_renewed : ℕ → List Stretch → List Word → List Stretch
+unfoldable pub all_renewed : ℕ → List LaneStretch → List Word → List LaneStretch
 all_renewed turn stretches words = map (λ i. renewed turn (stretch_at stretches i) (word_at words i)) (range_with_len 0 (length stretches))
 
-unfoldable pub rests_text : ℕ → List Stretch → List ℕ
+unfoldable pub rests_text : ℕ → List LaneStretch → List ℕ
 rests_text turn stretches = flat_map (λ i. ended_text turn i (stretch_at stretches i)) (range_with_len 0 (length stretches))
 
 -- ## turn by turn
 
 -- what is kept of the turns so far: of each task the stretch that it is in, and what it offered last
 pub record Kept : Type 0 where
-  pub stretches : List Stretch
+  pub stretches : List LaneStretch
   pub offers : List (Option Offer)
 
 -- before the first turn, of so many tasks
 abbrev pub kept_none : ℕ → ℕ → Kept
 kept_none tasks turn = record { stretches = replicate tasks (nothing_yet turn); offers = replicate tasks None }
 
-abbrev pub kept_after : Kept → Sight → Kept
+abbrev pub kept_after : Kept → TurnSight → Kept
 kept_after k t = record { stretches = all_renewed t.turn k.stretches t.words; offers = offers_at_end k.offers t.notes }
 
 -- the stretches that are over, and then the notes
-abbrev pub turn_text : Kept → Sight → List ℕ
+abbrev pub turn_text : Kept → TurnSight → List ℕ
 turn_text k t = overs_text t.turn k.stretches t.words ++ notes_text k.offers t.turn t.notes
 
-unfoldable pub turns_text : Kept → List Sight → List ℕ
+unfoldable pub turns_text : Kept → List TurnSight → List ℕ
 turns_text k [] = []
 turns_text k (t ∷ turns) = turn_text k t ++ turns_text (kept_after k t) turns
 
-unfoldable pub kept_at_end : Kept → List Sight → Kept
+unfoldable pub kept_at_end : Kept → List TurnSight → Kept
 kept_at_end k [] = k
 kept_at_end k (t ∷ turns) = kept_at_end (kept_after k t) turns
 
@@ -220,7 +220,7 @@ tail_text = codes "\n]}\n"
 -- ## the whole
 
 -- turns from one on, and what stands behind them: the stretches in which the tasks are, and the end
-unfoldable pub drawn_text : Kept → ℕ → List Sight → List ℕ
+unfoldable pub drawn_text : Kept → ℕ → List TurnSight → List ℕ
 drawn_text k turn turns = turns_text k turns ++ (rests_text (turn + length turns) (kept_at_end k turns).stretches ++ tail_text)
 
 -- the run from a state with at most so many turns, of tasks with these names

@@ -7,33 +7,33 @@ use Rattle.kernel_abi.specs.declared.Ending.TheVariants as ending
 use Rattle.kernel_abi.specs.declared.Note.{Note}
 use Rattle.kernel_abi.specs.declared.Note.TheVariants as note
 use Rattle.lane_picture.specs.declared.parts.Arrow.{Arrow}
-use Rattle.lane_picture.specs.declared.parts.Asked.{Asked}
-use Rattle.lane_picture.specs.declared.parts.Calls.{Calls}
+use Rattle.lane_picture.specs.declared.parts.AskedCall.{AskedCall}
+use Rattle.lane_picture.specs.declared.parts.TaskCalls.{TaskCalls}
 use Rattle.lane_picture.specs.declared.parts.Longest.{Longest}
-use Rattle.lane_picture.specs.declared.parts.Way.{Way}
-use Rattle.lane_picture.specs.declared.parts.Way.TheVariants as way
+use Rattle.lane_picture.specs.declared.parts.ArrowKind.{ArrowKind}
+use Rattle.lane_picture.specs.declared.parts.ArrowKind.TheVariants as way
 use Rattle.lane_picture.specs.Drawing.{no_calls}
 use Rattle.outside_io.specs.Outside.{raised}
 use Rattle.run_lanes.specs.Names.{fault_name}
-use Rattle.run_lanes.specs.Words.{Sight}
+use Rattle.run_lanes.specs.Words.{TurnSight}
 
 -- ## the calls of tasks
 
 -- the call that a task has open is this one
-abbrev pub has_asked : ℕ → Option Asked → Bool
+abbrev pub has_asked : ℕ → Option AskedCall → Bool
 has_asked call None = false
 has_asked call (Some asked) = asked.call == call
 
 -- a call, and the index of its client
 abbrev pub AskedBy : Type 0
-AskedBy = ℕ × Asked
+AskedBy = ℕ × AskedCall
 
-abbrev pub by : ℕ → Option Asked → Option AskedBy
+abbrev pub by : ℕ → Option AskedCall → Option AskedBy
 by i None = None
 by i (Some asked) = Some (i, asked)
 
 -- who has a call open, of tasks from the i-th on
-unfoldable pub client_of : ℕ → ℕ → List Calls → Option AskedBy
+unfoldable pub client_of : ℕ → ℕ → List TaskCalls → Option AskedBy
 client_of call i [] = None
 client_of call i (c ∷ calls) = if has_asked call c.asked then by i c.asked else client_of call (i + 1) calls
 
@@ -43,25 +43,25 @@ longer None l = l
 longer (Some k) l = if nat_lt k.turns l.turns then l else k
 
 -- a task offers one more
-abbrev pub offered : ℕ → ℕ → ℕ → Calls → Calls
+abbrev pub offered : ℕ → ℕ → ℕ → TaskCalls → TaskCalls
 offered call server turn c = record { count = raised c.count 1; asked = Some record { call = call; server = server; since = turn }; longest = c.longest }
 
 -- the one that it had open is closed in a turn
-abbrev pub closed : ℕ → Asked → Calls → Calls
+abbrev pub closed : ℕ → AskedCall → TaskCalls → TaskCalls
 closed turn asked c = record { count = c.count; asked = None; longest = Some (longer c.longest record { server = asked.server; from = asked.since; turns = turn - asked.since }) }
 
-abbrev pub no_calls_of : ℕ → List Calls
+abbrev pub no_calls_of : ℕ → List TaskCalls
 no_calls_of tasks = replicate tasks no_calls
 
-abbrev pub calls_of : List Calls → ℕ → Calls
+abbrev pub calls_of : List TaskCalls → ℕ → TaskCalls
 calls_of calls i = slice_index_or calls i no_calls
 
-abbrev pub closed_by : ℕ → List Calls → Option AskedBy → List Calls
+abbrev pub closed_by : ℕ → List TaskCalls → Option AskedBy → List TaskCalls
 closed_by turn calls None = calls
 closed_by turn calls (Some c) = slice_set calls c.0 (closed turn c.1 (calls_of calls c.0))
 
 -- after a note of a turn
-abbrev pub calls_after : ℕ → List Calls → Note → List Calls
+abbrev pub calls_after : ℕ → List TaskCalls → Note → List TaskCalls
 calls_after turn calls (note.Offer call client server) = slice_set calls client (offered call server turn (calls_of calls client))
 calls_after turn calls (note.Close call how) = closed_by turn calls (client_of call 0 calls)
 calls_after turn calls _ = calls
@@ -73,7 +73,7 @@ abbrev pub taken_by : ℕ → Option AskedBy → List Arrow
 taken_by turn None = []
 taken_by turn (Some c) = record { way = way.Call; from = c.0; at = c.1.since; to = c.1.server; until = turn } ∷ []
 
-abbrev pub back : ℕ → Way → AskedBy → List Arrow
+abbrev pub back : ℕ → ArrowKind → AskedBy → List Arrow
 back turn w c = record { way = w; from = c.1.server; at = turn; to = c.0; until = turn } ∷ []
 
 -- one that is closed, from its server back to its client; none where the client ended it
@@ -87,7 +87,7 @@ abbrev pub ended_by : ℕ → Ending → Option AskedBy → List Arrow
 ended_by turn how None = []
 ended_by turn how (Some c) = closed_arrow turn how c
 
-abbrev pub arrows_of : ℕ → List Calls → Note → List Arrow
+abbrev pub arrows_of : ℕ → List TaskCalls → Note → List Arrow
 arrows_of turn calls (note.Take call copied) = taken_by turn (client_of call 0 calls)
 arrows_of turn calls (note.Close call how) = ended_by turn how (client_of call 0 calls)
 arrows_of turn calls _ = []
@@ -95,8 +95,8 @@ arrows_of turn calls _ = []
 -- ## what befell tasks: faults and births
 
 -- a note, and its turn
-abbrev pub Event : Type 0
-Event = ℕ × Note
+abbrev pub TurnNote : Type 0
+TurnNote = ℕ × Note
 
 abbrev pub is_event : Note → Bool
 is_event (note.Fault task fault) = true
@@ -106,31 +106,31 @@ is_event _ = false
 abbrev pub name_of : List (List ℕ) → ℕ → List ℕ
 name_of names i = slice_index_or names i []
 
-unfoldable pub event_text : List (List ℕ) → Event → List ℕ
+unfoldable pub event_text : List (List ℕ) → TurnNote → List ℕ
 event_text names (turn, note.Fault task fault) = codes "turn " ++ decimal turn ++ codes ": " ++ name_of names task ++ codes " faults: " ++ fault_name fault
 event_text names (turn, note.Restart task generation) = codes "turn " ++ decimal turn ++ codes ": " ++ name_of names task ++ codes " is born again, generation " ++ decimal generation
 event_text names _ = []
 
 -- ## turn by turn
 
-unfoldable pub calls_at_end_of : ℕ → List Calls → List Note → List Calls
+unfoldable pub calls_at_end_of : ℕ → List TaskCalls → List Note → List TaskCalls
 calls_at_end_of turn calls [] = calls
 calls_at_end_of turn calls (n ∷ notes) = calls_at_end_of turn (calls_after turn calls n) notes
 
-unfoldable pub arrows_of_notes : ℕ → List Calls → List Note → List Arrow
+unfoldable pub arrows_of_notes : ℕ → List TaskCalls → List Note → List Arrow
 arrows_of_notes turn calls [] = []
 arrows_of_notes turn calls (n ∷ notes) = arrows_of turn calls n ++ arrows_of_notes turn (calls_after turn calls n) notes
 
-unfoldable pub calls_at_end : List Calls → List Sight → List Calls
+unfoldable pub calls_at_end : List TaskCalls → List TurnSight → List TaskCalls
 calls_at_end calls [] = calls
 calls_at_end calls (t ∷ turns) = calls_at_end (calls_at_end_of t.turn calls t.notes) turns
 
-unfoldable pub all_arrows : List Calls → List Sight → List Arrow
+unfoldable pub all_arrows : List TaskCalls → List TurnSight → List Arrow
 all_arrows calls [] = []
 all_arrows calls (t ∷ turns) = arrows_of_notes t.turn calls t.notes ++ all_arrows (calls_at_end_of t.turn calls t.notes) turns
 
-abbrev pub events_of : Sight → List Event
+abbrev pub events_of : TurnSight → List TurnNote
 events_of t = map (λ n. (t.turn, n)) (filter is_event t.notes)
 
-abbrev pub all_events : List Sight → List Event
+abbrev pub all_events : List TurnSight → List TurnNote
 all_events turns = flat_map events_of turns

@@ -6,11 +6,11 @@ use Rattle.kernel_abi.specs.declared.Health.TheVariants as health
 use Rattle.kernel_abi.specs.declared.Note.{Note}
 use Rattle.task_table.specs.declared.slot.Wait.{Wait}
 use Rattle.task_table.specs.declared.slot.Wait.TheVariants as wait
-use Rattle.task_table.specs.State.{State}
+use Rattle.task_table.specs.model.State.{State}
 use Rattle.task_table.specs.declared.slot.Phase.{Phase}
 use Rattle.task_table.specs.declared.slot.Phase.TheVariants.{Offered, Taken}
-use Rattle.task_table.specs.Reading.{task_at, call_of, listen_of}
-use Rattle.task_table.specs.Holds.{wait_of}
+use Rattle.task_table.specs.model.Reading.{task_at, call_of, listen_of}
+use Rattle.task_table.specs.kept.Holds.{wait_of}
 use Rattle.board_model.specs.declared.outcomes.Level.TheVariants.{Calls}
 use Rattle.board_model.specs.declared.outcomes.Turned.{Turned}
 use Rattle.board_model.specs.declared.outcomes.Turned.TheVariants.{Idle, Ran}
@@ -65,20 +65,20 @@ unfoldable pub words_in : Scenario → State → List Word
 words_in x s = map (word_in x s) (range_with_len 0 (length s.tasks))
 
 -- what is seen of a turn
-pub record Sight : Type 0 where
+pub record TurnSight : Type 0 where
   pub turn : ℕ
   pub words : List Word
   pub notes : List Note
 
-abbrev pub sight : Scenario → State → Sight
+abbrev pub sight : Scenario → State → TurnSight
 sight x s = record { turn = s.turn; words = words_in x s; notes = (turn Calls x s).notes }
 
 -- a turn that is made unless the run ends before it
-abbrev pub unless : Option End → Sight → List Sight → List Sight
+abbrev pub unless : Option End → TurnSight → List TurnSight → List TurnSight
 unless (Some e) first more = []
 unless None first more = first ∷ more
 
 -- the turns of the run from a state, with at most so many
-unfoldable pub sights : Scenario → ℕ → State → List Sight
+unfoldable pub sights : Scenario → ℕ → State → List TurnSight
 sights x zero s = []
 sights x (suc left) s = unless (ending x (suc left) s) (sight x s) (sights x left (turn Calls x s).state)

@@ -3,17 +3,17 @@ ghost use Rattle.std.specs.Prelude.{◌≡◌, ◌≤◌, length, option_to_list
 ghost use Rattle.run_lanes.specs.Told.{arrows_of, by, calls_after, client_of, closed, closed_arrow, has_asked, longer, offered};
 
 use kernel_abi::{Ending, Note};
-use lane_picture::{Arrow, Asked, Calls, Longest, Way};
+use lane_picture::{Arrow, ArrowKind, AskedCall, Longest, TaskCalls};
 
 /// Nothing is offered yet.
-pub const NO_CALLS: Calls = Calls {
+pub const NO_CALLS: TaskCalls = TaskCalls {
     count: 0,
     asked: None,
     longest: None,
 };
 
 // The call that a task has open is this one.
-fn has_asked(call: u32, asked: &Option<Asked>) -> bool
+fn has_asked(call: u32, asked: &Option<AskedCall>) -> bool
     ensures { result ≡ has_asked call asked.now }
 {
     match asked {
@@ -23,7 +23,7 @@ fn has_asked(call: u32, asked: &Option<Asked>) -> bool
 }
 
 // A call, and the index of its client.
-fn by(client: u16, asked: Option<Asked>) -> Option<(u16, Asked)>
+fn by(client: u16, asked: Option<AskedCall>) -> Option<(u16, AskedCall)>
     ensures { result ≡ by client asked }
 {
     match asked {
@@ -33,7 +33,7 @@ fn by(client: u16, asked: Option<Asked>) -> Option<(u16, Asked)>
 }
 
 // The first task that has the call open, and the call.
-fn client_of(calls: &[Calls], call: u32) -> Option<(u16, Asked)>
+fn client_of(calls: &[TaskCalls], call: u32) -> Option<(u16, AskedCall)>
     requires few { length calls.now ≤ 65536 }
     ensures { result ≡ client_of call 0 calls.now }
 {
@@ -62,12 +62,12 @@ fn longer(longest: Option<Longest>, other: Longest) -> Longest
 }
 
 // A task offers one more.
-fn offered(call: u32, server: u16, turn: u32, calls: &Calls) -> Calls
+fn offered(call: u32, server: u16, turn: u32, calls: &TaskCalls) -> TaskCalls
     ensures { result ≡ offered call server turn calls.now }
 {
-    Calls {
+    TaskCalls {
         count: calls.count.saturating_add(1),
-        asked: Some(Asked {
+        asked: Some(AskedCall {
             call,
             server,
             since: turn,
@@ -77,7 +77,7 @@ fn offered(call: u32, server: u16, turn: u32, calls: &Calls) -> Calls
 }
 
 // The one that it had open is closed.
-fn closed(turn: u32, asked: &Asked, calls: &Calls) -> Calls
+fn closed(turn: u32, asked: &AskedCall, calls: &TaskCalls) -> TaskCalls
     ensures { result ≡ closed turn asked.now calls.now }
 {
     let last = Longest {
@@ -85,7 +85,7 @@ fn closed(turn: u32, asked: &Asked, calls: &Calls) -> Calls
         from: asked.since,
         turns: turn.saturating_sub(asked.since),
     };
-    Calls {
+    TaskCalls {
         count: calls.count,
         asked: None,
         longest: Some(longer(calls.longest, last)),
@@ -93,7 +93,7 @@ fn closed(turn: u32, asked: &Asked, calls: &Calls) -> Calls
 }
 
 /// The calls after a note of a turn.
-pub fn renew(turn: u32, note: &Note, calls: &mut [Calls])
+pub fn renew(turn: u32, note: &Note, calls: &mut [TaskCalls])
     requires few { length calls.old ≤ 65536 }
     ensures { calls.new ≡ calls_after turn calls.old note.now }
 {
@@ -122,12 +122,12 @@ pub fn renew(turn: u32, note: &Note, calls: &mut [Calls])
 }
 
 // From the server of a call that is closed back to its client; none where the client ended it.
-fn closed_arrow(turn: u32, ending: Ending, client: u16, asked: &Asked) -> Option<Arrow>
+fn closed_arrow(turn: u32, ending: Ending, client: u16, asked: &AskedCall) -> Option<Arrow>
     ensures { option_to_list result ≡ closed_arrow turn ending (client, asked.now) }
 {
     let way = match ending {
-        Ending::Reply => Way::Answer,
-        Ending::ReplyFault | Ending::Restart => Way::Break,
+        Ending::Reply => ArrowKind::Answer,
+        Ending::ReplyFault | Ending::Restart => ArrowKind::Break,
         Ending::Client => return None,
     };
     Some(Arrow {
@@ -140,14 +140,14 @@ fn closed_arrow(turn: u32, ending: Ending, client: u16, asked: &Asked) -> Option
 }
 
 /// The arrow of a note of a turn, if it has one: of a call that is taken, from the turn of its offer on, and of one that is closed.
-pub fn arrow_of(turn: u32, calls: &[Calls], note: &Note) -> Option<Arrow>
+pub fn arrow_of(turn: u32, calls: &[TaskCalls], note: &Note) -> Option<Arrow>
     requires few { length calls.now ≤ 65536 }
     ensures { option_to_list result ≡ arrows_of turn calls.now note.now }
 {
     match note {
         Note::Take { call, .. } => match client_of(calls, *call) {
             Some((client, asked)) => Some(Arrow {
-                way: Way::Call,
+                way: ArrowKind::Call,
                 from: client,
                 at: asked.since,
                 to: asked.server,

@@ -31,7 +31,7 @@ impl Columns {
     ghost use Rattle.run_lanes.specs.Columned.{Columned};
     ghost use Rattle.run_lanes.specs.Columns.{cells, columns, is_outside, outside};
     ghost use Rattle.run_lanes.specs.Counted.{Changed, both, turned};
-    ghost use Rattle.run_lanes.specs.Words.{Sight};
+    ghost use Rattle.run_lanes.specs.Words.{TurnSight};
 
     /// Before the first turn, of so many tasks.
     ///
@@ -59,7 +59,7 @@ impl Columns {
     fn make_room(&mut self)
         ensures free { self.new.column < 1200 }
         ensures tasks { self.new.tasks ≡ self.old.tasks }
-        ensures room { (turns : List Sight) → length turns < 1000000000 → Columned self.old (length turns) turns → Columned self.new (length turns + 1) turns }
+        ensures room { (turns : List TurnSight) → length turns < 1000000000 → Columned self.old (length turns) turns → Columned self.new (length turns + 1) turns }
     {
         if self.column == MOST_COLUMNS {
             halve(&mut self.cells, self.tasks);
@@ -128,7 +128,7 @@ impl Columns {
     /// A turn more, with what each task does in it and the notes of it.
     pub fn add(&mut self, words: &[Word], notes: &[Note])
         ensures tasks { self.new.tasks ≡ self.old.tasks }
-        ensures added { (turn : ℕ) (turns : List Sight) → length turns < 1000000000 → Columned self.old (length turns) turns →
+        ensures added { (turn : ℕ) (turns : List TurnSight) → length turns < 1000000000 → Columned self.old (length turns) turns →
             Columned self.new (length turns + 1) (turns ++ (record { turn = turn; words = words.now; notes = notes.now } ∷ [])) }
     {
         self.make_room();
@@ -140,7 +140,7 @@ impl Columns {
     /// How many columns are in use.
     pub fn in_use(&self) -> usize
         ensures few { result ≤ 1200 }
-        ensures used { (turns : List Sight) → Columned self.now (length turns) turns → result ≡ columns (length turns) }
+        ensures used { (turns : List TurnSight) → Columned self.now (length turns) turns → result ≡ columns (length turns) }
     {
         if self.inside == 0 {
             self.column
@@ -151,7 +151,7 @@ impl Columns {
 
     /// The cells of the columns in use, one column behind the other.
     pub fn all_cells(&self) -> &[Cell]
-        ensures { (turns : List Sight) → Columned self.now (length turns) turns → result.now ≡ cells self.now.tasks turns }
+        ensures { (turns : List TurnSight) → Columned self.now (length turns) turns → result.now ≡ cells self.now.tasks turns }
     {
         &self.cells[..self.in_use() * self.tasks]
     }
@@ -159,7 +159,7 @@ impl Columns {
     /// In how many turns of each column in use something came from outside.
     pub fn all_outside(&self) -> &[u32]
         ensures few { length result.now ≤ 1200 }
-        ensures used { (turns : List Sight) → Columned self.now (length turns) turns → result.now ≡ outside turns }
+        ensures used { (turns : List TurnSight) → Columned self.now (length turns) turns → result.now ≡ outside turns }
     {
         &self.outside[..self.in_use()]
     }

@@ -2,7 +2,7 @@
 ghost use Rattle.std.specs.Prelude.{◌≡◌, ◌++◌, [], ◌∷◌, ℕ, List, IfOk, codes, decimal, filter, map, option_to_list, string_bytes, vec_capacity};
 ghost use Rattle.run_lanes.specs.First.{IsFirst};
 ghost use Rattle.run_lanes.specs.Names.{fault_name};
-ghost use Rattle.run_lanes.specs.Told.{Event, event_text, is_event, name_of};
+ghost use Rattle.run_lanes.specs.Told.{TurnNote, event_text, is_event, name_of};
 
 use crate::first::First;
 use crate::line::Line;
@@ -23,7 +23,7 @@ fn event_of(turn: u32, note: &Note) -> Option<(u32, Note)>
 
 /// A turn more, with the notes of it.
 pub fn add_events(turn: u32, notes: &[Note], events: &mut First<(u32, Note)>)
-    ensures { (most : ℕ) (xs : List Event) →
+    ensures { (most : ℕ) (xs : List TurnNote) →
         IsFirst most events.old.kept.items (vec_capacity events.old.kept) events.old.all xs →
         IsFirst most events.new.kept.items (vec_capacity events.new.kept) events.new.all (xs ++ map (λ n. (turn, n)) (filter is_event notes.now)) }
 {

@@ -4,7 +4,7 @@ ghost use Rattle.std.specs.Prelude.{◌≡◌, ◌≤◌, vec_len};
 use crate::calls::{NO_CALLS, arrow_of, renew};
 use crate::first::First;
 use kernel_abi::Note;
-use lane_picture::{Arrow, Calls};
+use lane_picture::{Arrow, TaskCalls};
 use std::alloc::{AllocError, Global};
 
 // More are not drawn.
@@ -13,7 +13,7 @@ const MOST_ARROWS: usize = 300;
 /// The calls of each task, and the arrows of all.
 #[derive(Drop)]
 pub struct Exchange {
-    pub calls: Vec<Calls>,
+    pub calls: Vec<TaskCalls>,
     pub arrows: First<Arrow>,
     ghost few: { vec_len calls ≤ 65536 },
 }

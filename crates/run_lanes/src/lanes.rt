@@ -1,6 +1,6 @@
 //! What is kept of the turns so far: of each task what it has done and since when, and the call that it offered last.
 ghost use Rattle.std.specs.Prelude.{◌≡◌, IfOk};
-ghost use Rattle.run_lanes.specs.Timeline.{Kept, all_renewed, client_from, kept_none, is_of_call, offers_after, renewed, server_in, server_thread_of, word_at};
+ghost use Rattle.run_lanes.specs.Timeline.{all_renewed, client_from, kept_none, is_of_call, offers_after, renewed, server_in, server_thread_of, word_at};
 
 use crate::word::Word;
 use kernel_abi::Note;
@@ -8,7 +8,7 @@ use std::alloc::{AllocError, Global};
 
 /// What a task has done since a turn.
 #[derive(Clone, Copy)]
-pub struct Stretch {
+pub struct LaneStretch {
     pub word: Word,
     pub since: u32,
 }
@@ -23,7 +23,7 @@ pub struct Offer {
 /// A place for each task, made once for all turns.
 #[derive(Drop)]
 pub struct Lanes {
-    pub stretches: Vec<Stretch>,
+    pub stretches: Vec<LaneStretch>,
     pub offers: Vec<Option<Offer>>,
 }
 
@@ -38,7 +38,7 @@ impl Lanes {
     pub fn open(alloc: Global, tasks: usize, turn: u32) -> Result<Lanes, AllocError>
         ensures { IfOk result (λ l. kept_of l ≡ kept_none tasks turn) }
     {
-        let nothing_yet = Stretch {
+        let nothing_yet = LaneStretch {
             word: Word::Ready,
             since: turn,
         };
@@ -48,15 +48,15 @@ impl Lanes {
     }
 }
 
-impl Stretch {
+impl LaneStretch {
     /// What a task has done after a turn in which it did this.
-    pub fn renewed(&self, turn: u32, word: Word) -> Stretch
+    pub fn renewed(&self, turn: u32, word: Word) -> LaneStretch
         ensures { result ≡ renewed turn self.now word }
     {
         if self.word.is_same(word) {
             *self
         } else {
-            Stretch { word, since: turn }
+            LaneStretch { word, since: turn }
         }
     }
 }
@@ -73,7 +73,7 @@ pub fn word_at(words: &[Word], i: usize) -> Word
 }
 
 /// What the tasks have done after a turn in which they did this.
-pub fn renew_all(turn: u32, words: &[Word], stretches: &mut [Stretch])
+pub fn renew_all(turn: u32, words: &[Word], stretches: &mut [LaneStretch])
     ensures { stretches.new ≡ all_renewed turn stretches.old words.now }
 {
     for i in 0..stretches.len() {

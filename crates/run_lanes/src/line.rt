@@ -1,6 +1,6 @@
 //! Events of a timeline (docs/FORMATS.md, Timeline), each a line in a buffer of 160 bytes that is empty before. It begins with the
 //! `,` and the LF that end the line before it.
-ghost use Rattle.std.specs.Prelude.{◌≡◌, ◌≤◌, ◌+◌, ◌++◌, ◌^◌, ◌<◌, [], length, codes};
+ghost use Rattle.std.specs.Prelude.{◌≡◌, ◌≤◌, ◌+◌, ◌++◌, ◌<◌, [], length, codes};
 ghost use Rattle.arrayvec.specs.ArrayString.{array_string_len};
 ghost use Rattle.trace_text.specs.Text.{fed_name, handled_name};
 ghost use Rattle.run_lanes.specs.Names.{fault_name, syscall_name};

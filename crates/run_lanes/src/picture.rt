@@ -1,6 +1,6 @@
 //! A run as a picture (docs/FORMATS.md, Picture).
 ghost use Rattle.std.specs.Prelude.{◌≡◌, ◌≤◌, ◌+◌, ◌-◌, List, IfOk, length, map, string_bytes};
-ghost use Rattle.task_table.specs.State.{State};
+ghost use Rattle.task_table.specs.model.State.{State};
 ghost use Rattle.board_model.specs.declared.outcomes.Level.TheVariants.{Calls};
 ghost use Rattle.board_model.specs.Script.{Scenario};
 ghost use Rattle.board_model.specs.Run.{Run, run};
@@ -9,7 +9,7 @@ ghost use Rattle.board_core.specs.Stands.{Stands, Stood, count_of, turns_of};
 ghost use Rattle.lane_picture.specs.Drawing.{drawing_text};
 ghost use Rattle.run_lanes.specs.Painted.{Painted, Paints};
 ghost use Rattle.run_lanes.specs.Pictured.{drawn, picture_text};
-ghost use Rattle.run_lanes.specs.Words.{Sight, sights};
+ghost use Rattle.run_lanes.specs.Words.{TurnSight, sights};
 
 use crate::canvas::Canvas;
 use crate::events::event_texts;
@@ -17,7 +17,7 @@ use crate::watching::watch;
 use crate::word::Word;
 use board_core::{Board, End};
 use board_run::end_name;
-use lane_picture::{Picture, draw};
+use lane_picture::{LanePicture, draw};
 use std::alloc::{AllocError, Global};
 
 // Turns up to the end of the run, as a canvas sees them.
@@ -49,12 +49,12 @@ fn paint(
     end: End,
 ) -> Result<Vec<u8>, AllocError>
     requires few { length names.now ≤ 65536 }
-    requires painted { (seen : List Sight) × Painted (length names.now) canvas.now seen }
-    ensures { (r : Run) (seen : List Sight) → Painted (length names.now) canvas.now seen → turns ≡ length seen → ticks ≡ r.last.now → end ≡ r.end →
+    requires painted { (seen : List TurnSight) × Painted (length names.now) canvas.now seen }
+    ensures { (r : Run) (seen : List TurnSight) → Painted (length names.now) canvas.now seen → turns ≡ length seen → ticks ≡ r.last.now → end ≡ r.end →
         IfOk result (λ v. v.items ≡ drawing_text (drawn title.now (map string_bytes names.now) r seen)) }
 {
     let events = event_texts(alloc, names, &canvas.events.kept)?;
-    let picture = Picture {
+    let picture = LanePicture {
         title,
         ending: end_name(end),
         turns,

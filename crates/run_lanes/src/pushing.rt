@@ -1,17 +1,17 @@
 //! Events go to a sink, one push each. After a failing push nothing more is pushed.
-ghost use Rattle.std.specs.Prelude.{◌≡◌, ◌≤◌, ◌<◌, ◌+◌, ◌++◌, ◌^◌, IfOk, length, string_bytes};
+ghost use Rattle.std.specs.Prelude.{◌≡◌, ◌<◌, ◌+◌, ◌++◌, ◌^◌, IfOk, length, string_bytes};
 ghost use Rattle.std.specs.List.{flat_map};
 ghost use Rattle.outside_io.specs.Outside.{HasCause, Pushes};
 ghost use Rattle.run_lanes.specs.Timeline.{ended_text, note_text, notes_text, offers_at_end, order_text, orders_text, outside_text, over_text, overs_text, rests_text, tail_text};
 
-use crate::lanes::{Offer, Stretch, hear, word_at};
+use crate::lanes::{LaneStretch, Offer, hear, word_at};
 use crate::line::{Line, note_line, order_line, stretch_line};
 use crate::word::Word;
 use kernel_abi::Note;
 use outside_io::{Failed, Sink};
 
 // A stretch of a task that ends before a turn, unless it has no turn.
-fn push_ended<S: Sink>(turn: u32, i: usize, stretch: Stretch, out: &mut S) -> Result<(), Failed>
+fn push_ended<S: Sink>(turn: u32, i: usize, stretch: LaneStretch, out: &mut S) -> Result<(), Failed>
     requires few { i + 1 < 2 ^ 64 }
     ensures bytes { Pushes (S.seen out.old).written (S.seen out.new).written (ended_text turn i stretch) result }
     ensures cause { HasCause (S.seen out.old).faults (S.seen out.new).faults result }
@@ -29,7 +29,7 @@ fn push_ended<S: Sink>(turn: u32, i: usize, stretch: Stretch, out: &mut S) -> Re
 fn push_if_over<S: Sink>(
     turn: u32,
     i: usize,
-    stretch: Stretch,
+    stretch: LaneStretch,
     word: Word,
     out: &mut S,
 ) -> Result<(), Failed>
@@ -46,7 +46,7 @@ fn push_if_over<S: Sink>(
 /// The stretches that are over where each task does this in a turn.
 pub fn push_overs<S: Sink>(
     turn: u32,
-    stretches: &[Stretch],
+    stretches: &[LaneStretch],
     words: &[Word],
     out: &mut S,
 ) -> Result<(), Failed>
@@ -60,7 +60,7 @@ pub fn push_overs<S: Sink>(
 }
 
 /// The stretches in which the tasks are, where the run ends before a turn.
-pub fn push_rests<S: Sink>(turn: u32, stretches: &[Stretch], out: &mut S) -> Result<(), Failed>
+pub fn push_rests<S: Sink>(turn: u32, stretches: &[LaneStretch], out: &mut S) -> Result<(), Failed>
     ensures bytes { Pushes (S.seen out.old).written (S.seen out.new).written (rests_text turn stretches.now) result }
     ensures cause { HasCause (S.seen out.old).faults (S.seen out.new).faults result }
 {

@@ -2,7 +2,7 @@
 ghost use Rattle.std.specs.Prelude.{◌≡◌, ◌≤◌, ◌+◌, ◌-◌, ◌++◌, IfOk, IfErr, length, map, string_bytes};
 ghost use Rattle.std.specs.List.{flat_map};
 ghost use Rattle.outside_io.specs.Outside.{HasCause, Pushes, Rose};
-ghost use Rattle.task_table.specs.State.{State};
+ghost use Rattle.task_table.specs.model.State.{State};
 ghost use Rattle.board_model.specs.declared.outcomes.Level.TheVariants.{Calls};
 ghost use Rattle.board_model.specs.Script.{Scenario};
 ghost use Rattle.board_model.specs.Run.{run};

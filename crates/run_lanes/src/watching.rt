@@ -1,7 +1,7 @@
 //! The loop over turns, each of which is seen with what every task does in it.
 ghost use Rattle.std.specs.Prelude.{◌≡◌, ◌≤◌, ◌<◌, ◌+◌, ◌-◌, ℕ, List, ◌++◌, ◌∷◌, [], map, length, slice_index_or, if◌then◌else◌, IfOk, OnOk, OnErr, MatchResult};
 ghost use Rattle.std.specs.List.{range_with_len};
-ghost use Rattle.task_table.specs.State.{State};
+ghost use Rattle.task_table.specs.model.State.{State};
 ghost use Rattle.board_model.specs.declared.outcomes.Level.TheVariants.{Calls};
 ghost use Rattle.board_model.specs.Script.{Scenario};
 ghost use Rattle.board_model.specs.Run.{run};
@@ -11,7 +11,7 @@ ghost use Rattle.board_core.specs.Views.{IsTask};
 ghost use Rattle.run_lanes.specs.declared.word.Word.{Word as Said};
 ghost use Rattle.run_lanes.specs.declared.word.Word.TheVariants as said;
 ghost use Rattle.run_lanes.specs.Seen.{BreaksSeeing, Paired};
-ghost use Rattle.run_lanes.specs.Words.{Sight, is_of, sights, waiting};
+ghost use Rattle.run_lanes.specs.Words.{TurnSight, is_of, sights, waiting};
 
 use crate::word::{Word, word_of};
 use board_core::{Board, End, Level, TaskView, Turned};
@@ -25,10 +25,10 @@ use outside_io::Failed;
 /// them where that fails.
 pub trait Watcher<O> {
     /// From this watcher and output, all of these turns were seen, and they are then those.
-    ghost saw: { Self → O → List Sight → Self → O → Type 0 };
+    ghost saw: { Self → O → List TurnSight → Self → O → Type 0 };
 
     /// The seeing of these turns failed on the way.
-    ghost broke: { Self → O → List Sight → Self → O → Type 0 };
+    ghost broke: { Self → O → List TurnSight → Self → O → Type 0 };
 
     /// A turn, with what each task does in it and the notes of it.
     fn see(&mut self, turn: u32, words: &[Word], notes: &[Note], out: &mut O) -> Result<(), Failed>
@@ -40,8 +40,8 @@ pub trait Watcher<O> {
     /// nothing, and is a law.
     fn sees_in_parts()
         ensures nothing { (w : Self) (o : O) → saw w o [] w o }
-        ensures parts { (u v w : Self) (o p q : O) (a b : List Sight) → saw u o a v p → saw v p b w q → saw u o (a ++ b) w q }
-        ensures fails { (u v w : Self) (o p q : O) (a b : List Sight) → saw u o a v p → broke v p b w q → broke u o (a ++ b) w q };
+        ensures parts { (u v w : Self) (o p q : O) (a b : List TurnSight) → saw u o a v p → saw v p b w q → saw u o (a ++ b) w q }
+        ensures fails { (u v w : Self) (o p q : O) (a b : List TurnSight) → saw u o a v p → broke v p b w q → broke u o (a ++ b) w q };
 }
 
 /// What a task is between turns.

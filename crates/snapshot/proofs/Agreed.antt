@@ -1,5 +1,5 @@
 -- What a wait that agrees with the others says of a call, and of a listen.
-use Rattle.std.proofs.Common.{◌≡◌, ◌≢◌, ◌∙◌, ◌+◌, ◌*◌, ◌/◌, ◌%◌, ◌<◌, ◌≤◌, inl, inr, ℕ, zero, suc, Bool, true, false, not, ◌&&◌, ◌||◌, cond, eqb, ltb, leb, List, [], map, Option, Some, None, is_none, arith, ap, sym, refl}
+use Rattle.std.proofs.Common.{◌≡◌, ◌≢◌, ◌∙◌, ◌+◌, ◌*◌, ◌/◌, ◌%◌, ◌<◌, ◌≤◌, inl, inr, ℕ, zero, suc, Bool, true, false, not, ◌&&◌, ◌||◌, cond, eqb, ltb, leb, List, [], map, Some, None, arith, ap, sym, refl}
 use Rattle.std.proofs.lemmas.Option.{cond_some}
 use Rattle.std.specs.Prelude.{bit_and}
 use Rattle.std.proofs.Math.ListN.{get_or-map}
@@ -9,15 +9,15 @@ use Rattle.region_check.specs.declared.Region.{Region}
 use Rattle.region_check.specs.declared.Right.{Right}
 use Rattle.region_check.specs.declared.Right.TheVariants.{Read, Write}
 use Rattle.region_check.specs.Rights.{first_bad}
-use Rattle.task_table.specs.State.{Setup, TaskSetup, Birth, Call, Listen, Any, One, KernelOnly}
+use Rattle.task_table.specs.model.State.{Setup, TaskSetup, Birth, Call, Listen, Any, One, KernelOnly}
 use Rattle.task_table.specs.declared.slot.Phase.TheVariants.{Offered, Taken}
 use Rattle.task_table.specs.declared.slot.Slice.{Slice}
-use Rattle.task_table.specs.Reading.{is_valid, bad_byte, admits}
+use Rattle.task_table.specs.model.Reading.{is_valid, bad_byte, admits}
 use Rattle.snapshot.specs.declared.records.TaskRecord.{TaskRecord}
 use Rattle.snapshot.specs.Causes.{word, any_below}
 use Rattle.snapshot.specs.Waits.{regions_at, is_call, is_listen, server_id, names_other, has_number, is_granted, is_live_call, may_call, is_good_call, fits, is_live_listen, is_good_listen, is_good_wait}
 use Rattle.snapshot.specs.Restored.{birth_from, phase_from, senders_from, call_from, listen_from, call_in, listen_in}
-use Rattle.task_table.proofs.Frames.{none_is}
+use Rattle.task_table.proofs.model.Frames.{none_is}
 
 -- ## tests
 

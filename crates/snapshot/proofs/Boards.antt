@@ -8,11 +8,11 @@ use Rattle.std.proofs.lemmas.List.FromFn.{length-map-range_with_len, get_or-map-
 use Rattle.kernel_abi.specs.declared.Kind.TheVariants.{Console}
 use Rattle.kernel_abi.specs.Devices.{DeviceData, device_at}
 use Rattle.mem_banks.specs.Memory.{Memory, AreAllBytes}
-use Rattle.task_table.specs.Parts.{IsSound}
-use Rattle.task_table.specs.Placed.{ArePlaced}
-use Rattle.task_table.specs.Start.{start}
-use Rattle.task_table.specs.State.{Setup, State, TaskSetup}
-use Rattle.task_table.specs.Sane.{Sane, IsCounted}
+use Rattle.task_table.specs.kept.Parts.{IsSound}
+use Rattle.task_table.specs.model.Placed.{ArePlaced}
+use Rattle.task_table.specs.model.Start.{start}
+use Rattle.task_table.specs.model.State.{Setup, State, TaskSetup}
+use Rattle.task_table.specs.model.Sane.{Sane, IsCounted}
 use Rattle.board_model.specs.Script.{Scenario}
 use Rattle.board_core.specs.declared.board.Board.{Board}
 use Rattle.board_core.specs.Data.{Shows}

@@ -2,8 +2,8 @@
 use Rattle.std.proofs.Common.{◌≤◌, Bool, true, false, length, arith}
 use Rattle.thumb_exec.specs.declared.cpu.Cpu.{Cpu}
 use Rattle.task_table.specs.declared.kernel.Kernel.{Kernel}
-use Rattle.task_table.specs.State.{Setup, State, Turn}
-use Rattle.task_table.specs.Holds.{Holds}
+use Rattle.task_table.specs.model.State.{Setup, State, Turn}
+use Rattle.task_table.specs.kept.Holds.{Holds}
 use Rattle.board_model.specs.Script.{Scenario}
 use Rattle.board_core.specs.declared.board.Board.{Board}
 use Rattle.board_core.specs.declared.reach.Reach.{Reach}

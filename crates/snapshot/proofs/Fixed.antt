@@ -16,17 +16,17 @@ use Rattle.run_script.specs.declared.events.Event.{Event}
 use Rattle.run_script.specs.declared.events.Event.TheVariants.{Tick, Irq, Feed}
 use Rattle.run_script.specs.Scripts.{events_of}
 use Rattle.task_table.specs.declared.slot.Slice.{Slice}
-use Rattle.task_table.specs.State.{Setup, LineSetup, State, Call, Listen, Ground, Own, Message, Turn}
-use Rattle.task_table.specs.Reading.{task_at, line_at, call_of, listen_of, admits, chosen, line_off}
-use Rattle.task_table.specs.Effects.{with_task, with_listen, with_call, with_taken, without_call, without_listen, changed, noted, with_processor, with_health, stored, copied, looked, given, returned, past_syscall, bits_added, bits_cleared, woken_by, woken, posted, with_timer, clocked, with_line, with_devices, closed, faulted_as, offered, handed, reborn, is_to, awaits, dead_answered, restarted}
-use Rattle.task_table.specs.Events.{expired_by, expired, ticked, owner_of, interrupted_by, interrupted, fed}
-use Rattle.task_table.specs.Sends.{taken_at_once, offers_call}
-use Rattle.task_table.specs.Start.{begun}
-use Rattle.task_table.specs.Sane.{Sane}
-use Rattle.task_table.specs.Chain.{Chain}
-use Rattle.task_table.specs.Grounds.{IsReached, AreReached, Untouched, Once}
-use Rattle.task_table.specs.Step.{Step, Notes, Gives, Returns, PassesSyscall, Runs, Clears, Posts, Times, Lines, Listens, Sends, Receives, Stores, Copies, Reaches, Looks, Borrows, Ceases, Halts, Strikes, Restarts}
-use Rattle.task_table.proofs.Chains.{chain_keeps}
+use Rattle.task_table.specs.model.State.{Setup, LineSetup, State, Call, Listen, Ground, Own, Message, Turn}
+use Rattle.task_table.specs.model.Reading.{task_at, line_at, call_of, listen_of, admits, chosen, line_off}
+use Rattle.task_table.specs.model.Effects.{with_task, with_listen, with_call, with_taken, without_call, without_listen, changed, noted, with_processor, with_health, stored, copied, looked, given, returned, past_syscall, bits_added, bits_cleared, woken_by, woken, posted, with_timer, clocked, with_line, with_devices, closed, faulted_as, offered, handed, reborn, is_to, awaits, dead_answered, restarted}
+use Rattle.task_table.specs.model.Events.{expired_by, expired, ticked, owner_of, interrupted_by, interrupted, fed}
+use Rattle.task_table.specs.model.Sends.{taken_at_once, offers_call}
+use Rattle.task_table.specs.model.Start.{begun}
+use Rattle.task_table.specs.model.Sane.{Sane}
+use Rattle.task_table.specs.model.Chain.{Chain}
+use Rattle.task_table.specs.model.Grounds.{IsReached, AreReached, Untouched, Once}
+use Rattle.task_table.specs.model.Step.{Step, Notes, Gives, Returns, PassesSyscall, Runs, Clears, Posts, Times, Lines, Listens, Sends, Receives, Stores, Copies, Reaches, Looks, Borrows, Ceases, Halts, Strikes, Restarts}
+use Rattle.task_table.proofs.model.Chains.{chain_keeps}
 use Rattle.board_model.specs.declared.outcomes.Level.{Level}
 use Rattle.board_model.specs.Script.{Scenario}
 use Rattle.board_model.specs.Turn.{happened, after_events, with_current, turn_of, ended, turn}

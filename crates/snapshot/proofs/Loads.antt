@@ -12,15 +12,15 @@ use Rattle.kernel_abi.specs.declared.Kind.TheVariants.{Console}
 use Rattle.kernel_abi.specs.Devices.{DeviceData, device_at}
 use Rattle.task_table.specs.declared.Line.{Line}
 use Rattle.task_table.specs.declared.slot.Slot.{Slot}
-use Rattle.task_table.specs.State.{Setup, State}
-use Rattle.task_table.specs.Reading.{task_at, line_at, call_of, listen_of, no_line, IsSameBut}
-use Rattle.task_table.specs.Effects.{with_task}
-use Rattle.task_table.specs.Holds.{packed, packed_task, wait_of}
-use Rattle.task_table.specs.Sane.{Sane}
-use Rattle.task_table.specs.Setting.{with_slot, AreKeptAlike}
-use Rattle.task_table.proofs.Changes.{length-with_task}
-use Rattle.task_table.proofs.KeptAlike.{packed_other}
-use Rattle.task_table.proofs.Setting.{same_but-with_slot, kept-with_slot}
+use Rattle.task_table.specs.model.State.{Setup, State}
+use Rattle.task_table.specs.model.Reading.{task_at, line_at, call_of, listen_of, no_line, IsSameBut}
+use Rattle.task_table.specs.model.Effects.{with_task}
+use Rattle.task_table.specs.kept.Holds.{packed, packed_task, wait_of}
+use Rattle.task_table.specs.model.Sane.{Sane}
+use Rattle.task_table.specs.kept.Setting.{with_slot, AreKeptAlike}
+use Rattle.task_table.proofs.model.Changes.{length-with_task}
+use Rattle.task_table.proofs.kept.KeptAlike.{packed_other}
+use Rattle.task_table.proofs.kept.Setting.{same_but-with_slot, kept-with_slot}
 use Rattle.board_core.specs.Setting.{slot_told}
 use Rattle.board_core.proofs.Told.{devices-with_slot}
 use Rattle.snapshot.specs.declared.records.Header.{Header}

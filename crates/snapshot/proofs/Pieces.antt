@@ -6,9 +6,9 @@ use Rattle.std.proofs.lemmas.List.{take-append-drop}
 use Rattle.std.proofs.lemmas.Bool.{or_parts, eqb-true, ltb-false}
 use Rattle.mem_banks.specs.Memory.{AreAllBytes}
 use Rattle.kernel_abi.specs.Devices.{DeviceData, IsSaneDevice}
-use Rattle.task_table.specs.Placed.{ArePlaced}
-use Rattle.task_table.specs.State.{Setup, LineSetup}
-use Rattle.task_table.specs.Sane.{IsOwned}
+use Rattle.task_table.specs.model.Placed.{ArePlaced}
+use Rattle.task_table.specs.model.State.{Setup, LineSetup}
+use Rattle.task_table.specs.model.Sane.{IsOwned}
 use Rattle.snapshot.specs.declared.records.DeviceRecord.{DeviceRecord}
 use Rattle.snapshot.specs.Causes.{is_bad_line}
 use Rattle.snapshot.specs.Accepted.{IsGoodDevice}

@@ -11,15 +11,15 @@ use Rattle.kernel_abi.specs.declared.Kind.{Kind}
 use Rattle.kernel_abi.specs.declared.Kind.TheVariants.{Console}
 use Rattle.kernel_abi.specs.Devices as device
 use Rattle.task_table.specs.declared.Line.{Line}
-use Rattle.task_table.specs.Start.{start}
-use Rattle.task_table.specs.Parts.{IsSound}
-use Rattle.task_table.specs.State.{Setup, TaskSetup, Birth, Call, Listen, From, Any, One, KernelOnly, State, Task}
-use Rattle.task_table.specs.Reading.{task_at, line_at, call_of, listen_of, no_task, no_line}
-use Rattle.task_table.specs.Sane.{Sane, IsSaneTask, AreLines, AreAhead, Every, IsCounted, IsOwned}
+use Rattle.task_table.specs.model.Start.{start}
+use Rattle.task_table.specs.kept.Parts.{IsSound}
+use Rattle.task_table.specs.model.State.{Setup, TaskSetup, Birth, Call, Listen, From, Any, One, KernelOnly, State, Task}
+use Rattle.task_table.specs.model.Reading.{task_at, line_at, call_of, listen_of, no_task, no_line}
+use Rattle.task_table.specs.model.Sane.{Sane, IsSaneTask, AreLines, AreAhead, Every, IsCounted, IsOwned}
 use Rattle.board_model.specs.Alike.{reduced, seen, seen_task, seen_call, seen_listen, seen_from}
 use Rattle.image_format.specs.Picture.{AreBytes}
 use Rattle.snapshot.specs.Records as file
-use Rattle.snapshot.specs.Records.{Parts, num, header_at, task_in, device_in, tasks_at, devices_at, parts_at, bytes_of, total, devices_place, ram_place}
+use Rattle.snapshot.specs.Records.{header_at, task_in, device_in, tasks_at, devices_at, parts_at, bytes_of, total, devices_place, ram_place}
 use Rattle.snapshot.specs.Causes.{kind_at}
 use Rattle.snapshot.specs.Waits.{is_good_wait}
 use Rattle.snapshot.specs.Accepted.{IsGoodRecord, IsGoodDevice, IsAccepted}

@@ -5,14 +5,14 @@ use Rattle.region_check.specs.Rights.{first_bad}
 use Rattle.thumb_insn.specs.Table.{rows, narrow_of, wide_rows, wide_of}
 use Rattle.thumb_exec.specs.Effect.{words, transfers, first_refused, stores_of, loaded_all, ones, count, effect}
 use Rattle.mem_banks.specs.Memory.{bytes_at, with_bytes, copied as copied_memory}
-use Rattle.task_table.specs.State.{Setup, State}
-use Rattle.task_table.specs.Reading.{task_at, line_at, register, arguments, call_of, listen_of, dead_code_for, is_out, is_dead, is_ready, bad_byte, chosen, offer_by, taken_by, best_sender}
-use Rattle.task_table.specs.Effects.{with_task, without_call, without_listen, with_listen, with_call, offered, with_taken, noted, with_processor, with_health, stored, copied, looked, given, returned, past_syscall, bits_added, bits_cleared, woken, posted, with_timer, clocked, with_line, closed, faulted_as, handed}
-use Rattle.task_table.specs.Events.{ticked, owner_of, interrupted}
-use Rattle.task_table.specs.Rows.{panicked, timer_set, timer_answered, irq_controlled, received, syscall_noted}
-use Rattle.task_table.specs.Sends.{sent, replied}
-use Rattle.task_table.specs.Syscalls.{syscall_made}
-use Rattle.task_table.specs.Start.{start, begun}
+use Rattle.task_table.specs.model.State.{Setup, State}
+use Rattle.task_table.specs.model.Reading.{task_at, line_at, register, arguments, call_of, listen_of, dead_code_for, is_out, is_dead, is_ready, bad_byte, chosen, offer_by, taken_by, best_sender}
+use Rattle.task_table.specs.model.Effects.{with_task, without_call, without_listen, with_listen, with_call, offered, with_taken, noted, with_processor, with_health, stored, copied, looked, given, returned, past_syscall, bits_added, bits_cleared, woken, posted, with_timer, clocked, with_line, closed, faulted_as, handed}
+use Rattle.task_table.specs.model.Events.{ticked, owner_of, interrupted}
+use Rattle.task_table.specs.model.Rows.{panicked, timer_set, timer_answered, irq_controlled, received, syscall_noted}
+use Rattle.task_table.specs.model.Sends.{sent, replied}
+use Rattle.task_table.specs.model.Syscalls.{syscall_made}
+use Rattle.task_table.specs.model.Start.{start, begun}
 use Rattle.board_model.specs.declared.outcomes.Level.TheVariants.{Calls}
 use Rattle.board_model.specs.Script.{Scenario}
 use Rattle.board_model.specs.Run.{run, ending}

@@ -4,10 +4,10 @@ use Rattle.std.proofs.lemmas.List.{length-replicate}
 use Rattle.kernel_abi.specs.Devices.{DeviceData}
 use Rattle.kernel_abi.specs.declared.Kind.{Kind}
 use Rattle.run_script.specs.Scripts.{events_of}
-use Rattle.task_table.specs.Reading.{no_line}
-use Rattle.task_table.specs.Start.{start}
-use Rattle.task_table.specs.State.{Setup, LineSetup, TaskSetup, State}
-use Rattle.task_table.specs.Sane.{Sane, IsCounted}
+use Rattle.task_table.specs.model.Reading.{no_line}
+use Rattle.task_table.specs.model.Start.{start}
+use Rattle.task_table.specs.model.State.{Setup, LineSetup, TaskSetup, State}
+use Rattle.task_table.specs.model.Sane.{Sane, IsCounted}
 use Rattle.board_model.specs.declared.outcomes.Level.{Level}
 use Rattle.board_model.specs.Alike.{reduced, seen}
 use Rattle.board_model.specs.Run.{run}

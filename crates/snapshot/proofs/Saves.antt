@@ -1,22 +1,22 @@
 -- What is saved of a sane state is accepted.
-use Rattle.std.proofs.Common.{◌≡◌, ◌≢◌, ◌∙◌, ◌+◌, ◌-◌, ◌*◌, ◌/◌, ◌%◌, ◌<◌, ◌≤◌, ◌⊎◌, inl, inr, ℕ, zero, suc, Bool, true, false, not, ◌&&◌, ◌||◌, cond, eqb, ltb, leb, List, [], ◌∷◌, ◌++◌, length, drop, map, get_or, Option, Some, None, IfSome, is_none, arith, ap, subst, sym, refl, length-append}
+use Rattle.std.proofs.Common.{◌≡◌, ◌≢◌, ◌∙◌, ◌+◌, ◌-◌, ◌*◌, ◌/◌, ◌%◌, ◌<◌, ◌≤◌, ℕ, zero, suc, Bool, true, false, not, ◌&&◌, ◌||◌, cond, eqb, ltb, leb, List, [], ◌∷◌, ◌++◌, length, drop, map, get_or, Option, Some, None, IfSome, is_none, arith, ap, subst, sym, refl, length-append}
 use Rattle.std.proofs.lemmas.List.Elements.{Contains-get_or}
-use Rattle.std.specs.Prelude.{Contains, replicate, find, bit_and}
+use Rattle.std.specs.Prelude.{Contains, replicate, bit_and}
 use Rattle.std.specs.List.{range_with_len, list_any}
 use Rattle.std.proofs.Math.ListN.{get_or-map}
 use Rattle.std.proofs.lemmas.List.{length-map, length-replicate}
 use Rattle.std.proofs.lemmas.List.FromFn.{length-map-range_with_len, get_or-map-range_with_len}
-use Rattle.std.proofs.lemmas.Bool.{eqb-true, eq-eqb, lt-ltb, le-leb, false≢true, ne_eqb, and_from, cases_Bool, false_from_ne_true, and_parts}
+use Rattle.std.proofs.lemmas.Bool.{eqb-true, eq-eqb, lt-ltb, le-leb, false≢true, ne_eqb, and_from, false_from_ne_true, and_parts}
 use Rattle.kernel_abi.specs.Ids.{id_of}
 use Rattle.kernel_abi.specs.declared.Health.{Health}
 use Rattle.kernel_abi.specs.declared.Health.TheVariants.{Well, Stopped, Faulted}
 use Rattle.kernel_abi.specs.declared.Timer.{Timer}
-use Rattle.task_table.specs.State.{Setup, LineSetup, Task, Call, Listen, From, Any, One, KernelOnly, State, Birth, TaskSetup}
+use Rattle.task_table.specs.model.State.{Setup, LineSetup, Task, Call, Listen, From, Any, One, KernelOnly, State, Birth, TaskSetup}
 use Rattle.task_table.specs.declared.slot.Phase.{Phase}
 use Rattle.task_table.specs.declared.slot.Phase.TheVariants.{Offered, Taken}
 use Rattle.task_table.specs.declared.slot.Slice.{Slice}
-use Rattle.task_table.specs.Reading.{task_at, line_at, call_of, listen_of, no_task, is_offered, is_valid, bad_byte, admits, same_birth}
-use Rattle.task_table.specs.Sane.{Sane, IsSaneTask, IsFaultKnown, IsOwned, IsCounted}
+use Rattle.task_table.specs.model.Reading.{task_at, line_at, call_of, listen_of, no_task, is_offered, is_valid, bad_byte, admits, same_birth}
+use Rattle.task_table.specs.model.Sane.{Sane, IsSaneTask, IsFaultKnown, IsOwned, IsCounted}
 use Rattle.board_model.specs.Alike.{reduced, seen, seen_task}
 use Rattle.snapshot.specs.declared.records.TaskRecord.{TaskRecord}
 use Rattle.snapshot.specs.declared.records.DeviceRecord.{DeviceRecord}
@@ -37,7 +37,7 @@ use Rattle.region_check.specs.declared.Right.{Right}
 use Rattle.region_check.specs.declared.Right.TheVariants.{Read, Write}
 use Rattle.region_check.specs.Rights.{first_bad}
 use Rattle.snapshot.specs.Saved.{bit, health_number, fault_of, timer_flag, timer_of, from_number, from_id, wait_number, wait_words, record_told, record_of, device_told, line_number, parts_of, expected_of, SpellsState}
-use Rattle.task_table.proofs.Keeps.{found_in}
+use Rattle.task_table.proofs.model.Keeps.{found_in}
 
 -- ## the parts
 

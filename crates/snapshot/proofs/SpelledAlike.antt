@@ -1,23 +1,21 @@
 -- A board that is saved as some bytes stands for each sane state that they spell.
-use Rattle.std.proofs.Common.{◌≡◌, ◌∙◌, ◌+◌, ◌*◌, ◌%◌, ◌<◌, ◌≤◌, ℕ, List, length, get_or, map, Option, Some, None, arith, ap, sym, refl}
+use Rattle.std.proofs.Common.{◌≡◌, ◌∙◌, ◌+◌, ◌*◌, ◌%◌, ◌<◌, ◌≤◌, ℕ, List, length, get_or, Option, Some, None, arith, ap, sym, refl}
 use Rattle.std.specs.Prelude.{option_map}
-use Rattle.std.specs.List.{range_with_len}
 use Rattle.std.proofs.Math.ListN.{get_or-map}
 use Rattle.std.proofs.Math.Nat.{mod-mod}
 use Rattle.std.proofs.lemmas.List.{length-map, ext_get_or}
 use Rattle.std.proofs.lemmas.List.FromFn.{get_or-map-range_with_len}
 use Rattle.kernel_abi.specs.Ids.{id_of}
 use Rattle.kernel_abi.specs.declared.Kind.{Kind}
-use Rattle.kernel_abi.specs.Devices.{DeviceData, device_at}
-use Rattle.task_table.specs.declared.Line.{Line}
+use Rattle.kernel_abi.specs.Devices.{device_at}
 use Rattle.task_table.specs.declared.slot.FromId.TheVariants as from_id
 use Rattle.task_table.specs.declared.slot.Wait.{Wait}
 use Rattle.task_table.specs.declared.slot.Wait.TheVariants as wait
-use Rattle.task_table.specs.State.{Setup, Task, Call, Listen, From, Any, One, KernelOnly, State}
-use Rattle.task_table.specs.Reading.{task_at, line_at, call_of, listen_of, no_line}
-use Rattle.task_table.specs.Holds.{from_id_of, kept_call, kept_listen, packed, packed_task, wait_of}
-use Rattle.task_table.specs.Sane.{Sane, IsCounted}
-use Rattle.task_table.specs.Setting.{AreKeptAlike}
+use Rattle.task_table.specs.model.State.{Setup, Task, Call, Listen, From, Any, One, KernelOnly, State}
+use Rattle.task_table.specs.model.Reading.{task_at, line_at, call_of, listen_of, no_line}
+use Rattle.task_table.specs.kept.Holds.{from_id_of, kept_call, kept_listen, packed, packed_task, wait_of}
+use Rattle.task_table.specs.model.Sane.{Sane, IsCounted}
+use Rattle.task_table.specs.kept.Setting.{AreKeptAlike}
 use Rattle.board_model.specs.Alike.{reduced, seen, seen_task, seen_call, seen_from, seen_listen}
 use Rattle.board_model.specs.Script.{Scenario}
 use Rattle.board_model.proofs.Alike.{call_alike, listen_alike}
@@ -28,7 +26,6 @@ use Rattle.board_core.specs.Data.{Shows}
 use Rattle.board_core.specs.Setting.{slot_told}
 use Rattle.board_core.specs.Stands.{Stands}
 use Rattle.board_core.proofs.KeptAlike.{stands_alike}
-use Rattle.snapshot.specs.declared.records.DeviceRecord.{DeviceRecord}
 use Rattle.snapshot.specs.declared.records.Header.{Header}
 use Rattle.snapshot.specs.declared.records.TaskRecord.{TaskRecord}
 use Rattle.snapshot.specs.Loaded.{sites}

@@ -1,5 +1,5 @@
 -- What a board that stands has of its state, and what bytes must be to spell it.
-use Rattle.std.proofs.Common.{◌≡◌, ◌∙◌, ◌%◌, ◌≤◌, ℕ, Bool, true, false, List, [], ◌∷◌, length, map, refl, sym, ap, subst}
+use Rattle.std.proofs.Common.{◌≡◌, ◌∙◌, ◌%◌, ◌≤◌, ℕ, Bool, true, false, List, length, refl, sym, ap, subst}
 use Rattle.std.specs.Prelude.{Contains}
 use Rattle.std.proofs.Math.Nat.{mod-mod}
 use Rattle.std.proofs.lemmas.List.{length-map}
@@ -8,10 +8,10 @@ use Rattle.mem_banks.specs.Memory.{Memory}
 use Rattle.thumb_exec.specs.declared.cpu.Cpu.{Cpu}
 use Rattle.task_table.specs.declared.kernel.Kernel.{Kernel}
 use Rattle.task_table.specs.declared.Line.{Line}
-use Rattle.task_table.specs.State.{Setup, State, Task, Call, Listen, Turn, From, Any, One, KernelOnly}
-use Rattle.task_table.specs.Effects.{with_processor, with_task}
-use Rattle.task_table.specs.Holds.{Holds}
-use Rattle.task_table.specs.Sane.{Sane}
+use Rattle.task_table.specs.model.State.{Setup, State, Task, Call, Listen, Turn, From, Any, One, KernelOnly}
+use Rattle.task_table.specs.model.Effects.{with_processor, with_task}
+use Rattle.task_table.specs.kept.Holds.{Holds}
+use Rattle.task_table.specs.model.Sane.{Sane}
 use Rattle.board_model.specs.Script.{Scenario}
 use Rattle.board_model.specs.Alike.{reduced, seen, seen_task, seen_call, seen_from, seen_listen}
 use Rattle.board_model.proofs.SaneReduced.{sane-reduced}

@@ -7,7 +7,7 @@ use Rattle.kernel_abi.specs.declared.Health.{Health}
 use Rattle.kernel_abi.specs.declared.Health.TheVariants.{Well, Stopped, Faulted}
 use Rattle.kernel_abi.specs.declared.TaskId.{TaskId}
 use Rattle.kernel_abi.specs.declared.Timer.{Timer}
-use Rattle.task_table.specs.State.{Setup, Task, Call, Listen, From, Any, One, KernelOnly, State}
+use Rattle.task_table.specs.model.State.{Setup, Task, Call, Listen, From, Any, One, KernelOnly, State}
 use Rattle.task_table.specs.declared.slot.FromId.TheVariants as from_id
 use Rattle.task_table.specs.declared.slot.Listening.{Listening}
 use Rattle.task_table.specs.declared.slot.OpenCall.{OpenCall}
@@ -15,10 +15,10 @@ use Rattle.task_table.specs.declared.slot.Phase.{Phase}
 use Rattle.task_table.specs.declared.slot.Phase.TheVariants.{Offered, Taken}
 use Rattle.task_table.specs.declared.slot.Slice.{Slice}
 use Rattle.task_table.specs.declared.slot.Wait.TheVariants as wait
-use Rattle.task_table.specs.Reading.{task_at, call_of, listen_of, is_offered}
-use Rattle.task_table.specs.Holds.{kept_call, from_id_of, wait_of, packed, packed_task}
-use Rattle.task_table.specs.Sane.{Sane}
-use Rattle.task_table.specs.Setting.{IsTold}
+use Rattle.task_table.specs.model.Reading.{task_at, call_of, listen_of, is_offered}
+use Rattle.task_table.specs.kept.Holds.{kept_call, from_id_of, wait_of, packed, packed_task}
+use Rattle.task_table.specs.model.Sane.{Sane}
+use Rattle.task_table.specs.kept.Setting.{IsTold}
 use Rattle.board_model.specs.Alike.{reduced}
 use Rattle.board_core.specs.Setting.{timer_told, slot_told}
 use Rattle.snapshot.specs.declared.records.TaskRecord.{TaskRecord}

@@ -4,7 +4,7 @@ use Rattle.std.proofs.lemmas.Bool.{and_parts, eqb-true, ltb-true, leb-true}
 use Rattle.kernel_abi.specs.Ids.{id_of}
 use Rattle.kernel_abi.specs.declared.Fault.{Fault}
 use Rattle.kernel_abi.specs.declared.Timer.{Timer}
-use Rattle.task_table.specs.Sane.{IsSaneTask, IsFaultKnown}
+use Rattle.task_table.specs.model.Sane.{IsSaneTask, IsFaultKnown}
 use Rattle.snapshot.specs.declared.records.TaskRecord.{TaskRecord}
 use Rattle.snapshot.specs.Causes.{are_zeros, has_words}
 use Rattle.snapshot.specs.Accepted.{IsGoodRecord}

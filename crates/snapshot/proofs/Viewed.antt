@@ -4,9 +4,9 @@ use Rattle.std.specs.Prelude.{option_map, slice_get, unwrap_or}
 use Rattle.std.proofs.lemmas.Option.{unwrap_or-slice_get}
 use Rattle.kernel_abi.specs.declared.Timer.{Timer}
 use Rattle.task_table.specs.declared.Line.{Line}
-use Rattle.task_table.specs.State.{State, Task, Call, Listen, From, Any, One, KernelOnly}
-use Rattle.task_table.specs.Holds.{wait_of, from_id_of}
-use Rattle.task_table.specs.Reading.{task_at, line_at, call_of, listen_of, no_line}
+use Rattle.task_table.specs.model.State.{State, Task, Call, Listen, From, Any, One, KernelOnly}
+use Rattle.task_table.specs.kept.Holds.{wait_of, from_id_of}
+use Rattle.task_table.specs.model.Reading.{task_at, line_at, call_of, listen_of, no_line}
 use Rattle.board_model.specs.Alike.{reduced, seen_call, seen_from, seen_listen}
 use Rattle.board_model.proofs.Alike.{call_alike, listen_alike, line_alike}
 use Rattle.board_model.proofs.GenerationsSeen.{shown_reduced}

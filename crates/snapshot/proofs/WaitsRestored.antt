@@ -1,5 +1,5 @@
 -- The calls and listens that agreeing records give are as those of a sane state are.
-use Rattle.std.proofs.Common.{◌≡◌, ◌≢◌, ◌∙◌, ◌/◌, ◌%◌, ◌<◌, ◌≤◌, inl, inr, ℕ, Bool, true, false, List, length, Some, arith, ap, sym, subst, refl}
+use Rattle.std.proofs.Common.{◌≡◌, ◌≢◌, ◌∙◌, ◌/◌, ◌%◌, ◌<◌, ◌≤◌, inl, inr, ℕ, true, false, List, length, Some, arith, ap, sym, subst, refl}
 use Rattle.std.specs.Prelude.{Contains, filter_map, bit_and}
 use Rattle.std.specs.List.{range_with_len}
 use Rattle.std.proofs.lemmas.Bool.{and_from, eq-eqb, false≢true, false_from_ne_true}
@@ -7,10 +7,10 @@ use Rattle.std.proofs.lemmas.Bool.Decides.{eqb_tells}
 use Rattle.kernel_abi.specs.declared.Health.TheVariants.{Well}
 use Rattle.kernel_abi.specs.declared.Fault.{Fault}
 use Rattle.region_check.specs.declared.Right.TheVariants.{Read, Write}
-use Rattle.task_table.specs.State.{Setup, Birth, Call, Listen, State, Task}
+use Rattle.task_table.specs.model.State.{Setup, Birth, Call, Listen, State, Task}
 use Rattle.task_table.specs.declared.slot.Phase.TheVariants.{Offered}
-use Rattle.task_table.specs.Reading.{task_at, call_of, listen_of, admits}
-use Rattle.task_table.specs.Sane.{IsFitCall, AreCalls, IsFitListen, AreListens, AreWell, ArePresent, AreUnmet, AreUnfit, Every, Both}
+use Rattle.task_table.specs.model.Reading.{task_at, call_of, listen_of, admits}
+use Rattle.task_table.specs.model.Sane.{IsFitCall, AreCalls, IsFitListen, AreListens, AreWell, ArePresent, AreUnmet, AreUnfit, Every, Both}
 use Rattle.snapshot.specs.declared.records.TaskRecord.{TaskRecord}
 use Rattle.snapshot.specs.Causes.{word}
 use Rattle.snapshot.specs.Waits.{is_call, is_listen, server_id, has_number, id_in, offers_to, hears, is_good_wait}

@@ -3,8 +3,8 @@ use Rattle.std.specs.Prelude.{ℕ, zero, suc, ◌+◌, ◌≡◌, ⊤, List, len
 use Rattle.kernel_abi.specs.declared.Kind.{Kind}
 use Rattle.kernel_abi.specs.Devices.{DeviceData, device_at, with_device}
 use Rattle.task_table.specs.declared.Line.{Line}
-use Rattle.task_table.specs.State.{State}
-use Rattle.task_table.specs.Setting.{with_slot}
+use Rattle.task_table.specs.model.State.{State}
+use Rattle.task_table.specs.kept.Setting.{with_slot}
 use Rattle.board_core.specs.Setting.{slot_told}
 use Rattle.snapshot.specs.declared.loading.StateFault.{StateFault}
 use Rattle.snapshot.specs.declared.loading.StateFault.TheVariants as state_fault

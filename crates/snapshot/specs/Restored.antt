@@ -8,7 +8,7 @@ use Rattle.kernel_abi.specs.declared.Timer.{Timer}
 use Rattle.kernel_abi.specs.Devices as device
 use Rattle.words_core.specs.declared.Flags.{Flags}
 use Rattle.task_table.specs.declared.Line.{Line}
-use Rattle.task_table.specs.State.{Setup, Task, Birth, Call, Listen, From, Any, One, KernelOnly, State}
+use Rattle.task_table.specs.model.State.{Setup, Task, Birth, Call, Listen, From, Any, One, KernelOnly, State}
 use Rattle.task_table.specs.declared.slot.Phase.{Phase}
 use Rattle.task_table.specs.declared.slot.Phase.TheVariants.{Offered, Taken}
 use Rattle.task_table.specs.declared.slot.Slice.{Slice}

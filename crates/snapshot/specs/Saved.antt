@@ -9,8 +9,8 @@ use Rattle.kernel_abi.specs.declared.Timer.{Timer}
 use Rattle.kernel_abi.specs.Devices.{DeviceData, queue_limit}
 use Rattle.words_core.specs.declared.Flags.{Flags}
 use Rattle.task_table.specs.declared.Line.{Line}
-use Rattle.task_table.specs.State.{Setup, Task, Call, Listen, From, Any, One, KernelOnly, State}
-use Rattle.task_table.specs.Reading.{task_at, line_at, call_of, listen_of, is_offered}
+use Rattle.task_table.specs.model.State.{Setup, Task, Call, Listen, From, Any, One, KernelOnly, State}
+use Rattle.task_table.specs.model.Reading.{task_at, line_at, call_of, listen_of, is_offered}
 use Rattle.board_model.specs.Alike.{reduced}
 use Rattle.snapshot.specs.declared.records.TaskRecord.{TaskRecord}
 use Rattle.snapshot.specs.declared.records.DeviceRecord.{DeviceRecord}

@@ -10,7 +10,7 @@ use Rattle.task_table.specs.declared.slot.Listening.{Listening}
 use Rattle.task_table.specs.declared.slot.OpenCall.{OpenCall}
 use Rattle.task_table.specs.declared.slot.Wait.{Wait}
 use Rattle.task_table.specs.declared.slot.Wait.TheVariants as wait
-use Rattle.task_table.specs.Reading.{is_offered}
+use Rattle.task_table.specs.model.Reading.{is_offered}
 use Rattle.snapshot.specs.declared.records.TaskRecord.{TaskRecord}
 use Rattle.snapshot.specs.Saved.{bit, health_number, fault_of, flags_number, timer_flag, timer_of}
 

@@ -3,8 +3,8 @@ ghost use Rattle.std.specs.Prelude.{◌≡◌, ◌<◌, ◌≤◌, ◌+◌, ◌*
 ghost use Rattle.kernel_abi.specs.Devices.{AreFresh, device_at, with_device};
 ghost use Rattle.image_format.specs.Images.{picture};
 ghost use Rattle.run_script.specs.Events.{script_data};
-ghost use Rattle.task_table.specs.State.{State};
-ghost use Rattle.task_table.specs.Sane.{Sane, IsCounted};
+ghost use Rattle.task_table.specs.model.State.{State};
+ghost use Rattle.task_table.specs.model.Sane.{Sane, IsCounted};
 ghost use Rattle.board_model.specs.Script.{Scenario, start_of};
 ghost use Rattle.board_core.specs.Data.{boxed};
 ghost use Rattle.board_core.specs.Opened.{setup_of_image, scenario_of};
@@ -122,7 +122,8 @@ fn set_parts(board: &mut Board, tasks: usize, devices: usize, bytes: &[u8])
 pub fn load_into(board: &mut Board, bytes: &[u8])
     requires { (x : Scenario) × (u : State) × Stands (boxed shown) x board.old u × (state_fault (expected_of x.setup u.devices) bytes.now ≡ None) }
     ensures stands { (x : Scenario) (u : State) → Stands (boxed shown) x board.old u → Stands (boxed shown) x board.new (state_in x.setup u.devices bytes.now) }
-    ensures each { (x : Scenario) (u s : State) → Stands (boxed shown) x board.old u → SpellsState x.setup s bytes.now → Sane x.setup s → IsCounted s → sites s.devices ≡ sites u.devices → Stands (boxed shown) x board.new s }
+    ensures each { (x : Scenario) (u s : State) → Stands (boxed shown) x board.old u → SpellsState x.setup s bytes.now
+        → Sane x.setup s → IsCounted s → sites s.devices ≡ sites u.devices → Stands (boxed shown) x board.new s }
 {
     let tasks = board.task_count();
     let devices = board.device_count();
@@ -203,7 +204,8 @@ pub fn load(
     ensures accepted { let x = scenario_of (picture image.now) (script_data script.now) (map shown devices.items) in IfOk result (λ b. state_fault (expected_of x.setup x.devices) bytes.now ≡ None) }
     ensures start { let x = scenario_of (picture image.now) (script_data script.now) (map shown devices.items) in IfOk result (λ b. Sane x.setup (start_of x)) }
     ensures stands { let x = scenario_of (picture image.now) (script_data script.now) (map shown devices.items) in IfOk result (λ b. Stands shown x b (state_in x.setup x.devices bytes.now)) }
-    ensures each { let x = scenario_of (picture image.now) (script_data script.now) (map shown devices.items) in IfOk result (λ b. (s : State) → SpellsState x.setup s bytes.now → Sane x.setup s → IsCounted s → sites s.devices ≡ sites x.devices → Stands shown x b s) }
+    ensures each { let x = scenario_of (picture image.now) (script_data script.now) (map shown devices.items) in
+        IfOk result (λ b. (s : State) → SpellsState x.setup s bytes.now → Sane x.setup s → IsCounted s → sites s.devices ≡ sites x.devices → Stands shown x b s) }
     ensures turns { IfOk result (λ b. turns_of b ≡ (header_at bytes.now).turn) }
     ensures refused { let x = scenario_of (picture image.now) (script_data script.now) (map shown devices.items) in IfErr result (IsStateFault (state_fault (expected_of x.setup x.devices) bytes.now)) }
 {

@@ -1,6 +1,5 @@
 //! What a board shows, as the records of a saved state.
-ghost use Rattle.std.specs.Prelude.{◌≡◌, ◌≤◌, length};
-ghost use Rattle.std.specs.Option.{option_map};
+ghost use Rattle.std.specs.Prelude.{◌≡◌, ◌≤◌};
 ghost use Rattle.board_core.specs.DeviceViews.{device_told as data_of_view};
 ghost use Rattle.snapshot.specs.Saved.{bit, health_number, fault_of, flags_number, timer_flag, timer_of, device_told};
 ghost use Rattle.snapshot.specs.Shown.{sender_number, sender_id, shown_number, call_words, listen_words, shown_words, timer_shown, record_shown, line_shown};

@@ -3,9 +3,8 @@ use Rattle.std.proofs.Common.{◌≡◌, ◌∙◌, ℕ, ◌-◌, ◌≤◌, Lis
 use Rattle.std.proofs.lemmas.List.Sums.{fold-append}
 use Rattle.kernel_abi.specs.declared.Note.{Note}
 use Rattle.run_script.specs.Scripts.{Listed, ScriptData, events_of, lasts}
-use Rattle.task_table.specs.State.{State}
-use Rattle.task_table.specs.Sane.{Sane}
-use Rattle.task_table.specs.Start.{start}
+use Rattle.task_table.specs.model.State.{State}
+use Rattle.task_table.specs.model.Sane.{Sane}
 use Rattle.board_model.specs.declared.outcomes.End.{End}
 use Rattle.board_model.specs.declared.outcomes.End.TheVariants.{Bound}
 use Rattle.board_model.specs.declared.outcomes.Level.TheVariants.{Calls}
@@ -19,18 +18,11 @@ use Rattle.board_model.proofs.AlikeRuns.{reduced-run}
 use Rattle.board_model.proofs.Forks.{before, no_further}
 use Rattle.board_model.proofs.RunCuts.{cut, sane-cut}
 use Rattle.board_model.proofs.SameScripts.{same_run}
+use Rattle.board_model.proofs.SameTurn.{first_turn, same_turn}
 use Rattle.sweep_core.specs.declared.tally.Tally.{Tally}
 use Rattle.sweep_core.specs.Outcomes.{heard, heard_note, nothing_heard}
 use Rattle.sweep_core.specs.Sweeping.{IsAsGood}
 use Rattle.board_run.proofs.Going.{kept_last}
-
-pub first_turn : (x : Scenario) → (start_of x).turn ≡ 0
-unfolding start
-first_turn x = refl
-
-pub same_turn : (s u : State) → reduced s ≡ reduced u → s.turn ≡ u.turn
-unfolding seen
-same_turn s u e = ap (λ (v : State). v.turn) e
 
 pub same_ram : (s u : State) → reduced s ≡ reduced u → s.memory.ram ≡ u.memory.ram
 unfolding seen

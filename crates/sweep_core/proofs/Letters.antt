@@ -5,10 +5,10 @@ use Rattle.std.specs.List.{range_with_len}
 use Rattle.std.proofs.lemmas.List.FromFn.{map-range_with_len_more}
 use Rattle.kernel_abi.specs.declared.Health.{Health}
 use Rattle.kernel_abi.specs.declared.Health.TheVariants.{Well, Stopped, Faulted}
-use Rattle.task_table.specs.State as kernel
-use Rattle.task_table.specs.State.{State, Listen, Task}
-use Rattle.task_table.specs.Holds.{wait_of}
-use Rattle.task_table.specs.Reading.{task_at, call_of, listen_of}
+use Rattle.task_table.specs.model.State as kernel
+use Rattle.task_table.specs.model.State.{State, Listen, Task}
+use Rattle.task_table.specs.kept.Holds.{wait_of}
+use Rattle.task_table.specs.model.Reading.{task_at, call_of, listen_of}
 use Rattle.board_model.specs.Alike.{but_memory, reduced, seen_call}
 use Rattle.board_model.proofs.Alike.{call_alike, count_alike, shown, task_alike}
 use Rattle.board_core.specs.declared.views.TaskView.{TaskView}

@@ -8,8 +8,8 @@ use Rattle.run_script.specs.declared.script.Script.{Script}
 use Rattle.run_script.specs.Events.{script_data}
 use Rattle.run_script.specs.Laying.{HasRoom}
 use Rattle.run_script.specs.Scripts.{Listed, ScriptData}
-use Rattle.task_table.specs.State.{Setup, State}
-use Rattle.task_table.specs.Sane.{Sane, IsCounted}
+use Rattle.task_table.specs.model.State.{Setup, State}
+use Rattle.task_table.specs.model.Sane.{Sane, IsCounted}
 use Rattle.board_model.specs.declared.outcomes.Level.TheVariants.{Calls}
 use Rattle.board_model.specs.Alike.{reduced}
 use Rattle.board_model.specs.Cut.{cut_at}

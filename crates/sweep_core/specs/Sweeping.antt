@@ -6,8 +6,8 @@ use Rattle.arrayvec.specs.ArrayString.{ArrayString}
 use Rattle.run_script.specs.Events.{script_data}
 use Rattle.run_script.specs.Laying.{HasRoom}
 use Rattle.run_script.specs.Scripts.{Listed, ScriptData, events_of, lasts}
-use Rattle.task_table.specs.State.{State}
-use Rattle.task_table.specs.Sane.{Sane}
+use Rattle.task_table.specs.model.State.{State}
+use Rattle.task_table.specs.model.Sane.{Sane}
 use Rattle.board_model.specs.declared.outcomes.Level.TheVariants.{Calls}
 use Rattle.board_model.specs.Alike.{reduced}
 use Rattle.board_model.specs.Cut.{cut_at}

@@ -1,6 +1,6 @@
 -- What is told of a run, and what it is compared by.
 use Rattle.std.specs.Prelude.{◌≡◌, Bool, ◌&&◌, ◌||◌, not, nat_lt, ◌++◌}
-use Rattle.task_table.specs.State.{State}
+use Rattle.task_table.specs.model.State.{State}
 use Rattle.board_model.specs.declared.outcomes.End.{End}
 use Rattle.board_model.specs.Run.{Run}
 use Rattle.sweep_core.specs.declared.tally.Tally.{Tally}

@@ -3,18 +3,18 @@ ghost use Rattle.std.specs.Prelude.{◌≡◌};
 ghost use Rattle.sweep_core.specs.Comparing.{compared_of, differs_from, nothing_compared, with_outcome, words_of};
 ghost use Rattle.sweep_core.specs.Told.{is_worse_told};
 
-use crate::outcome::Outcome;
+use crate::outcome::OutcomeText;
 use crate::told::{Told, is_worse};
 
 /// The outcomes up to here, each compared with the first of them and with the run without an arrival. None of them need be kept:
 /// where all are the first one, no two of them differ.
 #[derive(Drop)]
 pub(crate) struct Compared {
-    first: Option<Outcome>,
+    first: Option<OutcomeText>,
     pub(crate) found: bool,
 }
 
-fn differs_from(first: &Option<Outcome>, words: &Outcome) -> bool
+fn differs_from(first: &Option<OutcomeText>, words: &OutcomeText) -> bool
     ensures { result ≡ differs_from (words_of first.now) words.now.bytes }
 {
     match first {

@@ -1,7 +1,7 @@
 //! The run that was played to its end last, and runs that end as it does.
 ghost use Rattle.std.specs.Prelude.{◌≡◌, ◌<◌, ◌≤◌, ◌+◌, ◌-◌, ◌*◌, ◌⊎◌, true, false, IfOk, IfSome};
 ghost use Rattle.std.specs.Int.{IsNextPowerOfTwo};
-ghost use Rattle.task_table.specs.State.{State};
+ghost use Rattle.task_table.specs.model.State.{State};
 ghost use Rattle.board_model.specs.declared.outcomes.Level.TheVariants.{Calls};
 ghost use Rattle.board_model.specs.Run.{run};
 ghost use Rattle.board_model.specs.Script.{Scenario};

@@ -13,6 +13,6 @@ mod text;
 mod told;
 mod trail;
 
-pub use outcome::{Outcome, outcome_of};
+pub use outcome::{OutcomeText, outcome_of};
 pub use sweeper::Sweeper;
 pub use tally::Tally;

@@ -1,7 +1,7 @@
 //! The words of an outcome (docs/FORMATS.md, Sweep), of up to 681 bytes.
 ghost use Rattle.std.specs.Prelude.{◌≡◌, ◌<◌, ◌≤◌, ◌+◌, ◌++◌, fold, codes};
 ghost use Rattle.arrayvec.specs.ArrayString.{array_string_len};
-ghost use Rattle.task_table.specs.State.{State};
+ghost use Rattle.task_table.specs.model.State.{State};
 ghost use Rattle.board_model.specs.Script.{Scenario};
 ghost use Rattle.board_core.specs.Data.{boxed};
 ghost use Rattle.board_core.specs.Stands.{Stands};
@@ -19,7 +19,7 @@ use trace_text::{push_decimal, push_hex};
 
 pub(crate) type Front = ArrayString<160>;
 
-pub type Outcome = ArrayString<768>;
+pub type OutcomeText = ArrayString<768>;
 
 /// The first fault, or that there is none.
 fn push_first(out: &mut Front, first: Option<(u16, Fault)>)
@@ -92,7 +92,7 @@ pub(crate) fn letter(view: &TaskView) -> u8
 }
 
 /// The letters of the tasks.
-fn push_letters(board: &Board, out: &mut Outcome)
+fn push_letters(board: &Board, out: &mut OutcomeText)
     requires { array_string_len out.old + 512 ≤ 768 }
     ensures told { (x : Scenario) (s : State) → Stands (boxed shown) x board.now s → out.new.bytes ≡ out.old.bytes ++ letters s }
     ensures len { array_string_len out.new ≤ array_string_len out.old + 512 }
@@ -117,7 +117,7 @@ fn digest_of_ram(board: &Board) -> u32
 }
 
 /// The word of the memory, where it is asked for.
-fn push_memory(board: &Board, mem: bool, out: &mut Outcome)
+fn push_memory(board: &Board, mem: bool, out: &mut OutcomeText)
     requires { array_string_len out.old + 9 ≤ 768 }
     ensures { (x : Scenario) (s : State) → Stands (boxed shown) x board.now s → out.new.bytes ≡ out.old.bytes ++ memory_word mem s.memory.ram }
 {
@@ -130,10 +130,10 @@ fn push_memory(board: &Board, mem: bool, out: &mut Outcome)
 }
 
 /// The outcome of a run that ended so, on a board that stands at its end, and of which this was heard.
-pub fn outcome_of(end: End, tally: &Tally, board: &Board, mem: bool) -> Outcome
+pub fn outcome_of(end: End, tally: &Tally, board: &Board, mem: bool) -> OutcomeText
     ensures { (x : Scenario) (s : State) → Stands (boxed shown) x board.now s → result.bytes ≡ front_words end tally.now ++ letters s ++ memory_word mem s.memory.ram }
 {
-    let mut out = Outcome::new();
+    let mut out = OutcomeText::new();
     out.push_str(front(end, tally).as_str());
     push_letters(board, &mut out);
     push_memory(board, mem, &mut out);
@@ -141,10 +141,10 @@ pub fn outcome_of(end: End, tally: &Tally, board: &Board, mem: bool) -> Outcome
 }
 
 /// In place of an outcome, where there is no script and so no run.
-pub(crate) fn full() -> Outcome
+pub(crate) fn full() -> OutcomeText
     ensures { result.bytes ≡ codes "full" }
 {
-    let mut out = Outcome::new();
+    let mut out = OutcomeText::new();
     out.push_str("full");
     out
 }

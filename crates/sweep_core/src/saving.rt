@@ -1,6 +1,6 @@
 //! The state of a board, in room that was taken before.
 ghost use Rattle.std.specs.Prelude.{◌≡◌, length};
-ghost use Rattle.task_table.specs.State.{State};
+ghost use Rattle.task_table.specs.model.State.{State};
 ghost use Rattle.board_model.specs.Alike.{reduced};
 ghost use Rattle.board_model.specs.Script.{Scenario};
 ghost use Rattle.board_core.specs.Data.{boxed};

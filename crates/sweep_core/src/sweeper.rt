@@ -15,10 +15,10 @@ ghost use Rattle.sweep_core.specs.Told.{IsTold};
 use crate::comparing::Compared;
 use crate::laying::{lay, span};
 use crate::leader::Leader;
-use crate::outcome::{Outcome, full};
+use crate::outcome::{OutcomeText, full};
 use crate::saving::save;
 use crate::tally::Tally;
-use crate::text::{Stretch, push_base};
+use crate::text::{TimeStretch, push_base};
 use crate::told::{Told, play_to};
 use board_core::Board;
 use outside_io::{Failed, Sink};
@@ -140,7 +140,7 @@ impl Sweeper {
         mem: bool,
         base: &Told,
         compared: &mut Compared,
-    ) -> Outcome
+    ) -> OutcomeText
         requires before { (x : Scenario) × (arrival : List Listed) × IsSweeping (boxed shown) x arrival self.old time limit mem }
         requires early { time ≤ 1000000000 }
         requires few { limit ≤ 1000000000 }
@@ -176,7 +176,7 @@ impl Sweeper {
         ensures cause { HasCause (S.seen out.old).faults (S.seen out.new).faults result }
     {
         let mut compared = Compared::new();
-        let mut stretch = Stretch {
+        let mut stretch = TimeStretch {
             first: from,
             words: self.look_at(from, limit, mem, base, &mut compared),
         };

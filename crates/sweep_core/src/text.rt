@@ -4,7 +4,7 @@ ghost use Rattle.outside_io.specs.Outside.{Pushes, HasCause};
 ghost use Rattle.sweep_core.specs.Stretches.{ended};
 ghost use Rattle.sweep_core.specs.Swept.{base_line, same_or, stretch_line};
 
-use crate::outcome::{Front, Outcome};
+use crate::outcome::{Front, OutcomeText};
 use arrayvec::ArrayString;
 use outside_io::{Failed, Sink};
 use trace_text::push_decimal;
@@ -22,7 +22,7 @@ fn push_line<S: Sink>(line: &Line, out: &mut S) -> Result<(), Failed>
 }
 
 #[tactic(auto, unfolding(crate::specs::Swept::base_line))]
-fn base_line(base: &Outcome) -> Line
+fn base_line(base: &OutcomeText) -> Line
     ensures { result.bytes ≡ base_line base.now.bytes }
 {
     let mut line = Line::new();
@@ -33,7 +33,7 @@ fn base_line(base: &Outcome) -> Line
 }
 
 /// The line of the run without an arrival.
-pub(crate) fn push_base<S: Sink>(base: &Outcome, out: &mut S) -> Result<(), Failed>
+pub(crate) fn push_base<S: Sink>(base: &OutcomeText, out: &mut S) -> Result<(), Failed>
     ensures bytes { Pushes (S.seen out.old).written (S.seen out.new).written (base_line base.now.bytes) result }
     ensures cause { HasCause (S.seen out.old).faults (S.seen out.new).faults result }
 {
@@ -53,7 +53,7 @@ fn times(first: u32, last: u32) -> Front
 }
 
 /// An outcome, or that it is the one of the run without an arrival.
-fn push_words(words: &Outcome, base: &Outcome, line: &mut Line)
+fn push_words(words: &OutcomeText, base: &OutcomeText, line: &mut Line)
     requires { length line.old.bytes ≤ 160 }
     ensures bytes { line.new.bytes ≡ line.old.bytes ++ same_or base.now.bytes words.now.bytes }
     ensures short { length line.new.bytes ≤ 928 }
@@ -66,7 +66,7 @@ fn push_words(words: &Outcome, base: &Outcome, line: &mut Line)
 }
 
 #[tactic(auto, unfolding(crate::specs::Swept::stretch_line))]
-fn stretch_line(first: u32, last: u32, words: &Outcome, base: &Outcome) -> Line
+fn stretch_line(first: u32, last: u32, words: &OutcomeText, base: &OutcomeText) -> Line
     ensures { result.bytes ≡ stretch_line base.now.bytes first last words.now.bytes }
 {
     let mut line = Line::new();
@@ -80,8 +80,8 @@ fn stretch_line(first: u32, last: u32, words: &Outcome, base: &Outcome) -> Line
 fn push_stretch<S: Sink>(
     first: u32,
     last: u32,
-    words: &Outcome,
-    base: &Outcome,
+    words: &OutcomeText,
+    base: &OutcomeText,
     out: &mut S,
 ) -> Result<(), Failed>
     ensures bytes { Pushes (S.seen out.old).written (S.seen out.new).written (stretch_line base.now.bytes first last words.now.bytes) result }
@@ -92,14 +92,19 @@ fn push_stretch<S: Sink>(
 
 /// A stretch of arrival times with one outcome that is under way.
 #[derive(Drop)]
-pub(crate) struct Stretch {
+pub(crate) struct TimeStretch {
     pub(crate) first: u32,
-    pub(crate) words: Outcome,
+    pub(crate) words: OutcomeText,
 }
 
-impl Stretch {
+impl TimeStretch {
     /// It ends before this arrival time.
-    pub(crate) fn end<S: Sink>(&self, time: u32, base: &Outcome, out: &mut S) -> Result<(), Failed>
+    pub(crate) fn end<S: Sink>(
+        &self,
+        time: u32,
+        base: &OutcomeText,
+        out: &mut S,
+    ) -> Result<(), Failed>
         requires { self.now.first < time }
         ensures bytes { Pushes (S.seen out.old).written (S.seen out.new).written (stretch_line base.now.bytes self.now.first (time - 1) self.now.words.bytes) result }
         ensures cause { HasCause (S.seen out.old).faults (S.seen out.new).faults result }
@@ -111,8 +116,8 @@ impl Stretch {
     pub(crate) fn go_on<S: Sink>(
         &mut self,
         time: u32,
-        words: Outcome,
-        base: &Outcome,
+        words: OutcomeText,
+        base: &OutcomeText,
         out: &mut S,
     ) -> Result<(), Failed>
         requires { self.old.first < time }

@@ -1,6 +1,6 @@
 //! A run to its end, as a sweep tells it.
 ghost use Rattle.std.specs.Prelude.{◌≡◌, ◌≤◌, ◌-◌};
-ghost use Rattle.task_table.specs.State.{State};
+ghost use Rattle.task_table.specs.model.State.{State};
 ghost use Rattle.board_model.specs.declared.outcomes.Level.TheVariants.{Calls};
 ghost use Rattle.board_model.specs.Run.{run};
 ghost use Rattle.board_model.specs.Script.{Scenario};
@@ -10,7 +10,7 @@ ghost use Rattle.sweep_core.specs.Outcomes.{heard};
 ghost use Rattle.sweep_core.specs.Swept.{is_supervisors};
 ghost use Rattle.sweep_core.specs.Told.{IsToldFrom, IsToldAt, is_worse_told};
 
-use crate::outcome::{Outcome, outcome_of};
+use crate::outcome::{OutcomeText, outcome_of};
 use crate::tally::Tally;
 use board_core::{Board, End, Level};
 use board_run::play;
@@ -18,7 +18,7 @@ use board_run::play;
 /// What a sweep tells of a run, and what it compares.
 #[derive(Clone, Copy, Drop)]
 pub(crate) struct Told {
-    pub(crate) words: Outcome,
+    pub(crate) words: OutcomeText,
     pub(crate) faults: u64,
     pub(crate) by_supervisor: bool,
 }
@@ -26,7 +26,7 @@ pub(crate) struct Told {
 /// Of no run.
 pub(crate) fn nothing_told() -> Told {
     Told {
-        words: Outcome::new(),
+        words: OutcomeText::new(),
         faults: 0,
         by_supervisor: false,
     }

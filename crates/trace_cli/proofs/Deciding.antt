@@ -19,7 +19,7 @@ use Rattle.trace_cli.specs.Verdict as verdict
 use Rattle.trace_cli.specs.Verdict.{Verdict, IsVerdict, IsCovered, Does, usage, refused, unread, ran, built, sampled, debugged, audited, covered, traced, run_of}
 use Rattle.trace_cli.specs.Building.{labels_from}
 use Rattle.trace_cli.specs.Tracing.{sections}
-use Rattle.trace_cli.specs.Answer.{JobReason, cannot_read, refuses, does, IsUnread, IsRefused, Reason, no_job, of_job}
+use Rattle.trace_cli.specs.Answer.{JobReason, cannot_read, refuses, does, IsUnread, IsRefused, CommandReason, no_job, of_job}
 use Rattle.board_model.specs.declared.outcomes.Level.TheVariants.{All}
 use Rattle.board_model.specs.Script.{Scenario}
 use Rattle.thumb_asm.specs.Meaning.{Names}
@@ -216,6 +216,6 @@ by_reason : {devices : List DeviceData} (words : List (List ℕ)) (job : Asked) 
 by_reason words job before after v u is (inl e) = agreed e
 by_reason words job before after v u is (inr h) = not_read job h.0 is h.1 h.2
 
-pub decided : {devices : List DeviceData} (words : List (List ℕ)) (before after : FilesSeen) (v u : Verdict) → Reason devices words before after v → IsVerdict devices words before.contents u → Decided devices words before after v u
+pub decided : {devices : List DeviceData} (words : List (List ℕ)) (before after : FilesSeen) (v u : Verdict) → CommandReason devices words before after v → IsVerdict devices words before.contents u → Decided devices words before after v u
 decided words before after v u (no_job none e) is = agreed (on_no_job words before.contents v u none e is)
 decided words before after v u (of_job job at why) is = by_reason words job before after v u at (on_job words job before after v u at why is)

@@ -1,6 +1,6 @@
 -- What is in range at the end of a run.
 use Rattle.std.proofs.Common.{◌≤◌, ℕ, Bool, true, false, [], length, arith}
-use Rattle.task_table.specs.State.{State}
+use Rattle.task_table.specs.model.State.{State}
 use Rattle.board_model.specs.Script.{Scenario}
 use Rattle.board_core.specs.Data.{Shows}
 use Rattle.board_core.specs.declared.board.Board.{Board}

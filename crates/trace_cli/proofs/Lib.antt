@@ -18,5 +18,4 @@ pub mod Faulting
 pub mod Taking
 pub mod Handed
 pub mod GoingOn
-pub mod OnlyReading
 pub mod Timing

@@ -9,7 +9,7 @@ use Rattle.board_model.specs.Script.{Scenario, start_of}
 use Rattle.board_core.specs.Data.{Shows}
 use Rattle.board_core.specs.declared.board.Board.{Board}
 use Rattle.board_core.specs.Stands.{Stands}
-use Rattle.debug_core.specs.Live.{BreaksTelling, BreaksUnread, MayBeTaken, OnlyReads, TellsLive, begun_text, live_limit, live_text}
+use Rattle.debug_core.specs.Live.{BreaksTelling, BreaksUnread, MayBeTaken, TellsLive, begun_text, live_limit, live_text}
 use Rattle.debug_core.specs.Session.{opened}
 use Rattle.command_line.specs.CommandLine.{live}
 use Rattle.outside_io.specs.Outside.{WhereSeen, Rose, IsFront, AppendsFront}
@@ -44,9 +44,6 @@ pushed_behind w v w' told line r before later (cut is rose front) = cut is (omeg
 taken_of : (contents : Option (List ℕ)) (P : List ℕ → Type 0) (bytes : List ℕ) → MayBeTaken contents bytes → P bytes → (all : List ℕ) × WhereSeen contents (λ c. all ≡ c) × P (take live_limit all)
 taken_of None P bytes taken told = (bytes, (λ c is. absurd (cc)), subst P (sym (take_all live_limit bytes taken.few)) told)
 taken_of (Some all) P bytes taken told = (all, (λ c is. same_Some all c is), subst P (taken.front all refl) told)
-
-pub only_read : {a b : FilesSeen} → OnlyReads a b → sources.OnlyReads a b
-only_read h = record { later = h.later; contents = h.contents; puts = h.puts }
 
 pub says_ended : (x : Scenario) (name : List ℕ) (a b : FilesSeen) (w w' : SinkSeen) → TellsLive x opened name a b w w' → SaysLive x name a b w w' 0
 says_ended x name a b w w' t = let h = taken_of (a.contents name) (λ bytes. Appends w.written w'.written (live_text x opened bytes)) t.bytes t.taken t.told in ended h.0 h.1 (whole refl h.2)

@@ -9,7 +9,7 @@ use Rattle.board_core.specs.declared.board.Board.{Board}
 use Rattle.board_core.specs.Opened.{setup_of_task}
 use Rattle.board_core.specs.Stands.{Stands}
 use Rattle.board_model.specs.Script.{Scenario, start_of}
-use Rattle.task_table.specs.State.{State}
+use Rattle.task_table.specs.model.State.{State}
 use Rattle.command_line.specs.CommandLine.{Asked}
 use Rattle.outside_io.specs.Seen.{FilesSeen}
 use Rattle.trace_cli.specs.declared.file_faults.NamedFault.{NamedFault}

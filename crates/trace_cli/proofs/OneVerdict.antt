@@ -7,7 +7,7 @@ use Rattle.outside_io.specs.Seen.{FilesSeen}
 use Rattle.trace_cli.specs.Sources.{File, MayBe, Are, Takes}
 use Rattle.trace_cli.specs.Verdict as verdict
 use Rattle.trace_cli.specs.Verdict.{Verdict, IsVerdict}
-use Rattle.trace_cli.specs.Answer.{refuses, does, Reason, no_job, of_job}
+use Rattle.trace_cli.specs.Answer.{refuses, does, CommandReason, no_job, of_job}
 use Rattle.trace_cli.proofs.Deciding.{Decided, agreed, not_read, decided}
 
 -- what is seen may be
@@ -21,7 +21,7 @@ takes_may seen files cs takes = λ k bytes e. let t = takes k bytes e in (t.0, t
 abbrev unfailed : (List ℕ → Option (List ℕ)) → FilesSeen
 unfailed seen = record { contents = seen; read_faults = 0; put_faults = 0; given = 0; last_failing = None }
 
-grounded : {devices : List DeviceData} (words : List (List ℕ)) (seen : List ℕ → Option (List ℕ)) (v : Verdict) → IsVerdict devices words seen v → Reason devices words (unfailed seen) (unfailed seen) v
+grounded : {devices : List DeviceData} (words : List (List ℕ)) (seen : List ℕ → Option (List ℕ)) (v : Verdict) → IsVerdict devices words seen v → CommandReason devices words (unfailed seen) (unfailed seen) v
 grounded words seen v (verdict.no_job none e) = no_job none e
 grounded words seen v (verdict.refuses job cs f c why at r held refusal e) = of_job job at (refuses f why (record {
   contents = cs;

@@ -11,12 +11,12 @@ use Rattle.board_core.specs.Opened as opened
 use Rattle.run_script.specs.Scripts.{Listed, ScriptData}
 use Rattle.sweep_core.specs.declared.sweeper.Sweeper.{Sweeper}
 use Rattle.sweep_core.specs.Sweeping.{IsReady as IsReadyToSweep, asked}
-use Rattle.task_table.specs.State.{State}
+use Rattle.task_table.specs.model.State.{State}
 use Rattle.board_core.specs.Stands.{Stands, Stood, turns_of}
 use Rattle.outside_io.specs.Outside.{Rose}
 use Rattle.audit_runs.specs.Last.{IsGoodText}
-use Rattle.trace_audit.specs.declared.verdict.Verdict as trace
-use Rattle.trace_audit.specs.declared.verdict.Verdict.TheVariants.{Yes, No}
+use Rattle.trace_audit.specs.declared.judgement.Judgement as trace
+use Rattle.trace_audit.specs.declared.judgement.Judgement.TheVariants.{Yes, No}
 use Rattle.command_line.specs.CommandLine.{Asked, build, run, go, list, sample, migrate, audit, save, resume, debug, cover, sweep, timeline, live, picture as draw_picture, lcov, help}
 use Rattle.command_line.specs.declared.job.Detail.{Detail}
 use Rattle.debug_core.specs.declared.command.Command.{Command}
@@ -278,12 +278,12 @@ migrate_reason a b image out picture i =
 pub audit_faults : {devices : List DeviceData} (a c : FilesSeen) (name : List ℕ) (h : NamedFault) → IsNamedFaultOf a c (trace_file name) h → IsNamedFaultIn devices (audit name) a c h
 audit_faults a c name h fault = faults_first (audit name) (trace_file name) a c h refl fault
 
-audit_reason : {devices : List DeviceData} (a b : FilesSeen) (name : List ℕ) (found : trace.Verdict) → IsAuditOf a.contents name found → JobReason devices (audit name) a b (audited found)
+audit_reason : {devices : List DeviceData} (a b : FilesSeen) (name : List ℕ) (found : trace.Judgement) → IsAuditOf a.contents name found → JobReason devices (audit name) a b (audited found)
 audit_reason a b name found i =
     does (i.bytes ∷ []) (record { takes = takes_first (MayBe a.contents) (trace_file name) [] i.bytes [] i.held i.accepted (takes_none (MayBe a.contents) []); all = refl })
     (found, i.verdict, refl)
 
-pub audited_alone : (found : trace.Verdict) → (audited found).put ≡ None
+pub audited_alone : (found : trace.Judgement) → (audited found).put ≡ None
 audited_alone (Yes calls left) = refl
 audited_alone (No line) = refl
 
@@ -583,6 +583,6 @@ answers_traced app script out a b c w w' n secs bd r same puts h tells =
     let x = h.scenario in
     inr (traced out n secs x, does h.contents h.accepted h.done, tells_earlier a b c w w' (traced out n secs x) r same puts (tells x h.stands), tt)
 
-pub answers_audited : {devices : List DeviceData} (a b : FilesSeen) (w w' : SinkSeen) (name : List ℕ) (found : trace.Verdict) (r : ℕ) → b.contents ≡ a.contents → IsAuditOf a.contents name found → Says w w' (audited found) r
+pub answers_audited : {devices : List DeviceData} (a b : FilesSeen) (w w' : SinkSeen) (name : List ℕ) (found : trace.Judgement) (r : ℕ) → b.contents ≡ a.contents → IsAuditOf a.contents name found → Says w w' (audited found) r
     → AnswersJob devices (audit name) a b w w' r
 answers_audited a b w w' name found r same i says = answers_said (audit name) a b w w' (audited found) r same (audited_alone found) (audit_reason a b name found i) tt says

@@ -21,11 +21,11 @@ use Rattle.snapshot.specs.Records.{header_at}
 use Rattle.snapshot.specs.Saved.{expected_of}
 use Rattle.snapshot.specs.Waits.{state_fault}
 use Rattle.trace_cli.specs.Contents.{Why, file_limit, trace_limit, trace_refusal, setup_of_image, state_refusal, turn_refusal, or_later, at_number, commands_refusal, script_in, script_refusal, script_of, arrival_fault, arrival_refusal, at_line, fault_in, app_in, image_in, image_refusal, picture_of, application_of, app_refusal, room_refusal, source_refusal, code_refusal, code_length, names_refusal, tasks_refusal}
-use Rattle.trace_audit.specs.declared.verdict.Verdict.{Verdict}
-use Rattle.trace_audit.specs.declared.verdict.Verdict.TheVariants.{Yes, No}
+use Rattle.trace_audit.specs.declared.judgement.Judgement.{Judgement}
+use Rattle.trace_audit.specs.declared.judgement.Judgement.TheVariants.{Yes, No}
 use Rattle.trace_audit.specs.Texts as trace
 use Rattle.trace_audit.specs.Rules.{IsFirstBad}
-use Rattle.trace_audit.specs.Verdicts.{first_cause, read_lines, IsGoodWith, IsVerdict}
+use Rattle.trace_audit.specs.Judgements.{first_cause, read_lines, IsGoodWith, IsJudgement}
 use Rattle.trace_cli.specs.declared.file_faults.FileFault.{FileFault}
 use Rattle.trace_cli.specs.declared.file_faults.FileFault.TheVariants as file_faults
 use Rattle.trace_cli.specs.FileFaults.{IsFaultFor}
@@ -120,8 +120,8 @@ pub trace_refused : (bytes : List ℕ) (why : ℕ × ℕ) → length bytes ≤ t
 trace_refused bytes why le is = by_first bytes (Some why) le is
 
 -- what is answered exactly where it is so
-pub verdict_found : (text : List ℕ) (v : Verdict) → ((calls left : ℕ) → (v ≡ Yes calls left) ↔ IsGoodWith (read_lines text) calls left)
-    → ((n : ℕ) → (v ≡ No n) ↔ IsFirstBad (read_lines text) n) → IsVerdict text v
+pub verdict_found : (text : List ℕ) (v : Judgement) → ((calls left : ℕ) → (v ≡ Yes calls left) ↔ IsGoodWith (read_lines text) calls left)
+    → ((n : ℕ) → (v ≡ No n) ↔ IsFirstBad (read_lines text) n) → IsJudgement text v
 verdict_found text (Yes calls left) good bad = (good calls left).0 refl
 verdict_found text (No n) good bad = (bad n).0 refl
 

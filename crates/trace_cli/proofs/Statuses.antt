@@ -6,12 +6,12 @@ use Rattle.outside_io.specs.Outside.{Rose}
 use Rattle.board_model.specs.declared.outcomes.End.{End}
 use Rattle.board_model.specs.declared.outcomes.End.TheVariants.{Bound, Still, Supervisor}
 use Rattle.command_line.specs.CommandLine.{Asked, build, run, go, list, sample, migrate, audit, save, resume, debug, cover, sweep, timeline, live, picture, lcov, help, is_accepted, job_of}
-use Rattle.trace_audit.specs.declared.verdict.Verdict as trace
-use Rattle.trace_audit.specs.declared.verdict.Verdict.TheVariants.{Yes, No}
+use Rattle.trace_audit.specs.declared.judgement.Judgement as trace
+use Rattle.trace_audit.specs.declared.judgement.Judgement.TheVariants.{Yes, No}
 use Rattle.outside_io.specs.Seen.{FilesSeen, SinkSeen}
 use Rattle.trace_cli.specs.Words.{job_in, out_of}
 use Rattle.trace_cli.specs.Verdict.{Verdict, IsVerdict, Does, line_alone, usage, usage_line, refused, unread, audited, status_of}
-use Rattle.trace_cli.specs.Answer.{JobReason, cannot_read, refuses, does, Reason, no_job, of_job, HasPut, HasSpoiled, Tells, whole, cut, spoiled, short, TellsGoodIn, AnswersJob, Answers, HasDone, HasRefused, HasUnread, HasFront, Answered, IsComplete, IsDone}
+use Rattle.trace_cli.specs.Answer.{JobReason, cannot_read, refuses, does, CommandReason, no_job, of_job, HasPut, HasSpoiled, Tells, whole, cut, spoiled, short, TellsGoodIn, AnswersJob, Answers, HasDone, HasRefused, HasUnread, HasFront, Answered, IsComplete, IsDone}
 use Rattle.trace_cli.specs.Pushed as seen
 use Rattle.trace_cli.specs.Pushed.{Pushed, Says, pushed, silent}
 use Rattle.trace_cli.proofs.Readying.{audited_alone}
@@ -65,7 +65,7 @@ end_status e status is = by_end (end_zero_or_six e) where
   by_end (inr s) = inr (is ∙ s)
 
 -- of an audit
-audit_zero_or_seven : (found : trace.Verdict) → ((audited found).status ≡ 0) ⊎ ((audited found).status ≡ 7)
+audit_zero_or_seven : (found : trace.Judgement) → ((audited found).status ≡ 0) ⊎ ((audited found).status ≡ 7)
 audit_zero_or_seven (Yes calls left) = inl refl
 audit_zero_or_seven (No line) = inr refl
 
@@ -129,7 +129,7 @@ job_status job a b v (does cs all p) = by (done_status _ job cs v p) where
   by (inr (inr (inl s))) = inr (omega arith, omega arith)
   by (inr (inr (inr s))) = inr (omega arith, omega arith)
 
-reason_status : {devices : List DeviceData} (words : List (List ℕ)) (a b : FilesSeen) (v : Verdict) → Reason devices words a b v → IsOfJob v.status
+reason_status : {devices : List DeviceData} (words : List (List ℕ)) (a b : FilesSeen) (v : Verdict) → CommandReason devices words a b v → IsOfJob v.status
 reason_status words a b v (no_job none is) = let s : v.status ≡ 2 = ap (λ (u : Verdict). u.status) is in inl (omega arith)
 reason_status words a b v (of_job job at why) = job_status job a b v why
 
@@ -143,7 +143,7 @@ at_most_eight v (inr many) = many.1
 
 -- ## by status
 
-known_by : {devices : List DeviceData} (words : List (List ℕ)) (a b : FilesSeen) (w w' : SinkSeen) (v : Verdict) (r : ℕ) → Reason devices words a b v → Tells a b w w' v r → r ≤ 8
+known_by : {devices : List DeviceData} (words : List (List ℕ)) (a b : FilesSeen) (w w' : SinkSeen) (v : Verdict) (r : ℕ) → CommandReason devices words a b v → Tells a b w w' v r → r ≤ 8
 known_by words a b w w' v r g (whole is put text) = let most = at_most_eight v (reason_status words a b v g) in omega arith
 known_by words a b w w' v r g (cut is rose put front) = omega arith
 known_by words a b w w' v r g (spoiled is rose left same) = omega arith
@@ -153,7 +153,7 @@ pub known : {devices : List DeviceData} (words : List (List ℕ)) (a b : FilesSe
 known words a b w w' r (inl s) = let is = s.status in omega arith
 known words a b w w' r (inr h) = known_by words a b w w' h.0 r h.1 h.2
 
-cut_by : {devices : List DeviceData} (words : List (List ℕ)) (a b : FilesSeen) (w w' : SinkSeen) (v : Verdict) (r : ℕ) → r ≡ 4 → Reason devices words a b v → Tells a b w w' v r → HasFront devices words a b w w'
+cut_by : {devices : List DeviceData} (words : List (List ℕ)) (a b : FilesSeen) (w w' : SinkSeen) (v : Verdict) (r : ℕ) → r ≡ 4 → CommandReason devices words a b v → Tells a b w w' v r → HasFront devices words a b w w'
 cut_by words a b w w' v r e g (whole is put text) = absurd (not_four_or_five v (reason_status words a b v g) (omega arith) (omega arith))
 cut_by words a b w w' v r e g (cut is rose put front) = record { verdict = v; reason = g; front = inl (rose, put, front) }
 cut_by words a b w w' v r e g (spoiled is rose left same) = record { verdict = v; reason = g; front = inr (rose, left, same) }
@@ -166,7 +166,7 @@ was_cut words a b w w' r (inr h) e = cut_by words a b w w' h.0 r e h.1 h.2
 abbrev Nothing : FilesSeen → FilesSeen → SinkSeen → SinkSeen → Type 0
 Nothing a b w w' = (w'.written ≡ w.written) × (w'.faults ≡ w.faults) × (b.contents ≡ a.contents)
 
-short_by : {devices : List DeviceData} (words : List (List ℕ)) (a b : FilesSeen) (w w' : SinkSeen) (v : Verdict) (r : ℕ) → r ≡ 5 → Reason devices words a b v → Tells a b w w' v r → Nothing a b w w'
+short_by : {devices : List DeviceData} (words : List (List ℕ)) (a b : FilesSeen) (w w' : SinkSeen) (v : Verdict) (r : ℕ) → r ≡ 5 → CommandReason devices words a b v → Tells a b w w' v r → Nothing a b w w'
 short_by words a b w w' v r e g (whole is put text) = absurd (not_four_or_five v (reason_status words a b v g) (omega arith) (omega arith))
 short_by words a b w w' v r e g (cut is rose put front) = absurd (omega arith)
 short_by words a b w w' v r e g (spoiled is rose left same) = absurd (omega arith)
@@ -179,13 +179,13 @@ was_short words a b w w' r (inr h) e = short_by words a b w w' h.0 r e h.1 h.2
 -- told whole, under another status than 4 and 5
 record IsWhole (devices : List DeviceData) (words : List (List ℕ)) (a b : FilesSeen) (w w' : SinkSeen) (r : ℕ) : Type 0 where
   verdict : Verdict
-  reason : Reason devices words a b verdict
+  reason : CommandReason devices words a b verdict
   status : verdict.status ≡ r
   put : HasPut a.contents b.contents verdict.put
   text : Appends w.written w'.written verdict.text
   good : TellsGoodIn (job_in words) verdict r
 
-whole_by : {devices : List DeviceData} (words : List (List ℕ)) (a b : FilesSeen) (w w' : SinkSeen) (v : Verdict) (r : ℕ) → (r ≡ 4 → ⊥) → (r ≡ 5 → ⊥) → Reason devices words a b v → TellsGoodIn (job_in words) v r → Tells a b w w' v r → IsWhole devices words a b w w' r
+whole_by : {devices : List DeviceData} (words : List (List ℕ)) (a b : FilesSeen) (w w' : SinkSeen) (v : Verdict) (r : ℕ) → (r ≡ 4 → ⊥) → (r ≡ 5 → ⊥) → CommandReason devices words a b v → TellsGoodIn (job_in words) v r → Tells a b w w' v r → IsWhole devices words a b w w' r
 whole_by words a b w w' v r not4 not5 g good (whole is put text) = record { verdict = v; reason = g; status = sym is; put = put; text = text; good = good }
 whole_by words a b w w' v r not4 not5 g good (cut is rose put front) = absurd (not4 is)
 whole_by words a b w w' v r not4 not5 g good (spoiled is rose left same) = absurd (not4 is)
@@ -198,7 +198,7 @@ seen_whole words a b w w' r (inr h) not4 not5 = whole_by words a b w w' h.0 r no
 same_text : (w w' : SinkSeen) (v u : Verdict) → v ≡ u → Appends w.written w'.written v.text → Appends w.written w'.written u.text
 same_text w w' v u e t = let P : Verdict → Type 0 = λ x. Appends w.written w'.written x.text in subst P e t
 
-refused_by : {devices : List DeviceData} (words : List (List ℕ)) (a b : FilesSeen) (w w' : SinkSeen) (v : Verdict) → v.status ≡ 1 → Appends w.written w'.written v.text → Reason devices words a b v → HasRefused devices words a.contents w w'
+refused_by : {devices : List DeviceData} (words : List (List ℕ)) (a b : FilesSeen) (w w' : SinkSeen) (v : Verdict) → v.status ≡ 1 → Appends w.written w'.written v.text → CommandReason devices words a b v → HasRefused devices words a.contents w w'
 refused_by words a b w w' v e t (no_job none is) = let s : v.status ≡ 2 = ap (λ (u : Verdict). u.status) is in absurd (omega arith)
 refused_by words a b w w' v e t (of_job job at (cannot_read f h is)) = let s : v.status ≡ 3 = ap (λ (u : Verdict). u.status) is in absurd (omega arith)
 refused_by words a b w w' v e t (of_job job at (refuses f why h is)) =
@@ -210,7 +210,7 @@ was_refused words a b w w' r h e =
     let t = seen_whole words a b w w' r h (λ is. omega arith) (λ is. omega arith) in
     refused_by words a b w w' t.verdict (t.status ∙ e) t.text t.reason
 
-no_command_by : {devices : List DeviceData} (words : List (List ℕ)) (a b : FilesSeen) (w w' : SinkSeen) (v : Verdict) → v.status ≡ 2 → Appends w.written w'.written v.text → Reason devices words a b v
+no_command_by : {devices : List DeviceData} (words : List (List ℕ)) (a b : FilesSeen) (w w' : SinkSeen) (v : Verdict) → v.status ≡ 2 → Appends w.written w'.written v.text → CommandReason devices words a b v
     → (is_accepted words ≡ false) × Appends w.written w'.written usage_line
 no_command_by words a b w w' v e t (no_job none is) = (none, same_text w w' v usage is t)
 no_command_by words a b w w' v e t (of_job job at (cannot_read f h is)) = let s : v.status ≡ 3 = ap (λ (u : Verdict). u.status) is in absurd (omega arith)
@@ -222,7 +222,7 @@ was_no_command words a b w w' r h e =
     let t = seen_whole words a b w w' r h (λ is. omega arith) (λ is. omega arith) in
     no_command_by words a b w w' t.verdict (t.status ∙ e) t.text t.reason
 
-unread_by : {devices : List DeviceData} (words : List (List ℕ)) (a b : FilesSeen) (w w' : SinkSeen) (v : Verdict) → v.status ≡ 3 → Appends w.written w'.written v.text → Reason devices words a b v → HasUnread devices words a b w w'
+unread_by : {devices : List DeviceData} (words : List (List ℕ)) (a b : FilesSeen) (w w' : SinkSeen) (v : Verdict) → v.status ≡ 3 → Appends w.written w'.written v.text → CommandReason devices words a b v → HasUnread devices words a b w w'
 unread_by words a b w w' v e t (no_job none is) = let s : v.status ≡ 2 = ap (λ (u : Verdict). u.status) is in absurd (omega arith)
 unread_by words a b w w' v e t (of_job job at (cannot_read f h is)) =
     record { job = job; command = at; file = f; is = h; line = same_text w w' v (unread h.told f.name) is t }
@@ -241,7 +241,7 @@ no_line_of_done v r n (inr (inl s)) e is low high = omega arith
 no_line_of_done v r n (inr (inr (inl s))) e is low high = omega arith
 no_line_of_done v r n (inr (inr (inr s))) e is low high = omega arith
 
-done_by : {devices : List DeviceData} (words : List (List ℕ)) (a b : FilesSeen) (w w' : SinkSeen) (v : Verdict) (r : ℕ) → IsDone r → v.status ≡ r → HasPut a.contents b.contents v.put → Appends w.written w'.written v.text → TellsGoodIn (job_in words) v r → Reason devices words a b v
+done_by : {devices : List DeviceData} (words : List (List ℕ)) (a b : FilesSeen) (w w' : SinkSeen) (v : Verdict) (r : ℕ) → IsDone r → v.status ≡ r → HasPut a.contents b.contents v.put → Appends w.written w'.written v.text → TellsGoodIn (job_in words) v r → CommandReason devices words a b v
     → HasDone devices words a b w w' r
 done_by words a b w w' v r done e put text good (no_job none is) = absurd (no_line_of_done v r 2 done e (status_as v usage is) (omega arith) (omega arith))
 done_by words a b w w' v r done e put text good (of_job job at (cannot_read f h is)) = absurd (no_line_of_done v r 3 done e (status_as v _ is) (omega arith) (omega arith))
@@ -306,7 +306,7 @@ done_puts devices words (picture image script out steps names) cs v at p = under
 done_puts devices words (lcov app script out steps) cs v at p = under words v out _ _ p.2 (ap out_of at)
 done_puts devices words (help about) cs v at p = alone words v _ p refl
 
-reason_puts : {devices : List DeviceData} (words : List (List ℕ)) (a b : FilesSeen) (v : Verdict) → Reason devices words a b v → Puts words v
+reason_puts : {devices : List DeviceData} (words : List (List ℕ)) (a b : FilesSeen) (v : Verdict) → CommandReason devices words a b v → Puts words v
 reason_puts words a b v (no_job none is) = alone words v usage is refl
 reason_puts words a b v (of_job job at (cannot_read f h is)) = alone words v _ is refl
 reason_puts words a b v (of_job job at (refuses f why h is)) = alone words v _ is refl

@@ -5,8 +5,8 @@ use Rattle.kernel_abi.specs.Devices.{DeviceData}
 use Rattle.outside_io.specs.Outside.{WhereSeen, Rose, AppendsFront, IsFront, short_name}
 use Rattle.board_model.specs.declared.outcomes.Level.TheVariants.{Calls}
 use Rattle.board_model.specs.Script.{Scenario, start_of}
-use Rattle.task_table.specs.State.{State}
-use Rattle.task_table.specs.Sane.{Sane}
+use Rattle.task_table.specs.model.State.{State}
+use Rattle.task_table.specs.model.Sane.{Sane}
 use Rattle.audit_runs.specs.Last.{IsGoodText}
 use Rattle.debug_core.specs.Live.{begun_text}
 use Rattle.debug_core.specs.Session.{opened}
@@ -59,9 +59,9 @@ pub data JobReason (devices : List DeviceData) (job : Asked) (before after : Fil
 
 -- ## and on words
 
-pub data Reason (devices : List DeviceData) (words : List (List ℕ)) (before after : FilesSeen) (v : Verdict) : Type 0 where
-  no_job : is_accepted words ≡ false → v ≡ usage → Reason devices words before after v
-  of_job : (job : Asked) → job_in words ≡ Some job → JobReason devices job before after v → Reason devices words before after v
+pub data CommandReason (devices : List DeviceData) (words : List (List ℕ)) (before after : FilesSeen) (v : Verdict) : Type 0 where
+  no_job : is_accepted words ≡ false → v ≡ usage → CommandReason devices words before after v
+  of_job : (job : Asked) → job_in words ≡ Some job → JobReason devices job before after v → CommandReason devices words before after v
 
 -- ## what became of a verdict
 
@@ -131,7 +131,7 @@ abbrev pub AnswersJob : List DeviceData → Asked → FilesSeen → FilesSeen �
 AnswersJob devices job before after w w' r = IsShort before after w w' r ⊎ ((v : Verdict) × JobReason devices job before after v × Tells before after w w' v r × TellsGood job v r)
 
 abbrev pub Answers : List DeviceData → List (List ℕ) → FilesSeen → FilesSeen → SinkSeen → SinkSeen → ℕ → Type 0
-Answers devices words before after w w' r = IsShort before after w w' r ⊎ ((v : Verdict) × Reason devices words before after v × Tells before after w w' v r × TellsGoodIn (job_in words) v r)
+Answers devices words before after w w' r = IsShort before after w w' r ⊎ ((v : Verdict) × CommandReason devices words before after v × Tells before after w w' v r × TellsGoodIn (job_in words) v r)
 
 -- ## by status
 
@@ -178,7 +178,7 @@ IsCut before after w w' v =
 
 pub record HasFront (devices : List DeviceData) (words : List (List ℕ)) (before after : FilesSeen) (w w' : SinkSeen) : Type 0 where
   pub verdict : Verdict
-  pub reason : Reason devices words before after verdict
+  pub reason : CommandReason devices words before after verdict
   pub front : IsCut before after w w' verdict
 
 -- ## where the contents are seen

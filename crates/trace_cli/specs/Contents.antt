@@ -10,7 +10,7 @@ use Rattle.thumb_asm.specs.Passes.{size_from}
 use Rattle.image_format.specs.Picture.{Picture, image_or_fault}
 use Rattle.image_build.specs.Layout.{flash_base, flash_needed, ram_needed, task_at}
 use Rattle.image_build.specs.Building.{source_cause}
-use Rattle.task_table.specs.State.{Setup}
+use Rattle.task_table.specs.model.State.{Setup}
 use Rattle.board_core.specs.Opened as opened
 use Rattle.run_script.specs.Scripts.{ScriptData, script_or_fault}
 use Rattle.board_model.specs.Script.{Scenario}
@@ -20,7 +20,7 @@ use Rattle.snapshot.specs.Saved.{expected_of}
 use Rattle.snapshot.specs.Waits.{state_fault}
 use Rattle.debug_core.specs.Reading.{commands_or_fault}
 use Rattle.trace_audit.specs.Texts as trace
-use Rattle.trace_audit.specs.Verdicts.{first_cause}
+use Rattle.trace_audit.specs.Judgements.{first_cause}
 
 -- the number of a cause, and the place as it is told
 abbrev pub Why : Type 0

@@ -13,13 +13,13 @@ use Rattle.board_core.specs.Opened as opened
 use Rattle.run_script.specs.Scripts.{Listed, ScriptData, events_of}
 use Rattle.sweep_core.specs.declared.sweeper.Sweeper.{Sweeper}
 use Rattle.sweep_core.specs.Sweeping.{IsReady as IsReadyToSweep, asked}
-use Rattle.task_table.specs.State.{State}
-use Rattle.task_table.specs.Sane.{Sane, IsCounted}
+use Rattle.task_table.specs.model.State.{State}
+use Rattle.task_table.specs.model.Sane.{Sane, IsCounted}
 use Rattle.snapshot.specs.Saved.{SpellsState}
 use Rattle.snapshot.specs.Loaded.{sites}
 use Rattle.snapshot.specs.Restored.{state_in}
-use Rattle.trace_audit.specs.declared.verdict.Verdict as trace
-use Rattle.trace_audit.specs.Verdicts as trace_audit
+use Rattle.trace_audit.specs.declared.judgement.Judgement as trace
+use Rattle.trace_audit.specs.Judgements as trace_audit
 use Rattle.command_line.specs.CommandLine.{Asked}
 use Rattle.command_line.specs.declared.job.Detail.{Detail}
 use Rattle.debug_core.specs.declared.command.Command.{Command}
@@ -202,11 +202,11 @@ pub record IsSampleReady {X : Type 0} {H : X → Type 0} (shown : Shows X H) (se
   pub turns : turns_of b ≡ 0
 
 -- the trace of this name was accepted, and this is the verdict on it
-pub record IsAuditOf (seen : List ℕ → Option (List ℕ)) (name : List ℕ) (found : trace.Verdict) : Type 0 where
+pub record IsAuditOf (seen : List ℕ → Option (List ℕ)) (name : List ℕ) (found : trace.Judgement) : Type 0 where
   pub bytes : List ℕ
   pub held : MayBe seen name bytes
   pub accepted : trace_refusal bytes ≡ None
-  pub verdict : trace_audit.IsVerdict bytes found
+  pub verdict : trace_audit.IsJudgement bytes found
 
 -- a file of the job is not accepted
 pub record IsNamedFaultIn (devices : List DeviceData) (job : Asked) (before after : FilesSeen) (named_fault : NamedFault) : Type 0 where

@@ -1,13 +1,12 @@
 -- The files of a job, in the order in which they are accepted.
-use Rattle.std.specs.Prelude.{◌≡◌, ◌≤◌, ℕ, ◌+◌, false, true, List, [], ◌∷◌, ◌++◌, length, drop, take, slice_get, slice_index_or, Option, Some, None}
+use Rattle.std.specs.Prelude.{◌≡◌, ℕ, ◌+◌, false, true, List, [], ◌∷◌, ◌++◌, length, drop, take, slice_get, slice_index_or, Option, Some, None}
 use Rattle.kernel_abi.specs.Devices.{DeviceData}
 use Rattle.outside_io.specs.Outside.{WhereSeen}
-use Rattle.outside_io.specs.Seen.{FilesSeen}
 use Rattle.app_toml.specs.Apps.{AppData, TaskData}
 use Rattle.image_format.specs.Picture.{Picture, Sound}
 use Rattle.image_build.specs.Built.{Built}
 use Rattle.board_model.specs.Script.{Scenario}
-use Rattle.task_table.specs.State.{State}
+use Rattle.task_table.specs.model.State.{State}
 use Rattle.snapshot.specs.Restored.{state_in}
 use Rattle.debug_core.specs.Live.{live_limit}
 use Rattle.command_line.specs.CommandLine.{Asked, build, run, go, list, sample, migrate, audit, save, resume, debug, cover, sweep, timeline, live, picture, lcov, help}
@@ -115,12 +114,6 @@ MayBe seen name bytes = WhereSeen (seen name) (λ all. bytes ≡ all)
 -- they are seen to be the contents under the name
 abbrev pub Are : (List ℕ → Option (List ℕ)) → List ℕ → List ℕ → Type 0
 Are seen name bytes = seen name ≡ Some bytes
-
--- files are only read: the count of failed reads may rise, their contents and the count of failed puts stay
-pub record OnlyReads (before after : FilesSeen) : Type 0 where
-  pub later : before.read_faults ≤ after.read_faults
-  pub contents : after.contents ≡ before.contents
-  pub puts : after.put_faults ≡ before.put_faults
 
 -- there are contents that may be the file's, and they are refused so
 pub record MayBeRefused (seen : List ℕ → Option (List ℕ)) (f : File) (why : Why) : Type 0 where

@@ -9,7 +9,7 @@ use Rattle.image_build.specs.Built.{Built}
 use Rattle.sample_gen.specs.Sample.{sample_app, sample_sources}
 use Rattle.board_model.specs.declared.outcomes.End.{End}
 use Rattle.board_model.specs.declared.outcomes.End.TheVariants.{Bound, Still, Supervisor}
-use Rattle.task_table.specs.State.{Setup, State}
+use Rattle.task_table.specs.model.State.{Setup, State}
 use Rattle.board_model.specs.declared.outcomes.Level.{Level}
 use Rattle.board_model.specs.declared.outcomes.Level.TheVariants.{Calls, All}
 use Rattle.board_model.specs.Script.{Scenario, start_of}
@@ -32,9 +32,9 @@ use Rattle.debug_core.specs.Answers.{text as answers_text}
 use Rattle.debug_core.specs.Live.{live_limit, live_text}
 use Rattle.debug_core.specs.Reading.{commands_or_fault}
 use Rattle.debug_core.specs.Session.{opened}
-use Rattle.trace_audit.specs.declared.verdict.Verdict as trace
-use Rattle.trace_audit.specs.declared.verdict.Verdict.TheVariants.{Yes, No}
-use Rattle.trace_audit.specs.Verdicts as trace_audit
+use Rattle.trace_audit.specs.declared.judgement.Judgement as trace
+use Rattle.trace_audit.specs.declared.judgement.Judgement.TheVariants.{Yes, No}
+use Rattle.trace_audit.specs.Judgements as trace_audit
 use Rattle.command_line.specs.CommandLine.{Asked, build, run, go, list, sample, migrate, audit, save, resume, debug, cover, sweep, timeline, live, picture, lcov, help, is_accepted}
 use Rattle.command_line.specs.declared.job.CommandName.{CommandName}
 use Rattle.command_line.specs.declared.job.Detail.{Detail}
@@ -171,7 +171,7 @@ sampled n x =
     line_alone (status_of r.end) (summary_text r)
 
 -- a trace was audited: it holds together, or this is its first line that does not follow
-abbrev pub audited : trace.Verdict → Verdict
+abbrev pub audited : trace.Judgement → Verdict
 audited (Yes calls left) = line_alone 0 (yes_line calls left)
 audited (No line) = line_alone 7 (no_line line)
 
@@ -245,7 +245,7 @@ Does devices (go app script steps detail) contents v = (image : Picture) × IsBu
 Does devices (list image) contents v = v ≡ listed (picture_of (first_of contents))
 Does devices (sample seed steps) contents v = (image : Picture) × Built (sample_app seed) (sample_sources seed) image × (v ≡ sampled steps (sample_scenario seed image))
 Does devices (migrate image out) contents v = v ≡ built out (picture_of (first_of contents))
-Does devices (audit name) contents v = (found : trace.Verdict) × trace_audit.IsVerdict (first_of contents) found × (v ≡ audited found)
+Does devices (audit name) contents v = (found : trace.Judgement) × trace_audit.IsJudgement (first_of contents) found × (v ≡ audited found)
 Does devices (save image script out steps) contents v = v ≡ saved out steps (scenario_in devices contents)
 Does devices (resume image script state steps detail) contents v = v ≡ resumed steps detail (scenario_in devices contents) (state_by devices contents)
 Does devices (debug image script name) contents v =

@@ -2,9 +2,10 @@
 ghost use Rattle.std.specs.Prelude.{◌≡◌, ◌≤◌, List, length, None, IfOk, IfErr, string_bytes};
 ghost use Rattle.kernel_abi.specs.Devices.{DeviceData};
 ghost use Rattle.command_line.specs.CommandLine.{audit as audit_job};
-ghost use Rattle.trace_audit.specs.Verdicts.{IsVerdict};
+ghost use Rattle.trace_audit.specs.Judgements.{IsJudgement};
+ghost use Rattle.outside_io.specs.Seen.{OnlyReads};
 ghost use Rattle.trace_cli.specs.Contents.{trace_limit, trace_refusal};
-ghost use Rattle.trace_cli.specs.Sources.{trace_file, OnlyReads};
+ghost use Rattle.trace_cli.specs.Sources.{trace_file};
 ghost use Rattle.trace_cli.specs.FileFaults.{IsFaultFor, IsNamedFaultOf};
 ghost use Rattle.trace_cli.specs.Ready.{IsAuditOf};
 ghost use Rattle.trace_cli.specs.Pushed.{Says};
@@ -16,16 +17,16 @@ use crate::sources::read_contents;
 use crate::telling::{tell, tell_named_fault};
 use outside_io::{Files, Sink};
 use std::alloc::{AllocError, Global};
-use trace_audit::{AuditFault, Verdict, audit};
+use trace_audit::{AuditFault, Judgement, audit};
 
 /// The most bytes of a trace.
 const TRACE_LIMIT: u32 = 16_777_216;
 
 // The verdict on the bytes of a file.
-fn audit_in(alloc: Global, bytes: &[u8]) -> Result<Verdict, FileFault>
+fn audit_in(alloc: Global, bytes: &[u8]) -> Result<Judgement, FileFault>
     requires { length bytes.now ≤ trace_limit }
     ensures accepted { IfOk result (λ v. trace_refusal bytes.now ≡ None) }
-    ensures verdict { IfOk result (IsVerdict bytes.now) }
+    ensures verdict { IfOk result (IsJudgement bytes.now) }
     ensures file_fault { IfErr result (IsFaultFor (trace_refusal bytes.now)) }
 {
     match audit(alloc, bytes) {
@@ -36,7 +37,7 @@ fn audit_in(alloc: Global, bytes: &[u8]) -> Result<Verdict, FileFault>
 }
 
 // The verdict on the trace under a name.
-fn audit_under<F: Files>(alloc: Global, files: &mut F, name: &str) -> Result<Verdict, NamedFault>
+fn audit_under<F: Files>(alloc: Global, files: &mut F, name: &str) -> Result<Judgement, NamedFault>
     ensures audit { IfOk result (IsAuditOf (F.seen files.old).contents name.now) }
     ensures named_fault { IfErr result (IsNamedFaultOf (F.seen files.old) (F.seen files.new) (trace_file name.now)) }
     ensures only_reads { OnlyReads (F.seen files.old) (F.seen files.new) }
@@ -69,7 +70,7 @@ fn line_of_no(alloc: Global, line: u64) -> Result<String, AllocError>
 
 // That a trace holds together.
 fn tell_yes<S: Sink>(alloc: Global, calls: u64, left: u64, out: &mut S) -> u8
-    ensures { Says (S.seen out.old) (S.seen out.new) (audited (Verdict.Yes calls left)) result }
+    ensures { Says (S.seen out.old) (S.seen out.new) (audited (Judgement.Yes calls left)) result }
 {
     match line_of_yes(alloc, calls, left) {
         Ok(line) => tell(line.as_bytes(), 0, out),
@@ -79,7 +80,7 @@ fn tell_yes<S: Sink>(alloc: Global, calls: u64, left: u64, out: &mut S) -> u8
 
 // That it does not, and where.
 fn tell_no<S: Sink>(alloc: Global, line: u64, out: &mut S) -> u8
-    ensures { Says (S.seen out.old) (S.seen out.new) (audited (Verdict.No line)) result }
+    ensures { Says (S.seen out.old) (S.seen out.new) (audited (Judgement.No line)) result }
 {
     match line_of_no(alloc, line) {
         Ok(text) => tell(text.as_bytes(), 7, out),
@@ -88,12 +89,12 @@ fn tell_no<S: Sink>(alloc: Global, line: u64, out: &mut S) -> u8
 }
 
 // What an audit found.
-fn tell_audit<S: Sink>(alloc: Global, verdict: Verdict, out: &mut S) -> u8
+fn tell_audit<S: Sink>(alloc: Global, verdict: Judgement, out: &mut S) -> u8
     ensures { Says (S.seen out.old) (S.seen out.new) (audited verdict) result }
 {
     match verdict {
-        Verdict::Yes { calls, left } => tell_yes(alloc, calls, left, out),
-        Verdict::No { line } => tell_no(alloc, line, out),
+        Judgement::Yes { calls, left } => tell_yes(alloc, calls, left, out),
+        Judgement::No { line } => tell_no(alloc, line, out),
     }
 }
 

@@ -6,7 +6,7 @@ ghost use Rattle.board_core.specs.Data.{boxed};
 ghost use Rattle.board_core.specs.Stands.{Stands, Stood, turns_of};
 ghost use Rattle.command_line.specs.CommandLine.{cover as cover_job};
 ghost use Rattle.thumb_asm.specs.Listed.{labels_in};
-ghost use Rattle.trace_cli.specs.Sources.{OnlyReads};
+ghost use Rattle.outside_io.specs.Seen.{OnlyReads};
 ghost use Rattle.trace_cli.specs.Pushed.{SaysCovered};
 ghost use Rattle.trace_cli.specs.Answer.{AnswersJob};
 

@@ -32,7 +32,8 @@ fn draw_board<F: Files, S: Sink>(
     requires fresh { turns_of board.old ≡ 0 }
     requires few { steps ≤ 1000000000 }
     requires named { length names.now ≡ count_of board.old }
-    ensures tells { (x : Scenario) → Stands (boxed shown) x board.old (start_of x) → Tells (F.seen files.old) (F.seen files.new) (S.seen out.old) (S.seen out.new) (drawn name.now steps title.now (map string_bytes names.now) x) result }
+    ensures tells { (x : Scenario) → Stands (boxed shown) x board.old (start_of x)
+        → Tells (F.seen files.old) (F.seen files.new) (S.seen out.old) (S.seen out.new) (drawn name.now steps title.now (map string_bytes names.now) x) result }
     ensures reads { (F.seen files.new).read_faults ≡ (F.seen files.old).read_faults }
     ensures puts { (F.seen files.old).put_faults ≤ (F.seen files.new).put_faults }
 {
@@ -61,7 +62,8 @@ pub fn picture_files<F: Files, S: Sink>(
 ) -> u8
     requires fresh { AreFresh (map shown devices.items) }
     requires few { steps ≤ 1000000000 }
-    ensures answer { AnswersJob (map shown devices.items) (picture_job image.now script.now name.now steps (option_map (λ n. n.now) names.entry)) (F.seen files.old) (F.seen files.new) (S.seen out.old) (S.seen out.new) result }
+    ensures answer { AnswersJob (map shown devices.items) (picture_job image.now script.now name.now steps (option_map (λ n. n.now) names.entry))
+        (F.seen files.old) (F.seen files.new) (S.seen out.old) (S.seen out.new) result }
     ensures later { (F.seen files.old).read_faults ≤ (F.seen files.new).read_faults }
     ensures puts { (F.seen files.old).put_faults ≤ (F.seen files.new).put_faults }
 {

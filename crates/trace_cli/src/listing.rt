@@ -2,7 +2,7 @@
 ghost use Rattle.std.specs.Prelude.{List};
 ghost use Rattle.kernel_abi.specs.Devices.{DeviceData};
 ghost use Rattle.command_line.specs.CommandLine.{list as list_job};
-ghost use Rattle.trace_cli.specs.Sources.{OnlyReads};
+ghost use Rattle.outside_io.specs.Seen.{OnlyReads};
 ghost use Rattle.trace_cli.specs.Answer.{AnswersJob};
 
 use crate::preparing::read_image;

@@ -1,11 +1,11 @@
 //! Lines that are carried out over a run as they come: from their files to the answers.
-ghost use Rattle.std.specs.Prelude.{◌≡◌, map};
+ghost use Rattle.std.specs.Prelude.{map};
 ghost use Rattle.kernel_abi.specs.Devices.{AreFresh};
 ghost use Rattle.board_model.specs.Script.{Scenario, start_of};
 ghost use Rattle.board_core.specs.Data.{boxed};
 ghost use Rattle.board_core.specs.Stands.{Stands};
 ghost use Rattle.command_line.specs.CommandLine.{live as live_job};
-ghost use Rattle.trace_cli.specs.Sources.{OnlyReads};
+ghost use Rattle.outside_io.specs.Seen.{OnlyReads};
 ghost use Rattle.trace_cli.specs.Pushed.{SaysLive};
 ghost use Rattle.trace_cli.specs.Answer.{AnswersJob};
 

@@ -5,10 +5,11 @@ ghost use Rattle.app_toml.specs.Sites.{task_of};
 ghost use Rattle.board_core.specs.Stands.{count_of};
 ghost use Rattle.board_model.specs.Script.{Scenario};
 ghost use Rattle.command_line.specs.CommandLine.{Asked};
+ghost use Rattle.outside_io.specs.Seen.{OnlyReads};
 ghost use Rattle.trace_cli.specs.Contents.{file_limit, names_in, names_refusal};
 ghost use Rattle.trace_cli.specs.FileFaults.{IsFaultFor, IsNamedFaultOf};
 ghost use Rattle.trace_cli.specs.Ready.{AreNames, IsNamedFaultIn, IsNamesFault, IsNamesFile, IsReady, RunsNamed};
-ghost use Rattle.trace_cli.specs.Sources.{OnlyReads, names_file};
+ghost use Rattle.trace_cli.specs.Sources.{names_file};
 ghost use Rattle.trace_cli.specs.Verdict.{Verdict, task_name, task_names};
 
 use crate::file_faults::{FileFault, NamedFault, fault_named, refused_at};

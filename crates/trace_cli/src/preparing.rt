@@ -8,7 +8,8 @@ ghost use Rattle.board_model.specs.Script.{Scenario};
 ghost use Rattle.run_script.specs.Events.{script_data};
 ghost use Rattle.command_line.specs.CommandLine.{Asked, go as go_job};
 ghost use Rattle.command_line.specs.declared.job.Detail.{Detail};
-ghost use Rattle.trace_cli.specs.Sources.{image_file, script_file, OnlyReads};
+ghost use Rattle.outside_io.specs.Seen.{OnlyReads};
+ghost use Rattle.trace_cli.specs.Sources.{image_file, script_file};
 ghost use Rattle.trace_cli.specs.FileFaults.{IsNamedFaultOf};
 ghost use Rattle.trace_cli.specs.Verdict.{Verdict, ran};
 ghost use Rattle.trace_cli.specs.Ready.{IsImageFile, IsScriptFile, IsSet, IsRunSet, TakesImage, RunsImage, TakesApp, RunsApp, IsReady, IsAppReady, IsAppSet, IsNamedFaultIn};
@@ -88,7 +89,8 @@ pub fn prepare_run<F: Files>(
     devices: Vec<Box<dyn Device>>,
 ) -> Result<Board, NamedFault>
     requires fresh { AreFresh (map shown devices.items) }
-    ensures ready { (job : Asked) (verdict : Scenario → Verdict) → RunsImage (map shown devices.items) job image.now script.now verdict → IfOk result (IsReady shown (map shown devices.items) job (F.seen files.old).contents verdict) }
+    ensures ready { (job : Asked) (verdict : Scenario → Verdict) → RunsImage (map shown devices.items) job image.now script.now verdict
+        → IfOk result (IsReady shown (map shown devices.items) job (F.seen files.old).contents verdict) }
     ensures set { IfOk result (IsRunSet shown (map shown devices.items) image.now script.now (F.seen files.old).contents) }
     ensures named_fault { (job : Asked) → TakesImage (map shown devices.items) job image.now script.now → IfErr result (IsNamedFaultIn (map shown devices.items) job (F.seen files.old) (F.seen files.new)) }
     ensures only_reads { OnlyReads (F.seen files.old) (F.seen files.new) }

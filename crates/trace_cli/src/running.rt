@@ -2,14 +2,13 @@
 ghost use Rattle.std.specs.Prelude.{◌≡◌, ◌≤◌, List, map, IfOk, IfErr};
 ghost use Rattle.kernel_abi.specs.Devices.{DeviceData, AreFresh};
 ghost use Rattle.outside_io.specs.Outside.{Pushes, HasCause};
-ghost use Rattle.task_table.specs.State.{State};
+ghost use Rattle.task_table.specs.model.State.{State};
 ghost use Rattle.board_model.specs.Script.{Scenario, start_of};
 ghost use Rattle.board_core.specs.Data.{boxed};
 ghost use Rattle.board_core.specs.Stands.{Stands, Stood, turns_of};
 ghost use Rattle.audit_runs.specs.Last.{IsGoodText};
 ghost use Rattle.command_line.specs.CommandLine.{Asked, run as run_job, go as go_job};
-ghost use Rattle.outside_io.specs.Seen.{FilesSeen};
-ghost use Rattle.trace_cli.specs.Sources.{OnlyReads};
+ghost use Rattle.outside_io.specs.Seen.{FilesSeen, OnlyReads};
 ghost use Rattle.trace_cli.specs.Verdict.{level_of, ran, resumed, run_from};
 ghost use Rattle.trace_cli.specs.Ready.{IsReady, IsNamedFaultIn};
 ghost use Rattle.trace_cli.specs.Pushed.{Pushed};

@@ -4,8 +4,9 @@ ghost use Rattle.app_toml.specs.Held.{app_of};
 ghost use Rattle.app_toml.specs.Reading.{read_app};
 ghost use Rattle.image_format.specs.Images.{picture};
 ghost use Rattle.run_script.specs.Events.{script_data};
+ghost use Rattle.outside_io.specs.Seen.{OnlyReads};
 ghost use Rattle.trace_cli.specs.Contents.{file_limit, image_refusal, picture_of, script_refusal, script_of, fault_in};
-ghost use Rattle.trace_cli.specs.Sources.{MayBe, OnlyReads};
+ghost use Rattle.trace_cli.specs.Sources.{MayBe};
 ghost use Rattle.trace_cli.specs.FileFaults.{IsFaultFor, CannotTake};
 
 use crate::file_faults::{FileFault, refused_at_number};

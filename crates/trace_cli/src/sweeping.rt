@@ -7,8 +7,9 @@ ghost use Rattle.board_model.specs.Script.{Scenario};
 ghost use Rattle.board_core.specs.Data.{boxed};
 ghost use Rattle.sweep_core.specs.Sweeping.{IsReady as IsReadyToSweep, asked};
 ghost use Rattle.command_line.specs.CommandLine.{sweep as sweep_job};
+ghost use Rattle.outside_io.specs.Seen.{OnlyReads};
 ghost use Rattle.trace_cli.specs.Contents.{file_limit, arrival_refusal, script_of};
-ghost use Rattle.trace_cli.specs.Sources.{arrival_file, OnlyReads};
+ghost use Rattle.trace_cli.specs.Sources.{arrival_file};
 ghost use Rattle.trace_cli.specs.FileFaults.{IsFaultFor, IsNamedFaultOf};
 ghost use Rattle.trace_cli.specs.Ready.{IsArrivalFile, IsSweepReady, IsNamedFaultIn};
 ghost use Rattle.trace_cli.specs.Pushed.{Pushed};
@@ -75,7 +76,8 @@ fn prepare_sweep<F: Files>(
     devices: Vec<Box<dyn Device>>,
 ) -> Result<Sweeper, NamedFault>
     requires fresh { AreFresh (map shown devices.items) }
-    ensures ready { (from to limit : ℕ) (mem : Bool) → IfOk result (IsSweepReady shown (map shown devices.items) (sweep_job image.now script.now arrival.now from to limit mem) (F.seen files.old).contents from to limit mem) }
+    ensures ready { (from to limit : ℕ) (mem : Bool)
+        → IfOk result (IsSweepReady shown (map shown devices.items) (sweep_job image.now script.now arrival.now from to limit mem) (F.seen files.old).contents from to limit mem) }
     ensures named_fault { (from to limit : ℕ) (mem : Bool) → IfErr result (IsNamedFaultIn (map shown devices.items) (sweep_job image.now script.now arrival.now from to limit mem) (F.seen files.old) (F.seen files.new)) }
     ensures only_reads { OnlyReads (F.seen files.old) (F.seen files.new) }
 {

@@ -5,7 +5,7 @@ ghost use Rattle.board_model.specs.Script.{Scenario, start_of};
 ghost use Rattle.board_core.specs.Data.{boxed};
 ghost use Rattle.board_core.specs.Stands.{Stands, Stood, count_of, turns_of};
 ghost use Rattle.command_line.specs.CommandLine.{timeline as timeline_job};
-ghost use Rattle.trace_cli.specs.Sources.{OnlyReads};
+ghost use Rattle.outside_io.specs.Seen.{OnlyReads};
 ghost use Rattle.trace_cli.specs.Pushed.{Says};
 ghost use Rattle.trace_cli.specs.Verdict.{timed};
 ghost use Rattle.trace_cli.specs.Answer.{AnswersJob};

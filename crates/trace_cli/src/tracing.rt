@@ -20,7 +20,7 @@ use app_toml::App;
 use board_core::Board;
 use devices::Device;
 use outside_io::{Files, Sink};
-use run_cover::{Counts, Source, write_tracefile};
+use run_cover::{PlaceCounts, Source, write_tracefile};
 use std::alloc::{AllocError, Global};
 use thumb_asm::InsnLine;
 
@@ -66,11 +66,12 @@ fn trace_board<F: Files, S: Sink>(
     requires stood { Stood (boxed shown) board.old }
     requires fresh { turns_of board.old ≡ 0 }
     requires few { steps ≤ 1000000000 }
-    ensures tells { (x : Scenario) → Stands (boxed shown) x board.old (start_of x) → Tells (F.seen files.old) (F.seen files.new) (S.seen out.old) (S.seen out.new) (traced name.now steps (map section_of sources.now) x) result }
+    ensures tells { (x : Scenario) → Stands (boxed shown) x board.old (start_of x)
+        → Tells (F.seen files.old) (F.seen files.new) (S.seen out.old) (S.seen out.new) (traced name.now steps (map section_of sources.now) x) result }
     ensures reads { (F.seen files.new).read_faults ≡ (F.seen files.old).read_faults }
     ensures puts { (F.seen files.old).put_faults ≤ (F.seen files.new).put_faults }
 {
-    let mut counts = match Counts::open(alloc) {
+    let mut counts = match PlaceCounts::open(alloc) {
         Ok(counts) => counts,
         Err(_) => return 5,
     };

@@ -1,5 +1,5 @@
 use Rattle.std.proofs.Common.{[]}
-use Rattle.task_table.specs.Start.{start}
+use Rattle.task_table.specs.model.Start.{start}
 use Rattle.audit_runs.proofs.Speaking.{spoken_start}
 use Rattle.audit_runs.proofs.Waiting.{chain_spoken}
 use Rattle.audit_runs.proofs.calls.chains_say_what_is_good.Goals as goal

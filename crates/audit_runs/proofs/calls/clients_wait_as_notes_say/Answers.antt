@@ -1,5 +1,5 @@
 use Rattle.std.proofs.Common.{refl}
-use Rattle.task_table.specs.Reading.{call_of}
+use Rattle.task_table.specs.model.Reading.{call_of}
 use Rattle.audit_runs.proofs.Waiting.{spoken_waits}
 use Rattle.audit_runs.proofs.calls.clients_wait_as_notes_say.Goals as goal
 

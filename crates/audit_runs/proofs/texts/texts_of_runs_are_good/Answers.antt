@@ -1,10 +1,10 @@
 use Rattle.std.proofs.Common.{ℕ, List, ◌++◌, subst, arith}
-use Rattle.task_table.specs.State.{Setup}
-use Rattle.task_table.specs.Sane.{Sane}
+use Rattle.task_table.specs.model.State.{Setup}
+use Rattle.task_table.specs.model.Sane.{Sane}
 use Rattle.trace_text.specs.Fit.{AreFit}
 use Rattle.trace_audit.specs.Rules.{IsGood}
 use Rattle.trace_audit.specs.Texts.{lines_of}
-use Rattle.trace_audit.specs.Verdicts.{HasNoCause, read_lines}
+use Rattle.trace_audit.specs.Judgements.{HasNoCause, read_lines}
 use Rattle.board_model.specs.Run.{Run, run}
 use Rattle.board_model.specs.Script.{start_of}
 use Rattle.board_model.specs.Lifetimes.{notes_in}

@@ -1,6 +1,6 @@
 use Rattle.std.proofs.Common.{◌∙◌, rules, sym, ap, List, ℕ}
 use Rattle.arrayvec.proofs.ArrayVecLemmas.{filter-from_retain}
-use Rattle.board_core.specs.Breakpoints.{stands}
+use Rattle.board_core.specs.fast.Breakpoints.{stands}
 use Rattle.debug_core.proofs.Others.{all_others}
 use Rattle.debug_core.proofs.breakpoints.clear.Goals as goal
 

@@ -1,5 +1,5 @@
 use Rattle.std.proofs.Common.{◌≡◌, ◌∙◌, ◌++◌, ◌∷◌, [], ◌<◌, ◌≤◌, ℕ, Bool, true, false, List, length, cond, refl, sym, ap, arith}
-use Rattle.board_core.specs.Breakpoints.{stands}
+use Rattle.board_core.specs.fast.Breakpoints.{stands}
 use Rattle.debug_core.specs.declared.answer.Answer.{Answer}
 use Rattle.debug_core.specs.declared.answer.Answer.TheVariants.{Full, Set}
 use Rattle.debug_core.specs.Session.{is_full}

@@ -2,7 +2,7 @@ use Rattle.std.proofs.Common.{◌≡◌, ◌+◌, ◌∙◌, ap, sym, arith, len
 use Rattle.text_lines.specs.Text.{lines_of}
 use Rattle.debug_core.specs.declared.command.Command.{Command}
 use Rattle.debug_core.specs.Lines.{Said}
-use Rattle.debug_core.specs.Reading.{Stops, commands_or_fault, with_lines, with_said}
+use Rattle.debug_core.specs.Reading.{Refuses, commands_or_fault, with_lines, with_said}
 use Rattle.debug_core.proofs.Walk.{no_line, goes_on, stops_at}
 use Rattle.debug_core.proofs.commands.commands_of.Goals as goal
 
@@ -26,5 +26,5 @@ returns-clause-ok c = c.lines.invariant.same ∙ ap (with_lines c.lines.commands
 
 pub returns-in-Err-clause-refused : goal.returns-in-Err-clause-refused
 returns-in-Err-clause-refused c =
-    let said = subst (λ (s : Said). Stops c.in-Err.fault (c.lines.number + 1) (with_said c.lines.commands.items s)) c.said.ensures c.in-Err.ensures.err in
+    let said = subst (λ (s : Said). Refuses c.in-Err.fault (c.lines.number + 1) (with_said c.lines.commands.items s)) c.said.ensures c.in-Err.ensures.err in
     stops_at c.lines.commands.items (c.lines.number + 1) c.in-Some.line.now (lines_of c.next.new.self.rest.now) (lines_of c.lines.lines.rest.now) (commands_or_fault c.args.bytes.now) c.in-Err.fault c.lines.invariant.same c.in-Some.ensures.line said

@@ -1,7 +1,7 @@
 use Rattle.std.proofs.Common.{ℕ, ◌≡◌, ◌+◌, ◌≤◌, ◌∙◌, inr, length, length-take, ap, arith}
 use Rattle.mem_banks.specs.Memory.{Memory, Opened, bytes_at, copied}
 use Rattle.mem_banks.proofs.Copies.{bytes_ram}
-use Rattle.task_table.proofs.Steps.{length-with_bytes}
+use Rattle.mem_banks.proofs.Stores.{length-with_bytes}
 use Rattle.kernel_tests.proofs.banks.copy.Goals as goal
 
 -- a copy within the RAM leaves its length

@@ -3,9 +3,9 @@ use Rattle.std.specs.Prelude.{Contains}
 use Rattle.std.proofs.lemmas.List.{length_push}
 use Rattle.std.proofs.lemmas.List.Elements.{All-push}
 use Rattle.task_table.specs.declared.start.TaskStart.{TaskStart}
-use Rattle.task_table.specs.Openable.{AreOpenable}
-use Rattle.task_table.specs.Parts.{task_setup}
-use Rattle.task_table.specs.State.{TaskSetup}
+use Rattle.task_table.specs.kept.Openable.{AreOpenable}
+use Rattle.task_table.specs.kept.Parts.{task_setup}
+use Rattle.task_table.specs.model.State.{TaskSetup}
 use Rattle.kernel_tests.proofs.choosing.many_tasks.Goals as goal
 
 nothing_in : {X P : Type 0} (xs : List X) (x : X) → xs ≡ [] → Contains xs x → P

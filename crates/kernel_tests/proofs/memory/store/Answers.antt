@@ -1,6 +1,6 @@
 use Rattle.std.proofs.Common.{length, ap, ◌∙◌}
 use Rattle.mem_banks.specs.Memory.{Opened}
-use Rattle.task_table.proofs.Steps.{length-with_bytes}
+use Rattle.mem_banks.proofs.Stores.{length-with_bytes}
 use Rattle.kernel_tests.proofs.memory.store.Goals as goal
 
 pub returns : goal.returns

@@ -4,7 +4,7 @@ use Rattle.std.specs.Prelude.{vec_items}
 use Rattle.kernel_abi.specs.declared.Kind.{Kind}
 use Rattle.kernel_abi.specs.Devices.{DeviceData}
 use Rattle.region_check.specs.declared.Region.{Region}
-use Rattle.task_table.specs.State.{TaskSetup, LineSetup}
+use Rattle.task_table.specs.model.State.{TaskSetup, LineSetup}
 use Rattle.image_format.specs.Images.{picture}
 use Rattle.image_format.specs.Picture.{Picture, TaskPicture, LinePicture}
 use Rattle.board_core.specs.Opened.{setup_of_image, setup_of_task, setup_of_line}

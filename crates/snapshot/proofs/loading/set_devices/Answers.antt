@@ -1,7 +1,7 @@
 use Rattle.std.proofs.Common.{◌≡◌, ◌∙◌, ◌<◌, ℕ, length, refl, sym, ap, subst, add-one, arith}
 use Rattle.kernel_abi.specs.declared.Kind.{Kind}
 use Rattle.kernel_abi.specs.Devices.{DeviceData, device_at}
-use Rattle.task_table.specs.State.{State}
+use Rattle.task_table.specs.model.State.{State}
 use Rattle.board_core.specs.Data.{boxed}
 use Rattle.board_core.specs.Stands.{Holds}
 use Rattle.snapshot.specs.Records.{device_in}

@@ -1,7 +1,7 @@
 use Rattle.std.proofs.Common.{◌≢◌, ◌∙◌, ◌<◌, length, ap, arith, below_more, get_or-set_other, get_or-set_same}
 use Rattle.std.proofs.Math.ListN.{length-set}
 use Rattle.std.proofs.lemmas.List.FromFn.{fill_by_all}
-use Rattle.task_table.specs.Reading.{line_at}
+use Rattle.task_table.specs.model.Reading.{line_at}
 use Rattle.board_model.specs.Alike.{reduced}
 use Rattle.snapshot.specs.Saved.{line_number}
 use Rattle.snapshot.specs.Shown.{line_shown}

@@ -1,6 +1,6 @@
 use Rattle.std.proofs.Common.{◌≡◌, ◌<◌, ℕ, length, get_or}
-use Rattle.task_table.specs.State.{State}
-use Rattle.task_table.specs.Reading.{line_at}
+use Rattle.task_table.specs.model.State.{State}
+use Rattle.task_table.specs.model.Reading.{line_at}
 use Rattle.board_model.specs.Alike.{reduced}
 use Rattle.board_model.specs.Script.{Scenario}
 use Rattle.board_core.specs.Data.{boxed}

@@ -1,6 +1,6 @@
 use Rattle.std.proofs.Common.{◌≡◌, take}
 use Rattle.std.specs.Prelude.{fold}
-use Rattle.task_table.specs.State.{State}
+use Rattle.task_table.specs.model.State.{State}
 use Rattle.board_model.specs.Script.{Scenario}
 use Rattle.board_core.specs.Data.{boxed}
 use Rattle.board_core.specs.Stands.{Stands}

@@ -1,5 +1,5 @@
 use Rattle.std.proofs.Common.{refl, sym, ◌∙◌}
-use Rattle.trace_audit.specs.declared.verdict.Verdict.TheVariants.{No}
+use Rattle.trace_audit.specs.declared.judgement.Judgement.TheVariants.{No}
 use Rattle.trace_cli.specs.Verdict.{audited}
 use Rattle.trace_cli.specs.Pushed.{pushed}
 use Rattle.trace_cli.proofs.auditing.tell_no.Goals as goal

@@ -1,5 +1,5 @@
 use Rattle.std.proofs.Common.{refl, sym, ◌∙◌}
-use Rattle.trace_audit.specs.declared.verdict.Verdict.TheVariants.{Yes}
+use Rattle.trace_audit.specs.declared.judgement.Judgement.TheVariants.{Yes}
 use Rattle.trace_cli.specs.Verdict.{audited}
 use Rattle.trace_cli.specs.Pushed.{pushed}
 use Rattle.trace_cli.proofs.auditing.tell_yes.Goals as goal

@@ -8,7 +8,7 @@ use Rattle.trace_cli.specs.Building.{IsImageOf}
 use Rattle.trace_cli.proofs.Refusals.{app_by_room, app_faulty}
 use Rattle.trace_cli.proofs.Faulting.{cannot_take, refused_in, long_app}
 use Rattle.trace_cli.proofs.Taking.{image_of_files, faults_at_app, faults_later}
-use Rattle.trace_cli.proofs.OnlyReading.{reads_more}
+use Rattle.outside_io.proofs.OnlyReading.{reads_more}
 use Rattle.trace_cli.proofs.building.built_app.Goals as goal
 
 pub returns-in-Err-clause-named_fault : goal.returns-in-Err-clause-named_fault

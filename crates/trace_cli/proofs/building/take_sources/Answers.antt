@@ -10,7 +10,7 @@ use Rattle.trace_cli.specs.Sources.{File}
 use Rattle.trace_cli.specs.FileFaults.{IsNamedFaultOf}
 use Rattle.trace_cli.specs.Building.{HasNext}
 use Rattle.trace_cli.proofs.Taking.{each_accepted, get_mapped, faults_next, one_more}
-use Rattle.trace_cli.proofs.OnlyReading.{reads_more}
+use Rattle.outside_io.proofs.OnlyReading.{reads_more}
 use Rattle.trace_cli.proofs.building.take_sources.Goals as goal
 
 pub returns-in-Err-clause-named_fault : goal.returns-in-Err-clause-named_fault

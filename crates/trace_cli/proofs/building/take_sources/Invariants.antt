@@ -2,7 +2,7 @@ use Rattle.std.proofs.Common.{◌≡◌, map}
 use Rattle.app_toml.specs.Held.{app_of}
 use Rattle.app_toml.specs.Sites.{task_of}
 use Rattle.image_build.specs.Accepted.{described}
-use Rattle.trace_cli.specs.Sources.{OnlyReads}
+use Rattle.outside_io.specs.Seen.{OnlyReads}
 use Rattle.trace_cli.proofs.Taking.{HasFirst}
 use Rattle.trace_cli.proofs.building.take_sources.Given as goal
 

@@ -4,7 +4,7 @@ use Rattle.run_script.specs.Events.{script_data}
 use Rattle.debug_core.specs.Listed.{listed}
 use Rattle.trace_cli.specs.declared.file_faults.NamedFault.TheVariants as named_faults
 use Rattle.trace_cli.proofs.Readying.{debug_ready, script_there, commands_there, debug_image_faults, debug_script_faults, debug_commands_faults}
-use Rattle.trace_cli.proofs.OnlyReading.{reads_more}
+use Rattle.outside_io.proofs.OnlyReading.{reads_more}
 use Rattle.trace_cli.proofs.debugging.prepare_debug.Goals as goal
 
 pub returns-in-Err-clause-named_fault : goal.returns-in-Err-clause-named_fault

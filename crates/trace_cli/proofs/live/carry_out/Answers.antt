@@ -2,8 +2,8 @@ use Rattle.std.proofs.Common.{Err, ap, refl, sym, ◌∙◌}
 use Rattle.debug_core.specs.Session.{opened}
 use Rattle.trace_cli.specs.Pushed.{unsaid}
 use Rattle.trace_cli.specs.Verdict.{line_alone, unread_line}
-use Rattle.trace_cli.proofs.Living.{only_read, says_broken, says_cut, says_ended}
-use Rattle.trace_cli.proofs.OnlyReading.{none_read}
+use Rattle.trace_cli.proofs.Living.{says_broken, says_cut, says_ended}
+use Rattle.outside_io.proofs.OnlyReading.{none_read}
 use Rattle.trace_cli.proofs.live.carry_out.Goals as goal
 
 pub carry_out_live-requires : goal.carry_out_live-requires
@@ -34,13 +34,13 @@ returns-clause-says g c = λ x st.
     (c.in-Err-Failed.ensures.fault fault) (c.in-Err-Failed.ensures.failed x opened (c.in-Ok-open.ensures x st) fault)
 
 pub returns-in-Ok-carry_out_live-clause-only_reads : goal.returns-in-Ok-carry_out_live-clause-only_reads
-returns-in-Ok-carry_out_live-clause-only_reads g c = only_read c.in-Ok-carry_out_live.ensures.only_reads
+returns-in-Ok-carry_out_live-clause-only_reads g c = c.in-Ok-carry_out_live.ensures.only_reads
 
 pub returns-in-Err-Unread-clause-only_reads : goal.returns-in-Err-Unread-clause-only_reads
-returns-in-Err-Unread-clause-only_reads g c = only_read c.in-Err-Unread.ensures.only_reads
+returns-in-Err-Unread-clause-only_reads g c = c.in-Err-Unread.ensures.only_reads
 
 pub returns-clause-only_reads : goal.returns-clause-only_reads
-returns-clause-only_reads g c = only_read c.in-Err-Failed.ensures.only_reads
+returns-clause-only_reads g c = c.in-Err-Failed.ensures.only_reads
 
 pub returns-in-Err-clause-only_reads : goal.returns-in-Err-clause-only_reads
 returns-in-Err-clause-only_reads g c = none_read (g.F.Files.seen c.args.files.now)

@@ -1,7 +1,7 @@
 use Rattle.command_line.specs.CommandLine.{live}
 use Rattle.trace_cli.specs.Contents.{scenario_of}
 use Rattle.trace_cli.proofs.Living.{answers_live, takes_lines}
-use Rattle.trace_cli.proofs.OnlyReading.{reads_more}
+use Rattle.outside_io.proofs.OnlyReading.{reads_more}
 use Rattle.trace_cli.proofs.Readying.{answers_named_fault}
 use Rattle.trace_cli.proofs.live.live_files.Goals as goal
 

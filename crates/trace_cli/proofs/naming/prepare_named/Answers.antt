@@ -1,6 +1,6 @@
 use Rattle.std.proofs.Common.{◌∙◌, map, string_bytes}
 use Rattle.trace_cli.proofs.Named.{as_many, named_faults, named_ready, takes_named}
-use Rattle.trace_cli.proofs.OnlyReading.{reads_more}
+use Rattle.outside_io.proofs.OnlyReading.{reads_more}
 use Rattle.trace_cli.proofs.naming.prepare_named.Goals as goal
 
 pub returns-in-Err-clause-named_fault : goal.returns-in-Err-clause-named_fault

@@ -1,6 +1,6 @@
 use Rattle.image_format.specs.Images.{picture}
 use Rattle.trace_cli.proofs.Readying.{app_ready, set_there, app_script_faults, app_faults}
-use Rattle.trace_cli.proofs.OnlyReading.{reads_more}
+use Rattle.outside_io.proofs.OnlyReading.{reads_more}
 use Rattle.trace_cli.proofs.preparing.prepare_app.Goals as goal
 
 pub returns-in-Ok-set_up-clause-ready : goal.returns-in-Ok-set_up-clause-ready

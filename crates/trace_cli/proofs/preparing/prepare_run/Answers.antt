@@ -1,7 +1,7 @@
 use Rattle.std.proofs.lemmas.Result.{IfOk-weaker, IfErr-weaker}
 use Rattle.image_format.specs.Images.{picture}
 use Rattle.trace_cli.proofs.Readying.{image_ready, set_there, script_faults, image_faults}
-use Rattle.trace_cli.proofs.OnlyReading.{reads_more}
+use Rattle.outside_io.proofs.OnlyReading.{reads_more}
 use Rattle.trace_cli.proofs.preparing.prepare_run.Goals as goal
 
 pub returns-in-Ok-clause-ready : goal.returns-in-Ok-clause-ready

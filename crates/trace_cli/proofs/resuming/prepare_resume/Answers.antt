@@ -5,7 +5,7 @@ use Rattle.run_script.specs.Events.{script_data}
 use Rattle.trace_cli.specs.Sources.{script_file}
 use Rattle.trace_cli.proofs.Faulting.{faults_earlier}
 use Rattle.trace_cli.proofs.Readying.{starts_seen, resume_ready, script_there, state_there, resume_image_faults, resume_script_faults, resume_state_faults}
-use Rattle.trace_cli.proofs.OnlyReading.{reads_more}
+use Rattle.outside_io.proofs.OnlyReading.{reads_more}
 use Rattle.trace_cli.proofs.resuming.prepare_resume.Goals as goal
 
 pub returns-in-Err-clause-named_fault : goal.returns-in-Err-clause-named_fault

@@ -9,8 +9,8 @@ use Rattle.mem_banks.specs.Memory.{AreAllBytes}
 use Rattle.run_script.specs.Events.{script_data}
 use Rattle.run_script.specs.Scripts.{ScriptData, events_of}
 use Rattle.run_script.specs.Facts.{IsTurn}
-use Rattle.task_table.proofs.Starts.{sane-start}
-use Rattle.task_table.proofs.Equipped.{keeps-devices}
+use Rattle.task_table.proofs.kept.Starts.{sane-start}
+use Rattle.task_table.proofs.model.Equipped.{keeps-devices}
 use Rattle.board_core.specs.Opened.{scenario_of, setup_of_image, setup_of_task}
 use Rattle.board_core.proofs.Opens.{sound_setup}
 use Rattle.trace_cli.specs.Ready.{StartsWell}

@@ -8,13 +8,13 @@ returns-in-Err-TooLong-clause-file_fault g c =
     by_length _ _ c.args.name.now c.args.limit c.refused_at_number.result c.refused_at_number.ensures (seen refl)
 
 pub returns-in-Ok-clause-only_reads : goal.returns-in-Ok-clause-only_reads
-returns-in-Ok-clause-only_reads g c = record { later = c.read_all.ensures.later; contents = c.read_all.ensures.contents; puts = c.read_all.ensures.puts }
+returns-in-Ok-clause-only_reads g c = record { later = c.read_all.ensures.later; grown = c.read_all.ensures.grown; contents = c.read_all.ensures.contents; puts = c.read_all.ensures.puts }
 
 pub returns-in-Err-Failed-clause-only_reads : goal.returns-in-Err-Failed-clause-only_reads
-returns-in-Err-Failed-clause-only_reads g c = record { later = c.read_all.ensures.later; contents = c.read_all.ensures.contents; puts = c.read_all.ensures.puts }
+returns-in-Err-Failed-clause-only_reads g c = record { later = c.read_all.ensures.later; grown = c.read_all.ensures.grown; contents = c.read_all.ensures.contents; puts = c.read_all.ensures.puts }
 
 pub returns-in-Err-TooLong-clause-only_reads : goal.returns-in-Err-TooLong-clause-only_reads
-returns-in-Err-TooLong-clause-only_reads g c = record { later = c.read_all.ensures.later; contents = c.read_all.ensures.contents; puts = c.read_all.ensures.puts }
+returns-in-Err-TooLong-clause-only_reads g c = record { later = c.read_all.ensures.later; grown = c.read_all.ensures.grown; contents = c.read_all.ensures.contents; puts = c.read_all.ensures.puts }
 
 pub returns-in-Err-Memory-clause-only_reads : goal.returns-in-Err-Memory-clause-only_reads
-returns-in-Err-Memory-clause-only_reads g c = record { later = c.read_all.ensures.later; contents = c.read_all.ensures.contents; puts = c.read_all.ensures.puts }
+returns-in-Err-Memory-clause-only_reads g c = record { later = c.read_all.ensures.later; grown = c.read_all.ensures.grown; contents = c.read_all.ensures.contents; puts = c.read_all.ensures.puts }

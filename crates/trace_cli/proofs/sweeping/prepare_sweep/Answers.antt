@@ -3,7 +3,7 @@ use Rattle.image_format.specs.Images.{picture}
 use Rattle.run_script.specs.Events.{script_data}
 use Rattle.trace_cli.specs.declared.file_faults.NamedFault.TheVariants as named_faults
 use Rattle.trace_cli.proofs.Readying.{sweep_ready, script_there, arrival_there, sweep_image_faults, sweep_script_faults, sweep_arrival_faults}
-use Rattle.trace_cli.proofs.OnlyReading.{reads_more}
+use Rattle.outside_io.proofs.OnlyReading.{reads_more}
 use Rattle.trace_cli.proofs.sweeping.prepare_sweep.Goals as goal
 
 pub returns-in-Err-clause-named_fault : goal.returns-in-Err-clause-named_fault

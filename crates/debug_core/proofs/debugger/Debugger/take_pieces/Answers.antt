@@ -2,7 +2,7 @@ use Rattle.std.proofs.Common.{◌≡◌, ◌∙◌, ◌+◌, ◌++◌, ◌<◌, 
 use Rattle.std.proofs.lemmas.List.{length-append, length-drop, length-take, take-append-le}
 use Rattle.outside_io.specs.Outside.{IsPart, WhereSeen}
 use Rattle.debug_core.specs.Live.{begun_text}
-use Rattle.debug_core.proofs.OnlyReading.{none_read, reads_more}
+use Rattle.outside_io.proofs.OnlyReading.{none_read, reads_more}
 use Rattle.debug_core.proofs.Taking.{IsRead, given_all, given_end, given_more, given_none, given_same, read_begun, read_end, read_most, read_none, read_on, read_within}
 use Rattle.debug_core.proofs.Telling.{amid_begun, amid_none}
 use Rattle.debug_core.proofs.debugger.Debugger.take_pieces.Goals as goal

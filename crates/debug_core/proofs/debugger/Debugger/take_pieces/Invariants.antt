@@ -1,7 +1,8 @@
 use Rattle.std.proofs.Common.{◌≡◌, ◌≤◌, ◌-◌, length, List, ℕ}
 use Rattle.board_model.specs.Script.{Scenario}
 use Rattle.board_core.specs.Data.{boxed}
-use Rattle.debug_core.specs.Live.{HasGiven, OnlyReads}
+use Rattle.outside_io.specs.Seen.{OnlyReads}
+use Rattle.debug_core.specs.Live.{HasGiven}
 use Rattle.debug_core.specs.Session.{Session}
 use Rattle.debug_core.specs.Sessions.{IsSession}
 use Rattle.debug_core.specs.UnderWay.{IsAmid}

@@ -1,7 +1,8 @@
 use Rattle.std.proofs.Common.{◌≡◌, ◌∙◌, ℕ, ◌-◌, ap, sym, arith}
 use Rattle.board_model.specs.Run.{ending}
+use Rattle.board_model.proofs.SameTurn.{same_turn}
 use Rattle.debug_core.specs.Runs.{state_at}
-use Rattle.debug_core.proofs.Ahead.{ending_same, same_turn}
+use Rattle.debug_core.proofs.Ahead.{ending_same}
 use Rattle.debug_core.proofs.Standing.{turns_at}
 use Rattle.debug_core.proofs.timeline.Timeline.ending.Goals as goal
 

@@ -1,7 +1,7 @@
 use Rattle.std.proofs.Common.{subst, sym, refl}
 use Rattle.kernel_abi.specs.declared.Note.{Note}
 use Rattle.run_cover.specs.Counted.{HeardNote}
-use Rattle.run_cover.proofs.counts.Counts.hear.Goals as goal
+use Rattle.run_cover.proofs.counts.PlaceCounts.hear.Goals as goal
 
 pub returns-in-High : goal.returns-in-High
 returns-in-High c =

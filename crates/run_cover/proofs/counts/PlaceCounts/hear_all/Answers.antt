@@ -1,7 +1,7 @@
 use Rattle.std.proofs.Common.{◌<◌, length, arith}
 use Rattle.kernel_abi.specs.declared.Note.TheVariants as note
 use Rattle.run_cover.proofs.Growing.{heard_none, heard_note, heard_more, at_turn_more}
-use Rattle.run_cover.proofs.counts.Counts.hear_all.Goals as goal
+use Rattle.run_cover.proofs.counts.PlaceCounts.hear_all.Goals as goal
 
 pub loop-note-init : goal.loop-note-init
 loop-note-init c = heard_none c.args.self.now

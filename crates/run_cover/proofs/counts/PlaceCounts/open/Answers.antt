@@ -1,7 +1,7 @@
 use Rattle.std.proofs.Common.{◌≡◌, ◌∙◌, ap, replicate}
 use Rattle.run_cover.specs.Counted.{no_count}
 use Rattle.run_cover.proofs.Counting.{newly_counted}
-use Rattle.run_cover.proofs.counts.Counts.open.Goals as goal
+use Rattle.run_cover.proofs.counts.PlaceCounts.open.Goals as goal
 
 pub returns : goal.returns
 returns c =

@@ -3,7 +3,7 @@ use Rattle.std.proofs.lemmas.List.{get_or_read}
 use Rattle.run_cover.specs.declared.counts.Count.{Count}
 use Rattle.run_cover.specs.Counted.{no_count, item_at, raised_in}
 use Rattle.run_cover.proofs.Counting.{counted_there, counted_nowhere, no_number_here, some_number}
-use Rattle.run_cover.proofs.counts.Counts.count.Goals as goal
+use Rattle.run_cover.proofs.counts.PlaceCounts.count.Goals as goal
 
 pub returns-then-k-len : goal.returns-then-k-len
 returns-then-k-len c =

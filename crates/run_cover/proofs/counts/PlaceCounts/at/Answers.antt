@@ -2,7 +2,7 @@ use Rattle.std.proofs.Common.{◌<◌, ◌∙◌, sym, length, arith}
 use Rattle.std.proofs.lemmas.List.{get_or_read}
 use Rattle.run_cover.specs.Counted.{no_count}
 use Rattle.run_cover.proofs.Counting.{count_of_place, count_of_none, count_of_past}
-use Rattle.run_cover.proofs.counts.Counts.at.Goals as goal
+use Rattle.run_cover.proofs.counts.PlaceCounts.at.Goals as goal
 
 pub returns-then-k-len : goal.returns-then-k-len
 returns-then-k-len c =

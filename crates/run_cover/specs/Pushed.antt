@@ -1,0 +1,14 @@
+-- What is pushed of a board.
+use Rattle.std.specs.Prelude.{ℕ, List, Result}
+use Rattle.outside_io.specs.Outside.{Pushes}
+use Rattle.outside_io.specs.Seen.{SinkSeen}
+use Rattle.outside_io.specs.declared.traits.Failed.{Failed}
+use Rattle.task_table.specs.model.State.{State}
+use Rattle.board_model.specs.Script.{Scenario}
+use Rattle.board_core.specs.declared.board.Board.{Board}
+use Rattle.board_core.specs.Data.{Shows}
+use Rattle.board_core.specs.Stands.{Stands}
+
+-- a text is pushed that hangs on the state for which a board stands, whichever that is
+abbrev pub PushesFor : {X : Type 0} {H : X → Type 0} → Shows X H → Board X H → (Scenario → State → List ℕ) → SinkSeen → SinkSeen → Result Unit Failed → Type 0
+PushesFor shown board text before after result = (x : Scenario) (s : State) → Stands shown x board s → Pushes before.written after.written (text x s) result
