@@ -1,11 +1,12 @@
 #!/usr/bin/env bash
 # Speed of `hubris run` against plain C in the same run: turns per second on the two-instruction image at 10^6, 10^7 and
 # 10^8 steps with peak memory, against loop.c; and against interpreter.c, which writes the same lines: turns per second of
-# images compiled by gcc, of the 32 and the 512 tasks of timers/, of the clients and servers of messages/, 21 and 512 tasks, and leases/, of shared/, a task a third of whose accesses lie in a region that it uses,
-# of polls/, a driver that asks a port every third turn, and of the large
-# sample of seed 1 (sample/: its image and its script; idle.img is a task that waits), and bytes per
-# second of two of those images and of messages/ with --all. crc32 and
-# bytecode end in `b .` after their work; here they begin it anew instead. The others (programs/) work for ever.
+# images compiled by gcc, of the 32 and the 512 tasks of timers/, of the clients and servers of messages/, 21 and 512
+# tasks, and leases/, of shared/, a task a third of whose accesses lie in a region that it uses, of regions/, one half of
+# whose accesses lie in two regions, of polls/, a driver that asks a port every third turn, and of the large sample of
+# seed 1 (sample/: its image and its script; idle.img is a task that waits), and bytes per second of two of those images
+# and of messages/ with --all. crc32 and bytecode end in `b .` after their work; here they begin it anew instead. The
+# others (programs/) work for ever.
 # Where valgrind is there, the host's instructions a turn are counted too: they do not depend on the clock, and the script
 # ends with status 1 where one is above its limit, since an inlining that is lost is silent otherwise. The time of a run that
 # waits for one event in 10^9 turns is told too.
@@ -26,6 +27,7 @@ data=../crates/hubris/data
 for k in 1 2 3 4; do sed "s/task_server/&$k/" messages/client.s > "out/client$k.s"; done
 made=
 cp shared/app.toml out/shared.toml
+cp regions/app.toml out/regions.toml
 cp polls/app.toml out/polls.toml
 awk -f polls/driver.awk > out/driver.s
 awk -f polls/script.awk > out/polls.txt
@@ -35,7 +37,7 @@ for application in timers messages leases; do
 done
 awk -v tasks=512 -f timers/application.awk > out/timers512.toml
 awk -v clients=507 -f messages/application.awk > out/messages512.toml
-for application in $made shared polls timers512 messages512; do
+for application in $made shared regions polls timers512 messages512; do
     said=$(cd .. && "$program" build "bench/out/$application.toml" "bench/out/$application.img") || { echo "$application not built: $said"; exit 1; }
 done
 for image in crc32 bytecode; do ./endless.sh "$image" > "out/$image.img"; done
@@ -72,6 +74,8 @@ same out/leases.img out/empty.txt 100000
 same out/leases.img out/empty.txt 20000 --all
 same out/shared.img out/empty.txt 100000
 same out/shared.img out/empty.txt 20000 --all
+same out/regions.img out/empty.txt 100000
+same out/regions.img out/empty.txt 20000 --all
 same out/polls.img out/polls.txt 300000
 same out/polls.img out/polls.txt 20000 --all
 same out/polls.img out/empty.txt 100000 --all
@@ -96,6 +100,7 @@ for steps in 1000000 10000000; do play "16 clients, 4 servers" out/messages.img 
 play "16 clients, 4 servers, --all" out/messages.img out/empty.txt 1000000 --all
 for steps in 1000000 10000000; do play "8 lenders, 1 server" out/leases.img out/empty.txt "$steps"; done
 for steps in 10000000 100000000; do play "shared memory" out/shared.img out/empty.txt "$steps"; done
+play "two shared regions" out/regions.img out/empty.txt 10000000
 for steps in 10000000 100000000; do play "a driver that polls" out/polls.img out/empty.txt "$steps"; done
 play "512 tasks with timers" out/timers512.img timers/script.txt 10000000
 play "507 clients, 4 servers" out/messages512.img out/empty.txt 10000000
@@ -123,16 +128,17 @@ instructions() {
     many=$(host "$@" --steps 1200000)
     awk -v what="$what" -v n=$((many - few)) -v most="$most" 'BEGIN { printf "%-28s %7.1f host instructions a turn, at most %d\n", what, n / 1e6, most; exit n / 1e6 > most }' || short=1
 }
-for image in $compiled; do instructions "$image" 54 "out/$image.img" out/empty.txt; done
-instructions "two instructions" 26 "$data/a.img" out/empty.txt
-instructions "shared memory" 50 out/shared.img out/empty.txt
-instructions "a driver that polls" 108 out/polls.img out/empty.txt
-instructions "32 tasks with timers" 314 out/timers.img timers/script.txt
-instructions "16 clients, 4 servers" 223 out/messages.img out/empty.txt
-instructions "8 lenders, 1 server" 226 out/leases.img out/empty.txt
-instructions "large sample" 141 sample/sample.img sample/script.txt
-instructions "512 tasks with timers" 346 out/timers512.img timers/script.txt
+for image in $compiled; do instructions "$image" 52 "out/$image.img" out/empty.txt; done
+instructions "two instructions" 24 "$data/a.img" out/empty.txt
+instructions "shared memory" 52 out/shared.img out/empty.txt
+instructions "two shared regions" 57 out/regions.img out/empty.txt
+instructions "a driver that polls" 107 out/polls.img out/empty.txt
+instructions "32 tasks with timers" 288 out/timers.img timers/script.txt
+instructions "16 clients, 4 servers" 203 out/messages.img out/empty.txt
+instructions "8 lenders, 1 server" 205 out/leases.img out/empty.txt
+instructions "large sample" 128 sample/sample.img sample/script.txt
+instructions "512 tasks with timers" 309 out/timers512.img timers/script.txt
 start=$(host out/timers512.img timers/script.txt --steps 0)
 awk -v n="$start" 'BEGIN { printf "%-28s %7.1f million host instructions before the first turn, at most 10\n", "512 tasks with timers", n / 1e6; exit n / 1e6 > 10 }' || short=1
-instructions "507 clients, 4 servers" 236 out/messages512.img out/empty.txt
+instructions "507 clients, 4 servers" 213 out/messages512.img out/empty.txt
 exit $short
