@@ -428,7 +428,8 @@ impl Board {
     fn renew(&mut self, noted: usize)
         requires { (g : Setup) × (t : Turn) × MachineStands shown g self.old.machine t }
         ensures holds { (g : Setup) (t : Turn) → MachineHolds shown g self.old.machine t → MachineHolds shown g self.new.machine t }
-        ensures choice { (g : Setup) (t : Turn) → MachineStands shown g self.old.machine t → WasChoice g self.old.choice → (length t.notes ≤ noted → IsChoice g t.state self.old.choice) → IsChoice g t.state self.new.choice }
+        ensures choice { (g : Setup) (t : Turn) → MachineStands shown g self.old.machine t → WasChoice g self.old.choice →
+            (length t.notes ≤ noted → IsChoice g t.state self.old.choice) → IsChoice g t.state self.new.choice }
         ensures count { length (notes_of self.new) ≡ length (notes_of self.old) }
         ensures turns { turns_of self.new ≡ turns_of self.old }
         ensures script { self.new.script ≡ self.old.script }

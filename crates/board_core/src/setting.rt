@@ -154,7 +154,8 @@ impl Board {
     /// So many bytes were stored to the k-th device, modulo 2^32, and these wait in it, the first first.
     pub fn set_device(&mut self, k: usize, count: u32, queue: &[u8])
         requires { (x : Scenario) × (s : State) × Holds shown x self.old s × (k < length s.devices) × IsSettable (device_at s.devices k).kind count queue.now }
-        ensures holds { (x : Scenario) (s : State) → Holds shown x self.old s → Holds shown x self.new (record s { devices = with_device s.devices k (record (device_at s.devices k) { count = count; queue = queue.now }) }) }
+        ensures holds { (x : Scenario) (s : State) → Holds shown x self.old s →
+            Holds shown x self.new (record s { devices = with_device s.devices k (record (device_at s.devices k) { count = count; queue = queue.now }) }) }
         ensures count { count_of self.new ≡ count_of self.old }
     {
         self.machine.save_context();

@@ -12,7 +12,7 @@ ghost use Rattle.board_model.specs.Script.{Scenario};
 ghost use Rattle.board_model.specs.Turn.{turned};
 ghost use Rattle.board_model.specs.Run.{run, with_front, ending};
 ghost use Rattle.board_model.specs.Alike.{reduced};
-ghost use Rattle.board_model.specs.Cut.{cut_at, from_turn, left_of};
+ghost use Rattle.board_model.specs.Cut.{cut_at, from_turn, left_of, rest_from, IsCutWithin};
 
 /// A run of at most n turns, and then from its last state the turns that are left of m, is the run of at most m turns: its
 /// notes, its end and its last state. What comes after the cut is the run without what was noted before it, at whatever level
@@ -20,11 +20,16 @@ ghost use Rattle.board_model.specs.Cut.{cut_at, from_turn, left_of};
 /// `generations_decide` says of each state), and the same last state with births modulo 64. The run to the cut comes to each turn
 /// before it, with a bound of just so many turns.
 pub fn runs_go_on_from_a_cut()
-    ensures whole { (level : Detail) (x : Scenario) (n m : ℕ) (s : State) → Sane x.setup s → (cut_at level x n s).turn ≤ s.turn + m → run level x m s ≡ with_front (run level x n s).notes (run level x (left_of m s (cut_at level x n s)) (cut_at level x n s)) }
-    ensures rest { (level before : Detail) (x : Scenario) (n m : ℕ) (s : State) → Sane x.setup s → (cut_at before x n s).turn ≤ s.turn + m → run level x (left_of m s (cut_at before x n s)) (cut_at before x n s) ≡ from_turn (cut_at before x n s).turn (run level x m s) }
-    ensures notes { (level before : Detail) (x : Scenario) (n m : ℕ) (s : State) → Sane x.setup s → (cut_at before x n s).turn ≤ s.turn + m → (run level x (left_of m s (cut_at before x n s)) (reduced (cut_at before x n s))).notes ≡ (from_turn (cut_at before x n s).turn (run level x m s)).notes }
-    ensures end { (level before : Detail) (x : Scenario) (n m : ℕ) (s : State) → Sane x.setup s → (cut_at before x n s).turn ≤ s.turn + m → (run level x (left_of m s (cut_at before x n s)) (reduced (cut_at before x n s))).end ≡ (run level x m s).end }
-    ensures last { (level before : Detail) (x : Scenario) (n m : ℕ) (s : State) → Sane x.setup s → (cut_at before x n s).turn ≤ s.turn + m → reduced (run level x (left_of m s (cut_at before x n s)) (reduced (cut_at before x n s))).last ≡ reduced (run level x m s).last }
+    ensures whole { (level : Detail) (x : Scenario) (n m : ℕ) (s : State) → Sane x.setup s → IsCutWithin level x n m s →
+        run level x m s ≡ with_front (run level x n s).notes (rest_from level x m s (cut_at level x n s)) }
+    ensures rest { (level before : Detail) (x : Scenario) (n m : ℕ) (s : State) → Sane x.setup s → IsCutWithin before x n m s →
+        rest_from level x m s (cut_at before x n s) ≡ from_turn (cut_at before x n s).turn (run level x m s) }
+    ensures notes { (level before : Detail) (x : Scenario) (n m : ℕ) (s : State) → Sane x.setup s → IsCutWithin before x n m s →
+        (run level x (left_of m s (cut_at before x n s)) (reduced (cut_at before x n s))).notes ≡ (from_turn (cut_at before x n s).turn (run level x m s)).notes }
+    ensures end { (level before : Detail) (x : Scenario) (n m : ℕ) (s : State) → Sane x.setup s → IsCutWithin before x n m s →
+        (run level x (left_of m s (cut_at before x n s)) (reduced (cut_at before x n s))).end ≡ (run level x m s).end }
+    ensures last { (level before : Detail) (x : Scenario) (n m : ℕ) (s : State) → Sane x.setup s → IsCutWithin before x n m s →
+        reduced (run level x (left_of m s (cut_at before x n s)) (reduced (cut_at before x n s))).last ≡ reduced (run level x m s).last }
     ensures sane { (level : Detail) (x : Scenario) (n : ℕ) (s : State) → Sane x.setup s → Sane x.setup (cut_at level x n s) }
     ensures reached { (level : Detail) (x : Scenario) (n k : ℕ) (s : State) → Sane x.setup s → s.turn + k ≤ (cut_at level x n s).turn → (cut_at level x k s).turn ≡ s.turn + k }
 {}

@@ -68,7 +68,8 @@ pub fn runs_keep_counts_in_order()
 /// A turn that notes nothing after its events leaves the choice: the same task is chosen as after them, and
 /// the supervisor has faulted just where it had then.
 pub fn turns_without_notes_keep_the_choice()
-    ensures next { (level : Detail) (x : Scenario) (s : State) → Sane x.setup s → length (turn level x s).notes ≤ length (after_events x s).notes → chosen x.setup (turn level x s).state ≡ chosen x.setup (after_events x s).state }
+    ensures next { (level : Detail) (x : Scenario) (s : State) → Sane x.setup s → length (turn level x s).notes ≤ length (after_events x s).notes →
+        chosen x.setup (turn level x s).state ≡ chosen x.setup (after_events x s).state }
     ensures down { (level : Detail) (x : Scenario) (s : State) → Sane x.setup s → length (turn level x s).notes ≤ length (after_events x s).notes → is_down (turn level x s).state ≡ is_down (after_events x s).state }
 {}
 

@@ -39,7 +39,8 @@ pub fn loners_decide_their_own_turns()
 /// the other tasks, the priorities and the scripts are and whenever these turns fall: as long as neither makes a system call
 /// but PANIC, nor is made to fault by the supervisor.
 pub fn loners_go_their_own_way()
-    ensures runs { (level other : Detail) (x y : Scenario) (i j n m : ℕ) (s u : State) → AreBornAlike x y i j s u → LiveAsLong level other x y i j s u n m → HaveSameOwn x.setup i j (state_after level x n s) (state_after other y m u) }
+    ensures runs { (level other : Detail) (x y : Scenario) (i j n m : ℕ) (s u : State) → AreBornAlike x y i j s u → LiveAsLong level other x y i j s u n m →
+        HaveSameOwn x.setup i j (state_after level x n s) (state_after other y m u) }
     ensures lives { (level other : Detail) (x y : Scenario) (i j k : ℕ) (s u z v : State) → AreBornAlike x y i j s u → LivesAlone level x i s (suc k) z → LivesAlone other y j u (suc k) v → HaveSameOwn x.setup i j z v }
 {}
 

@@ -20,7 +20,8 @@ pub fn what_happens_decides()
 /// Where an arrival has not come as yet, its time decides nothing: up to there the runs of two arrival times are one. Where it
 /// is over, it decides nothing any more: from there on the run is that without it.
 pub fn arrivals_decide_nothing_before_and_after()
-    ensures before { (level : Detail) (x : Scenario) (arrival : List Listed) (time later n : ℕ) (s : State) → Sane x.setup s → s.turn + n ≤ time → s.turn + n ≤ later → run level (arriving x arrival time) n s ≡ run level (arriving x arrival later) n s }
+    ensures before { (level : Detail) (x : Scenario) (arrival : List Listed) (time later n : ℕ) (s : State) → Sane x.setup s → s.turn + n ≤ time → s.turn + n ≤ later →
+        run level (arriving x arrival time) n s ≡ run level (arriving x arrival later) n s }
     ensures after { (level : Detail) (x : Scenario) (arrival : List Listed) (time n : ℕ) (s : State) → Sane x.setup s → is_over arrival time s.turn ≡ true → run level (arriving x arrival time) n s ≡ run level x n s }
 {}
 

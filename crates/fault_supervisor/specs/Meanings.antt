@@ -29,7 +29,7 @@ status_words Well = 0 ∷ 0 ∷ 0 ∷ 0 ∷ []
 status_words Stopped = 1 ∷ 0 ∷ 0 ∷ 0 ∷ []
 status_words (Faulted f) = 2 ∷ f.number ∷ f.x ∷ f.y ∷ []
 
--- what is done with an order of the supervisor, by its arguments
+-- what is done with a request of the supervisor, by its arguments
 abbrev pub heard : Setup → ℕ → SendArgs → Turn → Turn
 heard g c x t =
     first_row (

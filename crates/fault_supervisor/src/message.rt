@@ -215,7 +215,7 @@ fn serve(k: &mut Kernel, caller: usize, args: &SendArgs, request: Request)
 
 /// A request of the supervisor, whose ranges are looked at first.
 #[inline(always)]
-fn hear_order(k: &mut Kernel, caller: usize, args: &SendArgs)
+fn hear_request(k: &mut Kernel, caller: usize, args: &SendArgs)
     requires there { caller < task_count k.old }
     requires room { note_count k.old + syscall_notes ≤ turn_notes }
     requires stood { Stood k.old }
@@ -257,7 +257,7 @@ fn take_request(k: &mut Kernel, caller: usize)
         return k.misuse(caller, Usage::NotSupervisor);
     }
     let args = SendArgs::of(&k.arguments(caller));
-    hear_order(k, caller, &args);
+    hear_request(k, caller, &args);
 }
 
 /// A SEND to the kernel, which the supervisor alone may make: bits 15 to 0 of r4 are the operation, r5 and r6

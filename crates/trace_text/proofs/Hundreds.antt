@@ -6,7 +6,7 @@ use Rattle.std.proofs.Math.Seq.{take-length}
 use Rattle.std.specs.Prelude.{decimal}
 use Rattle.std.specs.String.Boundary.{IsSplitPoint}
 use Rattle.itoa.proofs.Decimal.{pair, decimal_pair, length_pair}
-use Rattle.trace_text.specs.Digits.{IsBegun}
+use Rattle.trace_text.specs.Digits.{HasDigits}
 use Rattle.trace_text.proofs.Begins.{cut_end}
 
 -- it may be cut where a byte of ASCII follows
@@ -17,7 +17,7 @@ cut_before xs rest y n is small =
     let long : length (xs ++ y ∷ rest) ≡ length xs + length (y ∷ rest) = length-append xs (y ∷ rest) in
     rw (sym is) (omega (arith, long), λ _ _ big. absurd (omega (arith, here, big)))
 
-module _ (number n : ℕ) (bytes : List ℕ) (from : 100 ≤ number) (fits : number < 2 ^ 64) (begun : IsBegun number bytes (Some n)) where
+module _ (number n : ℕ) (bytes : List ℕ) (from : 100 ≤ number) (fits : number < 2 ^ 64) (begun : HasDigits number bytes (Some n)) where
   abbrev hundreds : List ℕ
   hundreds = decimal (number / 100)
 
@@ -45,13 +45,13 @@ module _ (number n : ℕ) (bytes : List ℕ) (from : 100 ≤ number) (fits : num
   front_two = ap (take (n - 2)) whole ∙ take_at hundreds rest (n - 2) two_less
 
 -- of a number with the same hundreds, digits of its own in the place of the last two
-pub other_two : (old number n : ℕ) (bytes : List ℕ) → 100 ≤ number → number < 2 ^ 32 → old < 2 ^ 32 → number / 100 ≡ old / 100 → IsBegun old bytes (Some n) →
+pub other_two : (old number n : ℕ) (bytes : List ℕ) → 100 ≤ number → number < 2 ^ 32 → old < 2 ^ 32 → number / 100 ≡ old / 100 → HasDigits old bytes (Some n) →
     take (n - 2) bytes ++ pair (number % 100) ≡ decimal number
 other_two old number n bytes from fits fit same begun =
     ap (λ (xs : List ℕ). xs ++ pair (number % 100)) (front_two old n bytes (omega arith) (omega arith) begun ∙ ap decimal (sym same))
     ∙ sym (decimal_pair number from (omega arith))
 
-pub as_long : (old number n : ℕ) (bytes : List ℕ) → 100 ≤ number → number < 2 ^ 32 → old < 2 ^ 32 → number / 100 ≡ old / 100 → IsBegun old bytes (Some n) → n ≡ length (decimal number)
+pub as_long : (old number n : ℕ) (bytes : List ℕ) → 100 ≤ number → number < 2 ^ 32 → old < 2 ^ 32 → number / 100 ≡ old / 100 → HasDigits old bytes (Some n) → n ≡ length (decimal number)
 as_long old number n bytes from fits fit same begun =
     let count = begun.count n refl in
     let long = length_pair old (omega arith) (omega arith) in
@@ -59,7 +59,7 @@ as_long old number n bytes from fits fit same begun =
     let hundreds : length (decimal (number / 100)) ≡ length (decimal (old / 100)) = ap (λ (k : ℕ). length (decimal k)) same in
     omega (arith, count, long, long', hundreds)
 
-pub begun_at : (number n : ℕ) (bytes : List ℕ) → bytes ≡ decimal number → n ≡ length (decimal number) → n ≤ 20 → IsBegun number bytes (Some n)
+pub begun_at : (number n : ℕ) (bytes : List ℕ) → bytes ≡ decimal number → n ≡ length (decimal number) → n ≤ 20 → HasDigits number bytes (Some n)
 begun_at number n bytes is long few =
     let same : (m : ℕ) → Some n ≡ Some m → m ≡ length (decimal number) = λ m e. sym (same_Some n m e) ∙ long in
     record {

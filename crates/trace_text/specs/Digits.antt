@@ -3,7 +3,7 @@ use Rattle.std.specs.Prelude.{ℕ, ◌≡◌, ◌≤◌, List, [], length, take,
 use Rattle.std.specs.String.Boundary.{IsSplitPoint}
 
 -- nothing is there before the first line; then the first bytes are the digits of a number, behind which they may be cut
-pub record IsBegun (number : ℕ) (bytes : List ℕ) (begun : Option ℕ) : Type 0 where
+pub record HasDigits (number : ℕ) (bytes : List ℕ) (begun : Option ℕ) : Type 0 where
   pub empty : begun ≡ None → bytes ≡ []
   pub digits : (n : ℕ) → begun ≡ Some n → take n bytes ≡ decimal number
   pub cut : (n : ℕ) → begun ≡ Some n → IsSplitPoint bytes n

@@ -1,7 +1,7 @@
 //! The lines of one turn.
 ghost use Rattle.std.specs.Prelude.{◌≡◌, ◌≤◌, ◌/◌, length, decimal, Option, Some};
 ghost use Rattle.trace_text.specs.Text.{line_of};
-ghost use Rattle.trace_text.specs.Digits.{IsBegun};
+ghost use Rattle.trace_text.specs.Digits.{HasDigits};
 ghost use Rattle.trace_text.specs.Fit.{IsFit, IsFitNote};
 
 use crate::lines::line;
@@ -17,7 +17,7 @@ pub struct TurnLines {
     text: ArrayString<160>,
     // behind how many bytes a line goes on; None before the first one
     begun: Option<usize>,
-    ghost begun_of: { IsBegun number text.bytes begun },
+    ghost begun_of: { HasDigits number text.bytes begun },
     ghost small: { IsFit number },
 }
 

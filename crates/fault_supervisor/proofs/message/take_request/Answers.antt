@@ -21,5 +21,5 @@ returns-clause-holds c = λ g t h.
     let i = c.args.caller in
     let same : c.of-args.result ≡ send_args (arguments t.state i) = c.of-args.ensures ∙ ap send_args (c.arguments.ensures g t h.holds) in
     let supervisor : eqb i 0 ≡ true = eq-eqb _ _ c.if-caller-ne0.false in
-    let P : SendArgs → Type 0 = λ x. Holds g c.hear_order.new.k (cond (not (eqb i 0)) (misused g i 5 t) (heard g i x t)) in
-    subst P same (rw supervisor (c.hear_order.ensures.holds g t h))
+    let P : SendArgs → Type 0 = λ x. Holds g c.hear_request.new.k (cond (not (eqb i 0)) (misused g i 5 t) (heard g i x t)) in
+    subst P same (rw supervisor (c.hear_request.ensures.holds g t h))

@@ -3,8 +3,8 @@ use Rattle.region_check.specs.declared.Right.TheVariants.{Write}
 use Rattle.task_table.specs.model.Reading.{is_valid, bad_byte}
 use Rattle.task_table.specs.model.Sends.{message_of, reply_room}
 use Rattle.task_table.proofs.model.Ranges.{within_ram-good}
-use Rattle.fault_supervisor.proofs.message.hear_order.Goals as goal
-use Rattle.fault_supervisor.proofs.message.hear_order.Goals.{then-not-is_valid-via-then-not-is_valid, then-not-is_valid-via-else-not-is_valid+then-not-is_valid-2}
+use Rattle.fault_supervisor.proofs.message.hear_request.Goals as goal
+use Rattle.fault_supervisor.proofs.message.hear_request.Goals.{then-not-is_valid-via-then-not-is_valid, then-not-is_valid-via-else-not-is_valid+then-not-is_valid-2}
 
 pub returns-then-not-is_valid-clause-holds : goal.returns-then-not-is_valid-clause-holds
 returns-then-not-is_valid-clause-holds c = λ g t h.
