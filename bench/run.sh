@@ -119,14 +119,15 @@ command -v valgrind > out/valgrind.txt || { echo "host instructions a turn: not 
 host() {
     valgrind --tool=callgrind --callgrind-out-file=out/callgrind.txt "$program" run "$@" 2>&1 > out/ours.txt | awk '/Collected/ { print $4 }'
 }
-# those of 10^6 turns more, and the most that they may be for one turn
+# those of so many turns more, and the most that they may be for one turn
 short=0
+turns=1000000
 instructions() {
     local what=$1 most=$2 few many
     shift 2
-    few=$(host "$@" --steps 200000)
-    many=$(host "$@" --steps 1200000)
-    awk -v what="$what" -v n=$((many - few)) -v most="$most" 'BEGIN { printf "%-28s %7.1f host instructions a turn, at most %d\n", what, n / 1e6, most; exit n / 1e6 > most }' || short=1
+    few=$(host "$@" --steps $((turns / 5)))
+    many=$(host "$@" --steps $((turns / 5 + turns)))
+    awk -v what="$what" -v n=$((many - few)) -v turns="$turns" -v most="$most" 'BEGIN { printf "%-28s %7.1f host instructions a turn, at most %d\n", what, n / turns, most; exit n / turns > most }' || short=1
 }
 for image in $compiled; do instructions "$image" 52 "out/$image.img" out/empty.txt; done
 instructions "two instructions" 24 "$data/a.img" out/empty.txt
@@ -141,4 +142,8 @@ instructions "512 tasks with timers" 309 out/timers512.img timers/script.txt
 start=$(host out/timers512.img timers/script.txt --steps 0)
 awk -v n="$start" 'BEGIN { printf "%-28s %7.1f million host instructions before the first turn, at most 10\n", "512 tasks with timers", n / 1e6; exit n / 1e6 > 10 }' || short=1
 instructions "507 clients, 4 servers" 213 out/messages512.img out/empty.txt
+# each of these turns writes some 200 bytes
+turns=100000
+instructions "crc32, --all" 1184 out/crc32.img out/empty.txt --all
+instructions "16 clients, --all" 1264 out/messages.img out/empty.txt --all
 exit $short

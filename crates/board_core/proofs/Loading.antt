@@ -282,12 +282,13 @@ below shown loaded g r cpu t i h inside =
     let n : length t.state.tasks ≡ length w.saved.state.tasks = w.rest.count in
     omega arith
 
-pub written_back : {X : Type 0} {H : X → Type 0} (shown : Shows X H) (g : Setup) (r r' : Reach X H) (cpu : Cpu) (saved t : Turn) (task : ℕ) (words : List ℕ) → task ≡ saved.state.current → words ≡ cpu.regs.words → t ≡ with_cpu cpu saved → r'.devices ≡ r.devices → ReachHolds shown g r saved → Holds g r'.kernel (with_processor task words cpu.flags saved) → ReachHolds shown g r' t
-written_back shown g r r' cpu saved t task words at w is same before h =
-    let P : ℕ → Type 0 = λ i. Holds g r'.kernel (with_processor i words cpu.flags saved) in
+pub written_back : {X : Type 0} {H : X → Type 0} (shown : Shows X H) (g : Setup) (r r' : Reach X H) (cpu : Cpu) (saved t : Turn) (task : ℕ) (words : List ℕ) (flags : Flags) → task ≡ saved.state.current → words ≡ cpu.regs.words → flags ≡ cpu.flags → t ≡ with_cpu cpu saved → r'.devices ≡ r.devices → ReachHolds shown g r saved → Holds g r'.kernel (with_processor task words flags saved) → ReachHolds shown g r' t
+written_back shown g r r' cpu saved t task words flags at w f is same before h =
+    let P : ℕ → Type 0 = λ i. Holds g r'.kernel (with_processor i words flags saved) in
+    let F : Flags → Type 0 = λ y. Holds g r'.kernel (with_processor saved.state.current words y saved) in
     let Q : List ℕ → Type 0 = λ x. Holds g r'.kernel (with_processor saved.state.current x cpu.flags saved) in
     let R : Turn → Type 0 = λ u. Holds g r'.kernel u in
-    record { kernel = subst R (sym is) (subst Q w (subst P at h)); devices = ap (data_of shown) same ∙ before.devices ∙ sym (rest_of saved t cpu is).devices }
+    record { kernel = subst R (sym is) (subst Q w (subst F f (subst P at h))); devices = ap (data_of shown) same ∙ before.devices ∙ sym (rest_of saved t cpu is).devices }
 
 pub loaded_register : {X : Type 0} {H : X → Type 0} (shown : Shows X H) (i : ℕ) (g : Setup) (r : Reach X H) (cpu : Cpu) (t : Turn) → IsLoaded shown g r cpu t → t.state.current < length t.state.tasks → slice_index cpu.regs.words i ≡ register t.state t.state.current i
 unfolding register

@@ -140,7 +140,7 @@ impl Machine {
             &regions.second,
         );
         self.poller.most = most;
-        self.poller.processor = self.glider.runner.processor;
+        self.poller.processor = self.glider.runner.processor.copied();
         swap(&mut self.poller.seen.devices, &mut self.reach.devices);
         swap(&mut self.poller.seen.ports, ports);
         let opened = self.reach.kernel.open_window(
@@ -155,7 +155,7 @@ impl Machine {
         if !opened {
             return none_made();
         }
-        self.glider.runner.processor = self.poller.processor;
+        self.glider.runner.processor = self.poller.processor.copied();
         let glided = Glided {
             made: self.poller.made,
             at_syscall: self.poller.at_syscall,

@@ -27,6 +27,7 @@ use run_script::{Event, Script};
 use std::alloc::Global;
 use task_table::Kernel;
 use thumb_exec::cpu::{Cpu, Outcome};
+use thumb_exec::lazy_flags::LazyFlags;
 use thumb_exec::step::exec;
 use thumb_insn::Insn;
 use thumb_step::fetch;
@@ -54,7 +55,7 @@ pub fn load(processor: &mut Cpu, kernel: &Kernel, task: usize)
     ensures { (g : Setup) (t : Turn) → Holds g kernel.now t → processor.new ≡ cpu_of (task_at t.state task) }
 {
     processor.regs = Regs::of(kernel.registers(task));
-    processor.flags = kernel.flags(task);
+    processor.flags = LazyFlags::of(kernel.flags(task));
 }
 
 impl Machine {
@@ -83,7 +84,7 @@ impl Machine {
             let processor = &self.glider.runner.processor;
             self.reach
                 .kernel
-                .set_processor(task, processor.regs.words(), processor.flags);
+                .set_processor(task, processor.regs.words(), processor.flags.told());
             self.loaded = false;
         }
     }

@@ -207,7 +207,7 @@ fn view(machine: &Machine, i: usize) -> TaskView
     if machine.is_loaded_for(i) {
         return TaskView {
             regs: machine.glider.runner.processor.regs.words(),
-            flags: machine.glider.runner.processor.flags,
+            flags: machine.glider.runner.processor.flags.told(),
             ..kept
         };
     }

@@ -9,6 +9,7 @@ ghost use Rattle.std.specs.Prelude.{◌%◌};
 use crate::words::Words;
 use std::{env, io};
 use thumb_exec::cpu::{Cpu, Outcome};
+use thumb_exec::lazy_flags::LazyFlags;
 use thumb_step::step;
 use words_core::{Flags, PROGRAM_COUNTER, Regs, STACK_POINTER};
 
@@ -45,7 +46,10 @@ fn main(rt: HostRuntime) -> io::Result<()> {
         c: false,
         v: false,
     };
-    let mut cpu = Cpu { regs, flags };
+    let mut cpu = Cpu {
+        regs,
+        flags: LazyFlags::of(flags),
+    };
     let mut done = 0_u64;
     for _ in 0..steps {
         if !goes_on(&mut cpu, &mut bus) {

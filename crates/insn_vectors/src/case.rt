@@ -2,6 +2,7 @@
 use kernel_abi::Fault;
 use std::alloc::{AllocError, Global};
 use thumb_exec::cpu::{Cpu, Outcome};
+use thumb_exec::lazy_flags::LazyFlags;
 use words_core::{Flags, PROGRAM_COUNTER, Regs};
 
 /// One instruction, what is before it and what is wanted after it.
@@ -146,7 +147,7 @@ fn change(regs: &mut Regs, text: &str) -> Option<()> {
 }
 
 /// A processor after changes parted by commas, then `/` and the flags.
-fn changed(cpu: Cpu, text: &str) -> Option<Cpu> {
+fn changed(cpu: &Cpu, text: &str) -> Option<Cpu> {
     let (changes, nzcv) = text.split_once('/')?;
     let mut regs = cpu.regs;
     for text in changes.split(',') {
@@ -154,7 +155,7 @@ fn changed(cpu: Cpu, text: &str) -> Option<Cpu> {
     }
     Some(Cpu {
         regs,
-        flags: flags(nzcv)?,
+        flags: LazyFlags::of(flags(nzcv)?),
     })
 }
 
@@ -220,15 +221,16 @@ fn read_fields(line: &str) -> Option<Fields<'_>> {
     let (first, second) = code(code_digits)?;
     let cpu = Cpu {
         regs: registers(regs, hex(at)?)?,
-        flags: flags(nzcv)?,
+        flags: LazyFlags::of(flags(nzcv)?),
     };
+    let wanted = changed(&cpu, wanted)?;
     Some(Fields {
         first,
         second,
         cpu,
         bytes,
         outcome: outcome(end)?,
-        wanted: changed(cpu, wanted)?,
+        wanted,
         wanted_bytes,
     })
 }

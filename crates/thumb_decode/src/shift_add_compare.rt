@@ -78,39 +78,21 @@ pub(crate) fn add_or_subtract<T: Taker>(h: u16, to: &mut T) -> bool
     ensures { T.did to.old (narrow_result (narrow_of h)) result to.new }
 {
     let (d, n) = (low_reg(h, 0), low_reg(h, 3));
-    match h >> 9 {
-        12 => to.take(
-            h,
-            Insn::AddsReg {
-                d,
-                n,
-                m: low_reg(h, 6),
-            },
-        ),
-        13 => to.take(
-            h,
-            Insn::SubsReg {
-                d,
-                n,
-                m: low_reg(h, 6),
-            },
-        ),
-        14 => to.take(
-            h,
-            Insn::AddsImm3 {
-                d,
-                n,
-                value: value(h, 6, 3),
-            },
-        ),
-        _ => to.take(
-            h,
-            Insn::SubsImm3 {
-                d,
-                n,
-                value: value(h, 6, 3),
-            },
-        ),
+    let subtracts = (h >> 9) % 2 == 1;
+    if (h >> 10) % 2 == 0 {
+        let m = low_reg(h, 6);
+        if subtracts {
+            to.take(h, Insn::SubsReg { d, n, m })
+        } else {
+            to.take(h, Insn::AddsReg { d, n, m })
+        }
+    } else {
+        let value = value(h, 6, 3);
+        if subtracts {
+            to.take(h, Insn::SubsImm3 { d, n, value })
+        } else {
+            to.take(h, Insn::AddsImm3 { d, n, value })
+        }
     }
 }
 

@@ -77,6 +77,10 @@ go_past n c = put c program_counter ((pc c + n) % 2 ^ 32)
 abbrev pub nz : Flags → ℕ → Flags
 nz f v = record f { n = negative v; z = is_zero v }
 
+-- N and Z of a sum are those of its value
+abbrev pub FollowsSum : ℕ × Flags → Type 0
+FollowsSum s = (s.1.n ≡ negative s.0) × (s.1.z ≡ is_zero s.0)
+
 -- N, Z and C
 abbrev pub nzc : Flags → ℕ → Bool → Flags
 nzc f v c = record f { n = negative v; z = is_zero v; c = c }

@@ -1,6 +1,6 @@
 //! Instructions that reach no memory.
 ghost use Rattle.std.specs.Prelude.{◌≡◌, ◌<◌, [], true};
-ghost use Rattle.thumb_exec.specs.Effect.{Next, go_past, put, get, with_flags, nz, nzc, data_effect, sum_to, tested};
+ghost use Rattle.thumb_exec.specs.Effect.{Next, go_past, put, get, with_flags, nz, nzc, data_effect, sum_to, tested, FollowsSum};
 ghost use Rattle.words_core.specs.Words.{awc, complement};
 
 use crate::cpu::{Cpu, Outcome};
@@ -13,6 +13,14 @@ pub fn get(cpu: &Cpu, r: Reg) -> u32
     ensures { result ≡ get cpu.now r }
 {
     cpu.regs.get(usize::from(r.number))
+}
+
+/// C.
+#[inline(always)]
+pub fn carry(cpu: &Cpu) -> bool
+    ensures { result ≡ cpu.now.flags.c }
+{
+    cpu.flags.c()
 }
 
 /// Moves PC on by n bytes.
@@ -34,26 +42,15 @@ pub fn set(cpu: &mut Cpu, d: Reg, value: u32, n: u32)
     go_past(cpu, n);
 }
 
-/// Sets the flags, each by itself: set together they are put into one word and taken apart again.
+/// Sets the flags of a sum, whose N and Z follow it.
 #[inline(always)]
-fn set_flags(cpu: &mut Cpu, flags: Flags)
-    ensures { cpu.new ≡ with_flags cpu.old flags }
+fn set_flags(cpu: &mut Cpu, sum: (u32, Flags))
+    requires { FollowsSum sum }
+    ensures { cpu.new ≡ with_flags cpu.old sum.1 }
 {
-    cpu.flags.n = flags.n;
-    cpu.flags.z = flags.z;
-    cpu.flags.c = flags.c;
-    cpu.flags.v = flags.v;
-}
-
-/// Writes a result and flags, and goes on.
-#[inline(always)]
-pub fn finish(cpu: &mut Cpu, d: Reg, value: u32, flags: Flags)
-    requires { d.number < 16 }
-    ensures { cpu.new ≡ go_past 2 (with_flags (put cpu.old d.number value) flags) }
-{
-    cpu.regs.set(usize::from(d.number), value);
-    set_flags(cpu, flags);
-    go_past(cpu, 2);
+    cpu.flags.follow(sum.0);
+    cpu.flags.set_c(sum.1.c);
+    cpu.flags.set_v(sum.1.v);
 }
 
 /// N and Z follow the result. C and V stay: for speed they are neither read nor written.
@@ -61,8 +58,7 @@ pub fn finish(cpu: &mut Cpu, d: Reg, value: u32, flags: Flags)
 fn set_nz(cpu: &mut Cpu, value: u32)
     ensures { cpu.new ≡ with_flags cpu.old (nz cpu.old.flags value) }
 {
-    cpu.flags.n = value >= 0x8000_0000;
-    cpu.flags.z = value == 0;
+    cpu.flags.follow(value);
 }
 
 /// Writes a result with N and Z, and goes on.
@@ -81,7 +77,7 @@ pub fn finish_nzc(cpu: &mut Cpu, d: Reg, shifted: (u32, bool))
     requires { d.number < 16 }
     ensures { sum_to cpu.old d (shifted.0, nzc cpu.old.flags shifted.0 shifted.1) ≡ Next cpu.new [] }
 {
-    cpu.flags.c = shifted.1;
+    cpu.flags.set_c(shifted.1);
     finish_nz(cpu, d, shifted.0);
 }
 
@@ -94,19 +90,23 @@ fn test_nz(cpu: &mut Cpu, value: u32)
     go_past(cpu, 2);
 }
 
-/// Writes a result with its flags, and goes on.
+/// Writes a sum with its flags, and goes on.
 pub fn finish_sum(cpu: &mut Cpu, d: Reg, sum: (u32, Flags))
-    requires { d.number < 16 }
+    requires place { d.number < 16 }
+    requires follows { FollowsSum sum }
     ensures { sum_to cpu.old d sum ≡ Next cpu.new [] }
 {
-    finish(cpu, d, sum.0, sum.1);
+    cpu.regs.set(usize::from(d.number), sum.0);
+    set_flags(cpu, sum);
+    go_past(cpu, 2);
 }
 
-/// Sets flags alone, and goes on.
-pub fn finish_test(cpu: &mut Cpu, flags: Flags)
-    ensures { tested cpu.old flags ≡ Next cpu.new [] }
+/// Sets the flags of a sum alone, and goes on.
+pub fn finish_test(cpu: &mut Cpu, sum: (u32, Flags))
+    requires { FollowsSum sum }
+    ensures { tested cpu.old sum.1 ≡ Next cpu.new [] }
 {
-    set_flags(cpu, flags);
+    set_flags(cpu, sum);
     go_past(cpu, 2);
 }
 
@@ -115,8 +115,7 @@ pub fn compare(cpu: &mut Cpu, n: Reg, y: u32)
     requires { n.number < 16 }
     ensures { tested cpu.old (awc (get cpu.old n) (complement y) true).1 ≡ Next cpu.new [] }
 {
-    let flags = subtract(get(cpu, n), y).1;
-    finish_test(cpu, flags);
+    finish_test(cpu, subtract(get(cpu, n), y));
 }
 
 /// Computes of two low registers, and goes on.
@@ -132,15 +131,15 @@ pub fn data(cpu: &mut Cpu, op: Op, d: Reg, m: Reg)
         Op::Ands => finish_nz(cpu, d, x & y),
         Op::Tst => test_nz(cpu, x & y),
         Op::Eors => finish_nz(cpu, d, x ^ y),
-        Op::Lsls => finish_nzc(cpu, d, lsl(x, by, cpu.flags.c)),
-        Op::Lsrs => finish_nzc(cpu, d, lsr(x, by, cpu.flags.c)),
-        Op::Asrs => finish_nzc(cpu, d, asr(x, by, cpu.flags.c)),
-        Op::Adcs => finish_sum(cpu, d, add_with_carry(x, y, cpu.flags.c)),
-        Op::Sbcs => finish_sum(cpu, d, add_with_carry(x, !y, cpu.flags.c)),
-        Op::Rors => finish_nzc(cpu, d, ror(x, by, cpu.flags.c)),
+        Op::Lsls => finish_nzc(cpu, d, lsl(x, by, carry(cpu))),
+        Op::Lsrs => finish_nzc(cpu, d, lsr(x, by, carry(cpu))),
+        Op::Asrs => finish_nzc(cpu, d, asr(x, by, carry(cpu))),
+        Op::Adcs => finish_sum(cpu, d, add_with_carry(x, y, carry(cpu))),
+        Op::Sbcs => finish_sum(cpu, d, add_with_carry(x, !y, carry(cpu))),
+        Op::Rors => finish_nzc(cpu, d, ror(x, by, carry(cpu))),
         Op::Rsbs => finish_sum(cpu, d, subtract(0, y)),
-        Op::Cmp => finish_test(cpu, subtract(x, y).1),
-        Op::Cmn => finish_test(cpu, add(x, y).1),
+        Op::Cmp => finish_test(cpu, subtract(x, y)),
+        Op::Cmn => finish_test(cpu, add(x, y)),
         Op::Orrs => finish_nz(cpu, d, x | y),
         Op::Muls => finish_nz(cpu, d, x.wrapping_mul(y)),
         Op::Bics => finish_nz(cpu, d, x & !y),

@@ -4,6 +4,7 @@ ghost use Rattle.thumb_exec.specs.Effect.{Next, operand, place, holds_if, target
 
 use crate::arith::{get, go_past};
 use crate::cpu::{Cpu, Outcome};
+use crate::lazy_flags::LazyFlags;
 use kernel_abi::Fault;
 use thumb_insn::{Bytes, Cond, Reg};
 use words_core::{Flags, LINK_REGISTER, PROGRAM_COUNTER, STACK_POINTER, extend};
@@ -37,24 +38,24 @@ pub fn put_any(cpu: &mut Cpu, d: Reg, value: u32)
 }
 
 /// Whether the condition holds (section A6.3). The flags come by reference for speed: those that it does not ask for are not read.
-pub fn holds(cond: Cond, f: &Flags) -> bool
+pub fn holds(cond: Cond, f: &LazyFlags) -> bool
     ensures { result ≡ holds_if cond f.now }
 {
     match cond {
-        Cond::Eq => f.z,
-        Cond::Ne => !f.z,
-        Cond::Cs => f.c,
-        Cond::Cc => !f.c,
-        Cond::Mi => f.n,
-        Cond::Pl => !f.n,
-        Cond::Vs => f.v,
-        Cond::Vc => !f.v,
-        Cond::Hi => f.c && !f.z,
-        Cond::Ls => !(f.c && !f.z),
-        Cond::Ge => f.n == f.v,
-        Cond::Lt => f.n != f.v,
-        Cond::Gt => f.n == f.v && !f.z,
-        Cond::Le => !(f.n == f.v && !f.z),
+        Cond::Eq => f.z(),
+        Cond::Ne => !f.z(),
+        Cond::Cs => f.c(),
+        Cond::Cc => !f.c(),
+        Cond::Mi => f.n(),
+        Cond::Pl => !f.n(),
+        Cond::Vs => f.v(),
+        Cond::Vc => !f.v(),
+        Cond::Hi => f.c() && !f.z(),
+        Cond::Ls => !(f.c() && !f.z()),
+        Cond::Ge => f.n() == f.v(),
+        Cond::Lt => f.n() != f.v(),
+        Cond::Gt => f.n() == f.v() && !f.z(),
+        Cond::Le => !(f.n() == f.v() && !f.z()),
     }
 }
 
@@ -141,9 +142,10 @@ pub fn change(bytes: Bytes, v: u32) -> u32
 }
 
 /// The flags in bits 31 to 28.
-pub fn flags_word(f: Flags) -> u32
-    ensures { result ≡ apsr f }
+pub fn flags_word(cpu: &Cpu) -> u32
+    ensures { result ≡ apsr cpu.now.flags }
 {
+    let f = cpu.flags.told();
     let n = if f.n { 0x8000_0000 } else { 0 };
     let z = if f.z { 0x4000_0000 } else { 0 };
     let c = if f.c { 0x2000_0000 } else { 0 };

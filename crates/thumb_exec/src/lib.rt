@@ -9,6 +9,7 @@ mod control;
 pub mod cpu;
 pub mod fetch;
 pub mod laws;
+pub mod lazy_flags;
 mod memory;
 mod several;
 pub mod step;

@@ -227,14 +227,14 @@ pub fn pop<B: Bus>(cpu: &mut Cpu, bus: &mut B, list: u8, has_pc: bool) -> Outcom
     if let Some(at) = refused(bus, mask, addr, Right::Read) {
         return Outcome::Trap(Fault::access(at, Access::Load));
     }
-    let before = *cpu;
+    let before = cpu.regs;
     load_words(&mut cpu.regs, bus, mask, addr);
     let target = cpu.regs.get(PROGRAM_COUNTER);
     cpu.regs
         .set(STACK_POINTER, addr.wrapping_add(4 * count_of(mask)));
     if has_pc {
         let Some(to) = code_address(target) else {
-            *cpu = before;
+            cpu.regs = before;
             return Outcome::Trap(Fault::state(target));
         };
         cpu.regs.set(PROGRAM_COUNTER, to);

@@ -1,16 +1,17 @@
 //! One instruction, row by row of the table, in families that each a function executes.
 ghost use Rattle.std.specs.Prelude.{◌≡◌, ◌<◌, [], true, false};
-ghost use Rattle.thumb_exec.specs.Effect.{Acts, Effects, Halts, Next, Refusals, Contents, effect, load_effect, store_effect, store_all, sum_to, put, go_past, shifted, sum, get};
+ghost use Rattle.thumb_exec.specs.Effect.{Acts, Effects, Halts, Next, Refusals, Contents, effect, load_effect, store_effect, store_all, sum_to, put, go_past, shifted, sum, get, FollowsSum};
 ghost use Rattle.thumb_exec.specs.declared.cpu.Outcome.TheVariants as outcome;
 ghost use Rattle.thumb_exec.specs.Families.{IsSum, IsData, IsAddress, IsBranch, IsJump, IsSystem, IsLoad, IsStore, IsStoreAll, IsRest};
 ghost use Rattle.thumb_insn.specs.Range.{InRange, IsCoded};
 
-use crate::arith::{compare, data, finish_nz, finish_nzc, finish_sum, get, go_past, set};
+use crate::arith::{carry, compare, data, finish_nz, finish_nzc, finish_sum, get, go_past, set};
 use crate::bus::Bus;
 use crate::control::{
     base, branch_to, change, flags_of, flags_word, holds, link, link_to, operand, put_any, target,
 };
 use crate::cpu::{Cpu, Outcome};
+use crate::lazy_flags::LazyFlags;
 use crate::memory::{load, store};
 use crate::several::{count_of, ldm, mask_of, pop, store_all};
 use kernel_abi::Fault;
@@ -42,6 +43,7 @@ fn adding(cpu: &Cpu, insn: Insn) -> (Reg, (u32, Flags))
     requires range { InRange insn }
     ensures effect { (refuses : Refusals) (holds : Contents) → effect refuses holds cpu.now insn ≡ sum_to cpu.now result.0 result.1 }
     ensures register { result.0.number < 16 }
+    ensures follows { FollowsSum result.1 }
 {
     match insn {
         Insn::AddsReg { d, n, m } => (d, add(get(cpu, n), get(cpu, m))),
@@ -80,7 +82,7 @@ fn compute(cpu: &mut Cpu, insn: Insn)
             m,
             by,
         } => {
-            let shifted = shift(kind, get(cpu, m), by as u8, cpu.flags.c);
+            let shifted = shift(kind, get(cpu, m), by as u8, carry(cpu));
             finish_nzc(cpu, d, shifted);
         }
         Insn::MovsImm { d, value } => {
@@ -97,7 +99,7 @@ fn compute(cpu: &mut Cpu, insn: Insn)
             set(cpu, d, value, 2);
         }
         Insn::Mrs { d } => {
-            let value = flags_word(cpu.flags);
+            let value = flags_word(cpu);
             set(cpu, d, value, 4);
         }
         _ => unreachable!(),
@@ -204,7 +206,7 @@ fn system(cpu: &mut Cpu, insn: Insn)
         Insn::Cpsie | Insn::Cpsid | Insn::Hint { .. } => go_past(cpu, 2),
         Insn::Fence { .. } => go_past(cpu, 4),
         Insn::Msr { n } => {
-            cpu.flags = flags_of(get(cpu, n));
+            cpu.flags = LazyFlags::of(flags_of(get(cpu, n)));
             go_past(cpu, 4);
         }
         _ => unreachable!(),

@@ -40,13 +40,27 @@ enum Line {
 
 const SP: Reg = Reg { number: 13 };
 
+/// A number of one digit: mostly registers and immediates are, and are no work for the formatter.
+fn push_one(out: &mut ArrayString<64>, n: u32)
+    requires one { n < 10 }
+    requires room { array_string_len out.old < 64 }
+    ensures bytes { out.new.bytes ≡ out.old.bytes ++ decimal n }
+    ensures len { array_string_len out.new ≡ array_string_len out.old + 1 }
+{
+    out.push((b'0' + n as u8) as char);
+}
+
 fn push_decimal(out: &mut ArrayString<64>, n: u32)
     requires { array_string_len out.old + 10 ≤ 64 }
     ensures bytes { out.new.bytes ≡ out.old.bytes ++ decimal n }
     ensures len { array_string_len out.new ≤ array_string_len out.old + 10 }
 {
-    let mut digits = Buffer::new();
-    out.push_str(digits.format(n));
+    if n < 10 {
+        push_one(out, n);
+    } else {
+        let mut digits = Buffer::new();
+        out.push_str(digits.format(n));
+    }
 }
 
 /// A hexadecimal digit, in lower case.
@@ -96,6 +110,10 @@ fn push_register(out: &mut ArrayString<64>, k: u8)
     ensures len { array_string_len out.new ≤ array_string_len out.old + 4 }
 {
     match k {
+        k if k < 10 => {
+            out.push_str("r");
+            push_one(out, u32::from(k));
+        }
         13 => out.push_str("sp"),
         14 => out.push_str("lr"),
         15 => out.push_str("pc"),

@@ -9,6 +9,7 @@ use region_check::Region;
 use std::alloc::Global;
 use std::mem::swap;
 use thumb_exec::cpu::Cpu;
+use thumb_exec::lazy_flags::LazyFlags;
 use thumb_step::{Runner, Window};
 use words_core::{Flags, Regs};
 
@@ -51,7 +52,7 @@ pub fn no_context() -> Cpu
     };
     Cpu {
         regs: Regs::of([0; 16]),
-        flags,
+        flags: LazyFlags::of(flags),
     }
 }
 

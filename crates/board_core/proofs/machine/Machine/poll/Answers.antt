@@ -46,9 +46,9 @@ returns-then-glided-eq0-clause-glided boxes c = λ g t r inside ready ports.
     let a = c.aim_window.new.window in
     let b = c.open_window-opened.new.user in
     let apart = apart_here _ (stops_at c.args.breakpoints.now c.args.watched) g m task c.args.most t c.in-Some.regions _ _ _ _ _ a c.open_window-opened.new.self h inside c.in-Some.ensures pc sp fields opened in
-    let work = poller_work shown g task _ b _ _ _ _ _ _ _ t.state.devices _ c.args.most (ap (λ v. v.items) c.swap-2.ensures.x_after ∙ sym ports) (context_cpu _ g m task t h inside) refl (ap (data_of shown) c.swap.ensures.x_after ∙ context_devices _ g m task t h) apart opened.window.work in
+    let work = poller_work shown g task _ b _ _ _ _ _ _ _ t.state.devices _ c.args.most (ap (λ v. v.items) c.swap-2.ensures.x_after ∙ sym ports) (c.copied-self.ensures ∙ context_cpu _ g m task t h inside) refl (ap (data_of shown) c.swap.ensures.x_after ∙ context_devices _ g m task t h) apart opened.window.work in
     inl (has_stayed _ (stops_at c.args.breakpoints.now c.args.watched) g m task c.args.most t c.in-Some.regions _ _ _ _ _ a c.open_window-opened.new.self h inside c.in-Some.ensures pc sp fields opened
-    _ _ _ _ work _ (omega (arith, c.if-glided-eq0.true)) refl refl refl (ap (data_of shown) c.swap-4.ensures.y_after) (c.take_context.ensures.holds g t r.holds))
+    _ _ _ _ work _ (omega (arith, c.if-glided-eq0.true)) refl c.copied-self-2.ensures refl (ap (data_of shown) c.swap-4.ensures.y_after) (c.take_context.ensures.holds g t r.holds))
 
 pub returns-clause-glided : goal.returns-clause-glided
 returns-clause-glided boxes c = λ g t r inside ready ports.
@@ -64,6 +64,6 @@ returns-clause-glided boxes c = λ g t r inside ready ports.
     let a = c.aim_window.new.window in
     let b = c.open_window-opened.new.user in
     let apart = apart_here _ (stops_at c.args.breakpoints.now c.args.watched) g m task c.args.most t c.in-Some.regions _ _ _ _ _ a c.open_window-opened.new.self h inside c.in-Some.ensures pc sp fields opened in
-    let work = poller_work shown g task _ b _ _ _ _ _ _ _ t.state.devices _ c.args.most (ap (λ v. v.items) c.swap-2.ensures.x_after ∙ sym ports) (context_cpu _ g m task t h inside) refl (ap (data_of shown) c.swap.ensures.x_after ∙ context_devices _ g m task t h) apart opened.window.work in
+    let work = poller_work shown g task _ b _ _ _ _ _ _ _ t.state.devices _ c.args.most (ap (λ v. v.items) c.swap-2.ensures.x_after ∙ sym ports) (c.copied-self.ensures ∙ context_cpu _ g m task t h inside) refl (ap (data_of shown) c.swap.ensures.x_after ∙ context_devices _ g m task t h) apart opened.window.work in
     inl (has_run _ (stops_at c.args.breakpoints.now c.args.watched) g m task c.args.most t c.in-Some.regions _ _ _ _ _ a c.open_window-opened.new.self h inside c.in-Some.ensures pc sp fields opened
-    _ _ _ _ work _ (omega (arith, c.if-glided-eq0.false)) refl refl (ap (data_of shown) c.swap-4.ensures.y_after) (λ u held. c.set_current.ensures.holds g u held))
+    _ _ _ _ work _ (omega (arith, c.if-glided-eq0.false)) refl c.copied-self-2.ensures (ap (data_of shown) c.swap-4.ensures.y_after) (λ u held. c.set_current.ensures.holds g u held))

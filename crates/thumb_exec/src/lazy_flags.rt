@@ -1,0 +1,125 @@
+//! The flags as a processor keeps them.
+ghost use Rattle.std.specs.Prelude.{◌≡◌};
+ghost use Rattle.words_core.specs.Words.{negative, is_zero};
+
+use std::marker::Model;
+use words_core::Flags;
+
+/// The four condition flags, of which N and Z are kept as results that they follow, for speed: most are never asked for, and
+/// to keep a result is less work than to test it.
+#[derive(Drop)]
+pub struct LazyFlags {
+    // N is the sign of this one
+    sign: u32,
+    // Z is whether this one is 0
+    zero: u32,
+    c: bool,
+    v: bool,
+}
+
+impl Model for LazyFlags {
+    ghost use Rattle.words_core.specs.Words.{negative, is_zero};
+    ghost use Rattle.words_core.specs.declared.Flags.{Flags as Told};
+
+    ghost Value = { Told };
+
+    ghost view = { λ f. record { n = negative f.sign; z = is_zero f.zero; c = f.c; v = f.v } };
+}
+
+impl LazyFlags {
+    /// These flags.
+    #[inline(always)]
+    pub fn of(flags: Flags) -> LazyFlags
+        ensures { result ≡ flags }
+    {
+        LazyFlags {
+            sign: if flags.n { 0x8000_0000 } else { 0 },
+            zero: if flags.z { 0 } else { 1 },
+            c: flags.c,
+            v: flags.v,
+        }
+    }
+
+    /// The same ones.
+    #[inline(always)]
+    pub fn copied(&self) -> LazyFlags
+        ensures { result ≡ self.now }
+    {
+        LazyFlags {
+            sign: self.sign,
+            zero: self.zero,
+            c: self.c,
+            v: self.v,
+        }
+    }
+
+    /// All four, told.
+    #[inline(always)]
+    pub fn told(&self) -> Flags
+        ensures { result ≡ self.now }
+    {
+        Flags {
+            n: self.n(),
+            z: self.z(),
+            c: self.c,
+            v: self.v,
+        }
+    }
+
+    /// N, whether the last result was negative.
+    #[inline(always)]
+    pub fn n(&self) -> bool
+        ensures { result ≡ self.now.n }
+    {
+        self.sign >= 0x8000_0000
+    }
+
+    /// Z, whether it was 0.
+    #[inline(always)]
+    pub fn z(&self) -> bool
+        ensures { result ≡ self.now.z }
+    {
+        self.zero == 0
+    }
+
+    /// C, the carry.
+    #[inline(always)]
+    pub fn c(&self) -> bool
+        ensures { result ≡ self.now.c }
+    {
+        self.c
+    }
+
+    /// V, whether a signed sum overflowed.
+    #[inline(always)]
+    pub fn v(&self) -> bool
+        ensures { result ≡ self.now.v }
+    {
+        self.v
+    }
+
+    /// N and Z follow a result (`APSR.N`, `APSR.Z`; A6.7). C and V stay: they are neither read nor written.
+    #[inline(always)]
+    pub fn follow(&mut self, value: u32)
+        ensures { self.new ≡ record self.old { n = negative value; z = is_zero value } }
+    {
+        self.sign = value;
+        self.zero = value;
+    }
+
+    /// C alone.
+    #[inline(always)]
+    pub fn set_c(&mut self, c: bool)
+        ensures { self.new ≡ record self.old { c = c } }
+    {
+        self.c = c;
+    }
+
+    /// V alone.
+    #[inline(always)]
+    pub fn set_v(&mut self, v: bool)
+        ensures { self.new ≡ record self.old { v = v } }
+    {
+        self.v = v;
+    }
+}
