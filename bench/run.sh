@@ -129,10 +129,10 @@ instructions() {
     many=$(host "$@" --steps $((turns / 5 + turns)))
     awk -v what="$what" -v n=$((many - few)) -v turns="$turns" -v most="$most" 'BEGIN { printf "%-28s %7.1f host instructions a turn, at most %d\n", what, n / turns, most; exit n / turns > most }' || short=1
 }
-for image in $compiled; do instructions "$image" 52 "out/$image.img" out/empty.txt; done
+for image in $compiled; do instructions "$image" 50 "out/$image.img" out/empty.txt; done
 instructions "two instructions" 24 "$data/a.img" out/empty.txt
-instructions "shared memory" 52 out/shared.img out/empty.txt
-instructions "two shared regions" 57 out/regions.img out/empty.txt
+instructions "shared memory" 50 out/shared.img out/empty.txt
+instructions "two shared regions" 55 out/regions.img out/empty.txt
 instructions "a driver that polls" 107 out/polls.img out/empty.txt
 instructions "32 tasks with timers" 288 out/timers.img timers/script.txt
 instructions "16 clients, 4 servers" 203 out/messages.img out/empty.txt
@@ -144,6 +144,6 @@ awk -v n="$start" 'BEGIN { printf "%-28s %7.1f million host instructions before 
 instructions "507 clients, 4 servers" 213 out/messages512.img out/empty.txt
 # each of these turns writes some 200 bytes
 turns=100000
-instructions "crc32, --all" 1184 out/crc32.img out/empty.txt --all
-instructions "16 clients, --all" 1264 out/messages.img out/empty.txt --all
+instructions "crc32, --all" 1150 out/crc32.img out/empty.txt --all
+instructions "16 clients, --all" 1250 out/messages.img out/empty.txt --all
 exit $short
