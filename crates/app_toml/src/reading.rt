@@ -1,4 +1,4 @@
-//! Reading.
+//! From bytes to an application description, or the first cause by which they are refused.
 
 ghost use Rattle.std.specs.Prelude.{◌≡◌, IfErr, IfOk, IfSome, Err, None, Ok, Some};
 ghost use Rattle.toml.specs.View.{table_view};

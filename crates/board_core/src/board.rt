@@ -52,7 +52,7 @@ pub struct Board {
     pub(crate) script: Script,
     pub(crate) due: Option<u32>,
 
-    /// Most often where the first listed event from that turn on stands; it is tried, and a wrong one costs a search.
+    /// A guess at the index of the first listed event from that turn on. A wrong guess costs a search.
     pub(crate) first_listed: usize,
 
     /// The regions of devices that each task may read.

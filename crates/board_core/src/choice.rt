@@ -1,4 +1,4 @@
-//! What is kept of a state between turns, since most turns leave it.
+//! The choice of the task that runs next, kept from turn to turn, since most turns do not change it.
 ghost use Rattle.std.specs.Prelude.{◌≡◌, ◌<◌, ℕ, true, Some};
 ghost use Rattle.task_table.specs.model.State.{Setup, Turn};
 ghost use Rattle.task_table.specs.model.Reading.{is_faulted, task_at};
@@ -50,8 +50,8 @@ fn stays(last: &Choice, ready: &TaskSet, current: usize) -> bool
     last.next == Some(current) && last.ready.is_same(ready)
 }
 
-/// The choice for a kernel as it is, in the place of that for an earlier state of it: a task that was chosen and
-/// runs is chosen again as long as the same tasks are ready. The set of them is copied only where it has changed, and whole, since
+/// Brings the choice up to date with a kernel: the task that was chosen and runs is chosen again as
+/// long as the same tasks are ready. Their set is copied only where it has changed, and whole, since
 /// the copy of a part takes longer.
 #[inline(always)]
 pub fn renew_choice(kernel: &Kernel, choice: &mut Choice)

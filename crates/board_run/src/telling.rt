@@ -1,4 +1,4 @@
-//! What listens to a run, and a sink that does: it takes the text of the notes.
+//! `Teller`: whoever is handed the notes of a run. A sink is one: it takes their text.
 ghost use Rattle.std.specs.Prelude.{ℕ, List, [], ◌++◌, MatchResult};
 ghost use Rattle.kernel_abi.specs.declared.Note.{Note as Noted};
 ghost use Rattle.board_model.specs.Run.{at_turn};

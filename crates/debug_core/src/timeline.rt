@@ -1,4 +1,4 @@
-//! A run that goes forwards and back: a board, and states of its run that were saved on the way.
+//! A run that goes forwards and back: a board, and checkpoints of its run (not the timeline that a command writes).
 
 ghost use Rattle.std.specs.Prelude.{ℕ, ◌≡◌, ◌≤◌, ◌<◌, ◌+◌, ◌-◌, length, IfOk, IsNone, Some, None};
 ghost use Rattle.std.specs.List.{All, HoldsAt};

@@ -1,4 +1,4 @@
-//! Which parts are said of what.
+//! Which parts of the text `help` pushes, by what it is asked about.
 ghost use Rattle.std.specs.Prelude.{◌≡◌, map};
 ghost use Rattle.outside_io.specs.Outside.{HasCause, Pushes};
 ghost use Rattle.help_text.specs.Help.{help_text, parts_of, parts_on};

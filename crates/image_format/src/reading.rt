@@ -1,4 +1,4 @@
-//! Reading.
+//! From bytes to an image, or the first cause by which they are refused.
 
 ghost use Rattle.std.specs.Prelude.{◌≡◌, ◌≤◌, length, IfOk, IfErr, IfSome, Ok, Err, Some, None};
 ghost use Rattle.image_format.specs.declared.records.ImageForm.TheVariants.{First, Second};

@@ -1,4 +1,4 @@
-//! Writing.
+//! From an image to its one spelling in the second form.
 
 ghost use Rattle.std.specs.Prelude.{◌≡◌, ◌++◌, ◌∷◌, [], All, IfOk, Ok};
 ghost use Rattle.std.specs.Result.{OnOk};

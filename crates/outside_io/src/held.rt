@@ -1,3 +1,4 @@
+//! Contents in memory, and the room that they have.
 ghost use Rattle.std.specs.Prelude.{◌≤◌, vec_len, vec_capacity};
 
 // Contents, and room for so many bytes in all.

@@ -1,3 +1,4 @@
+//! All contents of a file, up to a limit.
 ghost use Rattle.std.specs.Prelude.{◌≡◌, ◌⊎◌, ◌+◌, ◌-◌, ◌^◌, ◌<◌, ◌≤◌, length, IfOk, IsErrOf, Err};
 ghost use Rattle.outside_io.specs.Outside.{WhereSeen, Rose, raised, short_name};
 ghost use Rattle.outside_io.specs.declared.reading.ReadAll.TheVariants.{Failed as ReadFailed, TooLong, Memory};

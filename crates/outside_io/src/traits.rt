@@ -1,3 +1,4 @@
+//! Files and a sink, as the program sees them.
 ghost use Rattle.std.specs.Prelude.{◌≡◌, ◌≢◌, ℕ, ◌≤◌, List, OnErr};
 ghost use Rattle.outside_io.specs.Seen.{FilesSeen, SinkSeen};
 ghost use Rattle.outside_io.specs.Outside.{WhereSeen, HasCause, short_name, Reads, Gives, Puts, Pushes};

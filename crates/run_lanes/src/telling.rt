@@ -1,4 +1,4 @@
-//! System calls by their names and faults in words, as a timeline tells them (docs/FORMATS.md, Timeline).
+//! The names of system calls and faults in a timeline (docs/FORMATS.md, Timeline).
 ghost use Rattle.std.specs.Prelude.{◌≡◌, ◌≤◌, ◌+◌, ◌++◌, IfSome, length, codes, decimal, option_map};
 ghost use Rattle.arrayvec.specs.ArrayString.{array_string_len};
 ghost use Rattle.trace_text.specs.Text.{spaced_hex};

@@ -1,4 +1,4 @@
-//! Reading.
+//! From bytes to a script, or the first cause by which they are refused.
 
 ghost use Rattle.std.specs.Prelude.{◌≡◌, IfOk, IfErr, IfSome, Ok, Err};
 ghost use Rattle.run_script.specs.Drafts.{drafted};

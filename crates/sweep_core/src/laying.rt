@@ -32,7 +32,7 @@ pub(crate) fn lay(laid: &mut Script, script: &Script, arrival: &Script, time: u3
     true
 }
 
-/// How many turns from an arrival time on there may be events of the arrival: none is due that many turns after it, nor later.
+/// How many turns an arrival lasts: none of its events is due that many turns after the arrival time, nor later.
 pub(crate) fn span(arrival: &Script) -> u32
     ensures all { All (λ d. d.0 < result) (script_data arrival.now).events }
     ensures few { result ≤ 1000000000 }

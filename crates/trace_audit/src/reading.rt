@@ -96,7 +96,7 @@ fn moves_nothing(words: Words<'_>) -> bool
     number_at(words, 3) == 0 && number_at(words, 4) == 0
 }
 
-/// For information nothing moves.
+/// Whether a line says what its kind may: a borrow for information moves nothing.
 fn is_right(kind: LineKind, words: Words<'_>) -> bool
     ensures { result ≡ is_right kind (words_left words.entry) }
 {

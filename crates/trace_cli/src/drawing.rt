@@ -1,4 +1,4 @@
-//! A run as a picture, put under a name.
+//! `picture`: a run drawn as SVG, put under a name.
 ghost use Rattle.std.specs.Prelude.{◌≡◌, ◌≤◌, length, map, option_map, string_bytes};
 ghost use Rattle.kernel_abi.specs.Devices.{AreFresh};
 ghost use Rattle.board_model.specs.Script.{Scenario, start_of};

@@ -154,31 +154,26 @@ fn answer<F: Files, S: Sink>(
     }
 }
 
-/// All that the program does. The words, the program's name first, and the files are handed in, and
-/// the lines go to the sink, one push each; the answer is the program's exit status. The devices are those of a run of `run`,
-/// `go`, `save`, `resume`, `debug`, `cover`, `sweep`, `timeline`, `live`, `picture` or `lcov`, as they are handed in: at most eight, to which nothing has come as yet, each at a place of its own.
-/// `sample` runs without a device.
+/// The whole program. `words` are those of the command line, the program's name first; lines go to
+/// `out`, one push each; the answer is the exit status. `devices` are those of the run of every
+/// command but `sample`: at most eight, to which nothing has come as yet, each at a place of its own.
 ///
-/// - 0: the trace of the run (docs/FORMATS.md, Trace), with `--all` each of its instructions, with `--mem` its last
-///   memory, or the listing of the image was written; or the image that was built, or migrated, is under OUT, and its line was written;
-///   or the last state of the run (docs/FORMATS.md, Saved state) is under OUT, and its line was written; or the sample was run, and its
-///   end and the numbers of its notes were written; or the trace holds together (docs/FORMATS.md, Audit), and `yes <calls> <left>`
-///   was written: so many calls were offered in it, and so many of them no line closes; or the commands were carried out
-///   (docs/FORMATS.md, Commands), and the answer to each was written; or how often the run executed each instruction was written
-///   (docs/FORMATS.md, Cover); or how the runs end into which the events of an arrival come was written (docs/FORMATS.md, Sweep), and
-///   no arrival time makes a difference; or the run was written as events (docs/FORMATS.md, Timeline); or the lines that came were
-///   carried out, and the answer to each was written (docs/FORMATS.md, Live); or the picture of the run (docs/FORMATS.md, Picture), or how
-///   often it executed each line of its sources (docs/FORMATS.md, Tracefile), is under OUT, and its line was written; or what the commands are, or what one of them takes and answers, was written.
+/// What each command takes, writes and puts is in docs/FORMATS.md, Command line. The status is
+///
+/// - 0: all was done. What the command writes was written whole, and what it puts is under OUT.
 /// - 1: a file is refused, and `refused <name> <cause> <place>` was written.
-/// - 2: the words are not accepted (docs/FORMATS.md, Command line), and the usage line was written.
-/// - 3: a file cannot be read, and `cannot read <name>` was written, behind the answers to the lines that came where it is the
-///   COMMANDS of `live`.
-/// - 4: the output failed. What was written is the beginning of the same text, and under OUT is the image, or the state; or the
-///   put failed, nothing was written, and under OUT are the old contents or the beginning of the image, or of the state.
+/// - 2: the words are not accepted, and the usage line was written.
+/// - 3: a file cannot be read, and `cannot read <name>` was written; where it is the COMMANDS of
+///   `live`, behind the answers to the lines that came.
+/// - 4: the output failed: the beginning of the text was written, and what is put is under OUT. Or
+///   the put failed: nothing was written, and under OUT are the old contents or the beginning of the
+///   new ones.
 /// - 5: memory is short, and nothing was written or put.
-/// - 6: as 0, and the run ended because the supervisor faulted; a run that is only saved, or gone over by commands, has 0 then too.
-/// - 7: a trace does not hold together, and `no <line>` was written: its first line, from 1 on, that does not follow.
-/// - 8: as 0, of a sweep in which some arrival time makes a difference.
+/// - 6: as 0, of `run`, `go`, `resume`, `sample`, `cover` or `timeline`, and the run ended because
+///   the supervisor faulted. Other commands have 0 then too.
+/// - 7: of `audit`: the trace does not hold together, and `no <line>` was written: its first line,
+///   from 1 on, that does not follow.
+/// - 8: as 0, of a `sweep` in which some arrival time makes a difference.
 pub fn hubris_main_with<F: Files, S: Sink>(
     alloc: Global,
     words: &[String],
@@ -188,14 +183,11 @@ pub fn hubris_main_with<F: Files, S: Sink>(
 ) -> u8
     requires fresh { AreFresh (map shown devices.items) }
 
-    // Where the words and the seen contents give a verdict (of accepted words and files: the trace of their run, the listing, the
-    // image that is built or migrated, the state that is saved, the trace from a saved state, the two lines of a sample, what an audit
-    // found, the answers to commands, how often each instruction was executed, the lines of a sweep, the events of a timeline, the
-    // answers to lines as they come, the picture of a run, how often each line was executed, or what `help` says), its file was put, its
-    // whole text was pushed under its status; or the sink's count of faults rose, the status is 4, and a front of the text was pushed; or
-    // the count of failed puts rose, the status is 4, and nothing was pushed; or memory is short, the status is 5, and nothing was pushed
-    // or put; or the count of failed reads rose, and the same holds of the line of a file that cannot be read, behind what was told
-    // before.
+    // Where the words and the seen contents give a verdict, its file was put, and its whole text was
+    // pushed under its status; or the sink's count of faults rose, the status is 4, and a front of the
+    // text was pushed; or the count of failed puts rose, the status is 4, and nothing was pushed; or
+    // memory is short, the status is 5, and nothing was pushed or put; or the count of failed reads
+    // rose, and the same holds of the line of a file that cannot be read, behind what was told before.
     ensures seen { AnswersEach (map shown devices.items) (texts_of words.now) (F.seen files.old) (F.seen files.new) (S.seen out.old) (S.seen out.new) result }
     ensures complete { ¬ Rose (F.seen files.old).read_faults (F.seen files.new).read_faults → ¬ Rose (F.seen files.old).put_faults (F.seen files.new).put_faults → ¬ Rose (S.seen out.old).faults (S.seen out.new).faults →
         (v : Verdict) → IsVerdict (map shown devices.items) (texts_of words.now) (F.seen files.old).contents v → IsComplete (F.seen files.old) (F.seen files.new) (S.seen out.old) (S.seen out.new) v result }
@@ -222,30 +214,20 @@ pub fn hubris_main_with<F: Files, S: Sink>(
     answer(alloc, words, files, out, devices)
 }
 
-/// The same where no run has a device.
+/// `hubris_main_with` where no run has a device: clause by clause the same.
 pub fn hubris_main<F: Files, S: Sink>(
     alloc: Global,
     words: &[String],
     files: &mut F,
     out: &mut S,
 ) -> u8
-    // Where the words and the seen contents give a verdict (of accepted words and files: the trace of their run, the listing, the
-    // image that is built or migrated, the state that is saved, the trace from a saved state, the two lines of a sample, what an audit
-    // found, the answers to commands, how often each instruction was executed, the lines of a sweep, the events of a timeline, the
-    // answers to lines as they come, the picture of a run, how often each line was executed, or what `help` says), its file was put, its
-    // whole text was pushed under its status; or the sink's count of faults rose, the status is 4, and a front of the text was pushed; or
-    // the count of failed puts rose, the status is 4, and nothing was pushed; or memory is short, the status is 5, and nothing was pushed
-    // or put; or the count of failed reads rose, and the same holds of the line of a file that cannot be read, behind what was told
-    // before.
     ensures seen { AnswersEach [] (texts_of words.now) (F.seen files.old) (F.seen files.new) (S.seen out.old) (S.seen out.new) result }
     ensures complete { ¬ Rose (F.seen files.old).read_faults (F.seen files.new).read_faults → ¬ Rose (F.seen files.old).put_faults (F.seen files.new).put_faults → ¬ Rose (S.seen out.old).faults (S.seen out.new).faults →
         (v : Verdict) → IsVerdict [] (texts_of words.now) (F.seen files.old).contents v → IsComplete (F.seen files.old) (F.seen files.new) (S.seen out.old) (S.seen out.new) v result }
 
-    // What `resume` tells: the run from each state that its file spells, and so from what `save` puts what is left of the same run.
     ensures each { (job : Asked) → job_in (texts_of words.now) ≡ Some job → TellsEach [] job (F.seen files.old) (F.seen files.new) (S.seen out.old) (S.seen out.new) result }
     ensures goes_on { GoesOn [] (texts_of words.now) (F.seen files.old) (F.seen files.new) (S.seen out.old) (S.seen out.new) result }
 
-    // When each status comes, and what was pushed and put with it.
     ensures done { IsDone result → HasDone [] (texts_of words.now) (F.seen files.old) (F.seen files.new) (S.seen out.old) (S.seen out.new) result }
     ensures refused { result ≡ 1 → HasRefused [] (texts_of words.now) (F.seen files.old).contents (S.seen out.old) (S.seen out.new) }
     ensures no_command { result ≡ 2 → (is_accepted (texts_of words.now) ≡ false) × Appends (S.seen out.old).written (S.seen out.new).written usage_line }
@@ -254,7 +236,6 @@ pub fn hubris_main<F: Files, S: Sink>(
     ensures short { result ≡ 5 → ((S.seen out.new).written ≡ (S.seen out.old).written) × ((S.seen out.new).faults ≡ (S.seen out.old).faults) × ((F.seen files.new).contents ≡ (F.seen files.old).contents) }
     ensures known { result ≤ 8 }
 
-    // Only the file under OUT is changed, and only under the statuses 0 and 4.
     ensures others { (name : List ℕ) → out_of (job_in (texts_of words.now)) ≢ Some name → (F.seen files.new).contents name ≡ (F.seen files.old).contents name }
     ensures kept { result ≢ 0 → result ≢ 4 → (F.seen files.new).contents ≡ (F.seen files.old).contents }
     ensures no_put { out_of (job_in (texts_of words.now)) ≡ None → (F.seen files.new).put_faults ≡ (F.seen files.old).put_faults }

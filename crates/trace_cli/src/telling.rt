@@ -1,4 +1,4 @@
-//! One line, and the status that goes with it.
+//! The lines that commands end with (`built ..`, `refused ..`, usage), each with its exit status.
 ghost use Rattle.std.specs.Prelude.{◌≡◌, [], IfOk, string_bytes};
 ghost use Rattle.image_format.specs.Images.{picture};
 ghost use Rattle.trace_cli.specs.Pushed.{Pushed, Says, SaysNamedFault};

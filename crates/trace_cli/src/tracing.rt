@@ -1,4 +1,4 @@
-//! How often a run executed each line of the sources of its application, put under a name.
+//! `lcov`: how often a run executed each line of the sources of its application, put under a name.
 ghost use Rattle.std.specs.Prelude.{◌≡◌, ◌≤◌, IfOk, [], map, slice_index_or};
 ghost use Rattle.kernel_abi.specs.Devices.{AreFresh};
 ghost use Rattle.app_toml.specs.Held.{app_of};
