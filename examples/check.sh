@@ -155,15 +155,15 @@ while IFS='|' read -r status words expected; do
 done <<'END'
 0|readable examples/restart/app.toml examples/restart/expected.txt|examples/restart/readable.txt
 0|names $at/app.toml $at/expected.txt|examples/from-c/places.txt
-0|cover $at/app.toml "$made/all.txt"|examples/from-c/cover.txt
+0|lines $at/app.toml "$made/all.txt"|examples/from-c/cover.txt
 0|labels $at/app.toml|examples/from-c/labels.txt
 1|compare $at/expected.txt "$made/other.txt"|examples/from-c/compare.txt
 0|calls examples/restart/app.toml examples/restart/expected.txt|examples/restart/calls.txt
-0|timeline examples/driver/app.toml examples/driver/expected.txt|examples/driver/timeline.vcd
+0|waves examples/driver/app.toml examples/driver/expected.txt|examples/driver/timeline.vcd
 0|state examples/driver/app.toml "$made/state"|examples/driver/state.txt
 0|expect examples/uart/app.toml examples/uart/dialogue.txt 500|examples/uart/dialogue-script.txt
 0|since examples/debugger/app.toml examples/debugger/script.txt 220 20000148 1|examples/debugger/since.txt
-0|debug examples/debugger/app.toml examples/debugger/script.txt 450 < examples/debugger/session.txt|examples/debugger/session-answers.txt
+0|session examples/debugger/app.toml examples/debugger/script.txt 450 < examples/debugger/session.txt|examples/debugger/session-answers.txt
 1|refusal < examples/uart/refusals.txt|examples/uart/refusals-in-words.txt
 END
 # where everything lies is where it does: each instruction of a run is at a line of its source, and none behind its end
@@ -191,8 +191,8 @@ done <<'END'
 2|names $at/app.toml|usage: names APP TRACE
 1|names $made/missing.toml $at/expected.txt|names: cannot read $at/nowhere.s, the source of upper: sources are named from where go was called
 1|names $made/keyless.toml $at/expected.txt|names: $made/keyless.toml: task[0].ram is not on a line of its own
-2|cover $at/app.toml $at/expected.txt --all|usage: cover APP TRACE
-1|cover $at/app.toml $at/expected.txt|cover: $at/expected.txt has no instructions: it is to be of a run with --all
+2|lines $at/app.toml $at/expected.txt --all|usage: lines APP TRACE
+1|lines $at/app.toml $at/expected.txt|lines: $at/expected.txt has no instructions: it is to be of a run with --all
 2|labels|usage: labels APP
 2|lay $at/empty.txt|usage: lay SCRIPT ARRIVAL TURN
 2|lay examples/lost-byte/script.txt examples/lost-byte/arrival.txt x|usage: lay SCRIPT ARRIVAL TURN
@@ -203,8 +203,8 @@ done <<'END'
 1|compare $at/expected.txt $at/empty.txt|compare: $at/empty.txt is no trace: it is empty
 2|calls $at/app.toml|usage: calls APP TRACE
 1|calls $at $at/expected.txt|calls: cannot read $at
-2|timeline $at/expected.txt|usage: timeline APP TRACE
-1|timeline $at/app.toml $at/app.toml|timeline: $at/app.toml: line 1 is no line of a trace
+2|waves $at/expected.txt|usage: waves APP TRACE
+1|waves $at/app.toml $at/app.toml|waves: $at/app.toml: line 1 is no line of a trace
 2|state $made/state|usage: state APP STATE
 1|state $at/app.toml $made/driver.img|state: $made/driver.img is no saved state: it does not begin with HBS1
 1|state examples/one-task/app.toml $made/state|state: $made/state has 3 tasks, and examples/one-task/app.toml 1
@@ -213,8 +213,8 @@ done <<'END'
 2|since $at/app.toml $at/empty.txt 5 text 1|usage: since APP SCRIPT TURN ADDRESS LENGTH
 1|since $at/app.toml $at/empty.txt 5 client.nothing 1|since: no label or variable is client.nothing
 1|since $at/app.toml $at/empty.txt 5 30000000 1|since: no 1 bytes of flash or RAM at 30000000
-2|debug $at/app.toml|usage: debug APP SCRIPT [STEPS]
-1|debug $made/missing.toml $at/empty.txt|debug: cannot read $at/nowhere.s
+2|session $at/app.toml|usage: session APP SCRIPT [STEPS]
+1|session $made/missing.toml $at/empty.txt|session: cannot read $at/nowhere.s
 2|refusal $at/app.toml|usage: refusal < WHAT HUBRIS WROTE
 END
 echo "what the tools refuse: as expected"

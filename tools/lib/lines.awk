@@ -1,4 +1,4 @@
-# cover, over a trace, behind places.awk.
+# lines, over a trace, behind places.awk.
 $2 == "insn" { count[$4]++ }
 function counted(t, k) { return count[hexadecimal(flash[t] + at_line[t, k])] + 0 }
 function show_line(many, line,    text) {

@@ -1,4 +1,4 @@
-# timeline, over a trace, behind app.awk. A task that the supervisor has born again without a start is shown as one that may run, since
+# waves, over a trace, behind app.awk. A task that the supervisor has born again without a start is shown as one that may run, since
 # a trace does not tell it.
 NR == 1 { head() }
 function head(    t) {
