@@ -16,18 +16,18 @@ start:
         .half 0xd310      ; bcc.n 38 <start+0x38>
         .half 0xf000      ; bl 80 <task>                     start.c:17
         .half 0xf833
-        .half 0x2108      ; movs r1, #8                      hubris.h:148
+        .half 0x2108      ; movs r1, #8                      start.c:18
         .half 0xa801      ; add r0, sp, #4
-        .half 0x9401      ; str r4, [sp, #4]                 hubris.h:147
+        .half 0x9401      ; str r4, [sp, #4]                 start.c:18
         .half 0x9402      ; str r4, [sp, #8]
         .half 0x9403      ; str r4, [sp, #12]
         .half 0x9404      ; str r4, [sp, #16]
         .half 0x9405      ; str r4, [sp, #20]
         .half 0x9406      ; str r4, [sp, #24]
         .half 0x9407      ; str r4, [sp, #28]
-        .half 0xf000      ; bl 4c <svc>                      hubris.h:148
+        .half 0xf000      ; bl 4c <svc>                      start.c:18
         .half 0xf80e
-        .half 0xe7fe      ; b.n 30 <start+0x30>              hubris.h:149
+        .half 0xe7fe      ; b.n 30 <start+0x30>              start.c:18
         .half 0xca01      ; ldmia r2!, {r0}                  start.c:14
         .half 0xc301      ; stmia r3!, {r0}
         .half 0xe7e8      ; b.n a <start+0xa>
@@ -70,43 +70,43 @@ task:
         .half 0x466b      ; mov r3, sp                       client.c:25
         .half 0x0019      ; movs r1, r3
         .half 0x4a2c      ; ldr r2, [pc, #176]
-        .half 0x4e2d      ; ldr r6, [pc, #180]               hubris.h:36
+        .half 0x4e2d      ; ldr r6, [pc, #180]               client.c:26
         .half 0xca31      ; ldmia r2!, {r0, r4, r5}          client.c:25
         .half 0xc131      ; stmia r1!, {r0, r4, r5}
-        .half 0x2501      ; movs r5, #1                      hubris.h:36
+        .half 0x2501      ; movs r5, #1                      client.c:26
         .half 0x4a2c      ; ldr r2, [pc, #176]
         .half 0x2400      ; movs r4, #0
         .half 0x0412      ; lsls r2, r2, #16
         .half 0x432a      ; orrs r2, r5
         .half 0x9203      ; str r2, [sp, #12]
         .half 0x2204      ; movs r2, #4
-        .half 0xa803      ; add r0, sp, #12                  hubris.h:37
+        .half 0xa803      ; add r0, sp, #12                  client.c:26
         .half 0x0021      ; movs r1, r4
-        .half 0x9207      ; str r2, [sp, #28]                hubris.h:36
+        .half 0x9207      ; str r2, [sp, #28]                client.c:26
         .half 0x9308      ; str r3, [sp, #32]
         .half 0x9404      ; str r4, [sp, #16]
         .half 0x9405      ; str r4, [sp, #20]
         .half 0x9606      ; str r6, [sp, #24]
         .half 0x9509      ; str r5, [sp, #36]
-        .half 0xf7ff      ; bl 4c <svc>                      hubris.h:37
+        .half 0xf7ff      ; bl 4c <svc>                      client.c:26
         .half 0xffcd
-        .half 0x9a03      ; ldr r2, [sp, #12]                hubris.h:38
+        .half 0x9a03      ; ldr r2, [sp, #12]                client.c:26
         .half 0x4b24      ; ldr r3, [pc, #144]               client.c:29
         .half 0x4825      ; ldr r0, [pc, #148]
         .half 0x42a2      ; cmp r2, r4                       client.c:27
         .half 0xd00d      ; beq.n d8 <task+0x58>
-        .half 0x2108      ; movs r1, #8                      hubris.h:148
+        .half 0x2108      ; movs r1, #8                      client.c:28
         .half 0xa803      ; add r0, sp, #12
-        .half 0x9503      ; str r5, [sp, #12]                hubris.h:147
+        .half 0x9503      ; str r5, [sp, #12]                client.c:28
         .half 0x9204      ; str r2, [sp, #16]
         .half 0x9405      ; str r4, [sp, #20]
         .half 0x9406      ; str r4, [sp, #24]
         .half 0x9407      ; str r4, [sp, #28]
         .half 0x9408      ; str r4, [sp, #32]
         .half 0x9409      ; str r4, [sp, #36]
-        .half 0xf7ff      ; bl 4c <svc>                      hubris.h:148
+        .half 0xf7ff      ; bl 4c <svc>                      client.c:28
         .half 0xffbd
-        .half 0xe7fe      ; b.n d2 <task+0x52>               hubris.h:149
+        .half 0xe7fe      ; b.n d2 <task+0x52>               client.c:28
         .half 0x7002      ; strb r2, [r0, #0]                client.c:7
         .half 0x3301      ; adds r3, #1                      client.c:29
         .half 0x781a      ; ldrb r2, [r3, #0]                client.c:29
@@ -137,20 +137,20 @@ task:
         .half 0x7003      ; strb r3, [r0, #0]                client.c:7
         .half 0x230a      ; movs r3, #10
         .half 0x7003      ; strb r3, [r0, #0]
-        .half 0x2300      ; movs r3, #0                      hubris.h:47
+        .half 0x2300      ; movs r3, #0                      client.c:35
         .half 0x4a10      ; ldr r2, [pc, #64]
-        .half 0x2101      ; movs r1, #1                      hubris.h:48
+        .half 0x2101      ; movs r1, #1                      client.c:35
         .half 0xa803      ; add r0, sp, #12
-        .half 0x9303      ; str r3, [sp, #12]                hubris.h:47
+        .half 0x9303      ; str r3, [sp, #12]                client.c:35
         .half 0x9304      ; str r3, [sp, #16]
         .half 0x9305      ; str r3, [sp, #20]
         .half 0x9206      ; str r2, [sp, #24]
         .half 0x9307      ; str r3, [sp, #28]
         .half 0x9308      ; str r3, [sp, #32]
         .half 0x9309      ; str r3, [sp, #36]
-        .half 0xf7ff      ; bl 4c <svc>                      hubris.h:48
+        .half 0xf7ff      ; bl 4c <svc>                      client.c:35
         .half 0xff91
-        .half 0xe7f1      ; b.n 110 <task+0x90>              hubris.h:49
+        .half 0xe7f1      ; b.n 110 <task+0x90>              client.c:35
         .half 0x3330      ; adds r3, #48                     client.c:19
         .half 0xb2db      ; uxtb r3, r3
         .half 0x3101      ; adds r1, #1                      client.c:13

@@ -39,6 +39,8 @@ $1 == "address" && $4 !~ /^R_ARM_(ABS32|NONE|THM_(CALL|JUMP[0-9]*|PC[0-9]*))$/ &
     refuse("an address of the kind " $4)
 }
 # objdump: a line of C, or an instruction
+# what stands in a header and is compiled in place is of the line that calls it
+$1 == "code" && $2 == "inlined" { if (place ~ /\.h:/) { place = $4; sub(/.*\//, "", place) } next }
 $1 == "code" && $2 ~ /:[0-9]+$/ { place = $2; sub(/.*\//, "", place); next }
 $1 == "code" && $2 ~ /^[0-9a-f]+:$/ {
     at = number(substr($2, 1, length($2) - 1))

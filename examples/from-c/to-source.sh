@@ -21,7 +21,7 @@ of="$(basename -a "$@" | tr '\n' ' ')by to-source.sh, gcc $(arm-none-eabi-gcc -d
     arm-none-eabi-objdump -h "$made/elf" | awk '$2 ~ /^\.(data|bss)$/ { print "section", $2, substr($7, 4) }'
     arm-none-eabi-nm -n "$made/elf" | awk '{ print "symbol", $0 }'
     arm-none-eabi-readelf -rW "$made/elf" | awk '/^Relocation section/ { on = /\.rel\.(text|data)/ } on && /^[0-9a-f]+ / { print "address", $0 }'
-    arm-none-eabi-objdump -dl --no-show-raw-insn "$made/elf" | awk '{ print "code", $0 }'
+    arm-none-eabi-objdump -dl --inlines --no-show-raw-insn "$made/elf" | awk '{ print "code", $0 }'
     od -An -v -tx2 -w2 --endian=little "$made/code" | awk '{ print "half", $1 }'
 } | awk -v of="$of" -f "$here/to-source.awk" > "$made/source"
 cp "$made/source" "${1%.*}.s"

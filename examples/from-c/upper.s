@@ -15,18 +15,18 @@ start:
         .half 0xd310      ; bcc.n 38 <start+0x38>
         .half 0xf000      ; bl a0 <task>                     start.c:17
         .half 0xf843
-        .half 0x2108      ; movs r1, #8                      hubris.h:148
+        .half 0x2108      ; movs r1, #8                      start.c:18
         .half 0xa801      ; add r0, sp, #4
-        .half 0x9401      ; str r4, [sp, #4]                 hubris.h:147
+        .half 0x9401      ; str r4, [sp, #4]                 start.c:18
         .half 0x9402      ; str r4, [sp, #8]
         .half 0x9403      ; str r4, [sp, #12]
         .half 0x9404      ; str r4, [sp, #16]
         .half 0x9405      ; str r4, [sp, #20]
         .half 0x9406      ; str r4, [sp, #24]
         .half 0x9407      ; str r4, [sp, #28]
-        .half 0xf000      ; bl 4c <svc>                      hubris.h:148
+        .half 0xf000      ; bl 4c <svc>                      start.c:18
         .half 0xf80e
-        .half 0xe7fe      ; b.n 30 <start+0x30>              hubris.h:149
+        .half 0xe7fe      ; b.n 30 <start+0x30>              start.c:18
         .half 0xca01      ; ldmia r2!, {r0}                  start.c:14
         .half 0xc301      ; stmia r3!, {r0}
         .half 0xe7e8      ; b.n a <start+0xa>
@@ -83,19 +83,19 @@ reply_fault:
 task:
         .half 0xb5f0      ; push {r4, r5, r6, r7, lr}        upper.c:33
         .half 0xb08b      ; sub sp, #44
-        .half 0x2400      ; movs r4, #0                      hubris.h:47
-        .half 0x2101      ; movs r1, #1                      hubris.h:48
+        .half 0x2400      ; movs r4, #0                      upper.c:35
+        .half 0x2101      ; movs r1, #1                      upper.c:35
         .half 0xa803      ; add r0, sp, #12
-        .half 0x9403      ; str r4, [sp, #12]                hubris.h:47
+        .half 0x9403      ; str r4, [sp, #12]                upper.c:35
         .half 0x9404      ; str r4, [sp, #16]
         .half 0x9405      ; str r4, [sp, #20]
         .half 0x9406      ; str r4, [sp, #24]
         .half 0x9407      ; str r4, [sp, #28]
         .half 0x9408      ; str r4, [sp, #32]
         .half 0x9409      ; str r4, [sp, #36]
-        .half 0xf7ff      ; bl 4c <svc>                      hubris.h:48
+        .half 0xf7ff      ; bl 4c <svc>                      upper.c:35
         .half 0xffc8
-        .half 0x9905      ; ldr r1, [sp, #20]                hubris.h:49
+        .half 0x9905      ; ldr r1, [sp, #20]                upper.c:35
         .half 0x9d04      ; ldr r5, [sp, #16]
         .half 0x9b07      ; ldr r3, [sp, #28]
         .half 0x9a08      ; ldr r2, [sp, #32]
@@ -114,22 +114,22 @@ task:
         .half 0x2104      ; movs r1, #4                      upper.c:41
         .half 0xe7f4      ; b.n ca <task+0x2a>
         .half 0x9402      ; str r4, [sp, #8]                 upper.c:43
-        .half 0x2300      ; movs r3, #0                      hubris.h:70
+        .half 0x2300      ; movs r3, #0                      upper.c:21
         .half 0x2208      ; movs r2, #8
         .half 0x4e25      ; ldr r6, [pc, #148]
-        .half 0xa803      ; add r0, sp, #12                  hubris.h:71
+        .half 0xa803      ; add r0, sp, #12                  upper.c:21
         .half 0x2104      ; movs r1, #4
-        .half 0x9304      ; str r3, [sp, #16]                hubris.h:70
+        .half 0x9304      ; str r3, [sp, #16]                upper.c:21
         .half 0x9308      ; str r3, [sp, #32]
         .half 0x9309      ; str r3, [sp, #36]
         .half 0x9503      ; str r5, [sp, #12]
         .half 0x9405      ; str r4, [sp, #20]
         .half 0x9606      ; str r6, [sp, #24]
         .half 0x9207      ; str r2, [sp, #28]
-        .half 0xf7ff      ; bl 4c <svc>                      hubris.h:71
+        .half 0xf7ff      ; bl 4c <svc>                      upper.c:21
         .half 0xffa7
-        .half 0x9b03      ; ldr r3, [sp, #12]                hubris.h:73
-        .half 0x9804      ; ldr r0, [sp, #16]                hubris.h:72
+        .half 0x9b03      ; ldr r3, [sp, #12]                upper.c:21
+        .half 0x9804      ; ldr r0, [sp, #16]                upper.c:21
         .half 0x2b00      ; cmp r3, #0                       upper.c:22
         .half 0xd12a      ; bne.n 15c <task+0xbc>
         .half 0x2800      ; cmp r0, #0
@@ -155,39 +155,39 @@ task:
         .half 0x42b8      ; cmp r0, r7
         .half 0xd1ed      ; bne.n 10e <task+0x6e>
         .half 0x9a02      ; ldr r2, [sp, #8]                 upper.c:24
-        .half 0x9007      ; str r0, [sp, #28]                hubris.h:78
+        .half 0x9007      ; str r0, [sp, #28]                upper.c:25
         .half 0x18d3      ; adds r3, r2, r3                  upper.c:24
         .half 0x9302      ; str r3, [sp, #8]
-        .half 0x2300      ; movs r3, #0                      hubris.h:78
-        .half 0x2105      ; movs r1, #5                      hubris.h:79
+        .half 0x2300      ; movs r3, #0                      upper.c:25
+        .half 0x2105      ; movs r1, #5                      upper.c:25
         .half 0xa803      ; add r0, sp, #12
-        .half 0x9304      ; str r3, [sp, #16]                hubris.h:78
+        .half 0x9304      ; str r3, [sp, #16]                upper.c:25
         .half 0x9308      ; str r3, [sp, #32]
         .half 0x9309      ; str r3, [sp, #36]
         .half 0x9503      ; str r5, [sp, #12]
         .half 0x9405      ; str r4, [sp, #20]
         .half 0x9606      ; str r6, [sp, #24]
-        .half 0xf7ff      ; bl 4c <svc>                      hubris.h:79
+        .half 0xf7ff      ; bl 4c <svc>                      upper.c:25
         .half 0xff7e
-        .half 0x9b03      ; ldr r3, [sp, #12]                hubris.h:81
-        .half 0x9a04      ; ldr r2, [sp, #16]                hubris.h:80
+        .half 0x9b03      ; ldr r3, [sp, #12]                upper.c:25
+        .half 0x9a04      ; ldr r2, [sp, #16]                upper.c:25
         .half 0x2b00      ; cmp r3, #0                       upper.c:26
         .half 0xd101      ; bne.n 15c <task+0xbc>
         .half 0x18a4      ; adds r4, r4, r2                  upper.c:28
         .half 0xe7c2      ; b.n e2 <task+0x42>               upper.c:21
-        .half 0x9304      ; str r3, [sp, #16]                hubris.h:54
+        .half 0x9304      ; str r3, [sp, #16]                upper.c:45
         .half 0xab02      ; add r3, sp, #8
         .half 0x9305      ; str r3, [sp, #20]
         .half 0x2304      ; movs r3, #4
         .half 0x9306      ; str r3, [sp, #24]
         .half 0x2300      ; movs r3, #0
-        .half 0x2102      ; movs r1, #2                      hubris.h:55
+        .half 0x2102      ; movs r1, #2                      upper.c:45
         .half 0xa803      ; add r0, sp, #12
-        .half 0x9503      ; str r5, [sp, #12]                hubris.h:54
+        .half 0x9503      ; str r5, [sp, #12]                upper.c:45
         .half 0x9307      ; str r3, [sp, #28]
         .half 0x9308      ; str r3, [sp, #32]
         .half 0x9309      ; str r3, [sp, #36]
-        .half 0xf7ff      ; bl 4c <svc>                      hubris.h:55
+        .half 0xf7ff      ; bl 4c <svc>                      upper.c:45
         .half 0xff6a
         .half 0xe794      ; b.n a4 <task+0x4>
         .half 0x46c0      ; nop
