@@ -10,7 +10,7 @@ export HUBRIS=$program
 made=$(mktemp -d)
 trap 'rm -r "$made"' EXIT
 same() { cmp -s "$1" "$2" || { echo "$3: differs from $2"; exit 1; }; echo "$3: as expected"; }
-for example in one-task client-server blinker driver restart timers watch uart debugger lost-byte from-c; do
+for example in one-task client-server blinker driver restart timers watch uart debugger lost-byte from-c gdb; do
     "$program" build "examples/$example/app.toml" "$made/$example.img"
     "$program" list "$made/$example.img" > "$made/listing.txt"
     same "$made/listing.txt" "examples/$example/listing.txt" "$example, listing"
@@ -37,7 +37,7 @@ same "$made/mem.txt" "$light/expected-mem.txt" "blinker, go with its memory"
 grep -v -e ' insn ' -e ' low ' -e ' high ' -e ' idle$' "$made/all.txt" > "$made/calls.txt"
 same "$made/calls.txt" "$light/expected.txt" "blinker, go without what --all tells besides"
 # the folder, its script and how many turns
-for run in "driver script.txt 500" "restart empty.txt 300" "timers script.txt 500" "watch script.txt 500" "uart script.txt 500" "debugger script.txt 450" "lost-byte script.txt 500" "from-c empty.txt 1000"; do
+for run in "driver script.txt 500" "restart empty.txt 300" "timers script.txt 500" "watch script.txt 500" "uart script.txt 500" "debugger script.txt 450" "lost-byte script.txt 500" "from-c empty.txt 1000" "gdb script.txt 800"; do
     read -r example script steps <<< "$run"
     at=examples/$example
     "$program" go "$at/app.toml" "$at/$script" --steps "$steps" > "$made/go.txt"
@@ -133,7 +133,7 @@ for example in one-task client-server blinker driver restart timers watch uart d
     [ "$counted" = "$(grep -c '^[0-9]* insn ' "$made/all.txt")" ] || { echo "$example: lcov counts $counted"; exit 1; }
 done
 # each run holds together, its memory behind it too; a borrow of a call that nobody took does not
-for example in one-task client-server blinker driver restart timers watch uart debugger lost-byte from-c; do
+for example in one-task client-server blinker driver restart timers watch uart debugger lost-byte from-c gdb; do
     for text in expected expected-mem; do
         "$program" audit "examples/$example/$text.txt" > "$made/audit.txt"
         grep -q '^yes ' "$made/audit.txt" || { echo "$example, audit of $text: $(cat "$made/audit.txt")"; exit 1; }
@@ -215,9 +215,27 @@ done <<'END'
 1|since $at/app.toml $at/empty.txt 5 30000000 1|since: no 1 bytes of flash or RAM at 30000000
 2|session $at/app.toml|usage: session APP SCRIPT [STEPS]
 1|session $made/missing.toml $at/empty.txt|session: cannot read $at/nowhere.s
+2|gdb $at/app.toml|usage: gdb [--pipe or --port N] APP SCRIPT [GDB WORDS ..]
+2|gdb --port x $at/app.toml $at/empty.txt|usage: gdb [--pipe or --port N] APP SCRIPT [GDB WORDS ..]
+1|gdb --pipe $at/app.toml nowhere.txt|gdb: cannot read nowhere.txt
+1|gdb --pipe $made/missing.toml $at/empty.txt|gdb: cannot read $at/nowhere.s, the source of upper: sources are named from where go was called
 2|refusal $at/app.toml|usage: refusal < WHAT HUBRIS WROTE
 END
 echo "what the tools refuse: as expected"
+# what tools/gdb answers to packets, and whole sessions of gdb, where there is the one that they were written with
+python3 examples/gdb/packets.py examples/restart/app.toml examples/restart/empty.txt < examples/gdb/packets.txt > "$made/told.txt"
+same "$made/told.txt" examples/gdb/answers.txt "tools/gdb, packets"
+debugger=${GDB:-gdb-multiarch}
+for session in "gdb script.txt" "from-c empty.txt"; do
+    read -r example script <<< "$session"
+    at=examples/$example
+    if [ "$("$debugger" --version 2> "$made/said.txt" | sed -n 's/^GNU gdb .* \([0-9]*\)\..*/\1/p')" != 13 ]; then
+        echo "$example, in gdb: left out, there is no $debugger of version 13"
+        continue
+    fi
+    tools/gdb "$at/app.toml" "$at/$script" -nx -batch -ex "set width 0" -ex "set trace-commands on" -x "$at/session.gdb" 2>&1 | sed 's#/[^ ]*/\([a-z]*\.elf\)#\1#' > "$made/told.txt"
+    same "$made/told.txt" "$at/session.txt" "$example, in gdb"
+done
 # a file may be a pipe, and need not be one that can be sought
 at=examples/timers
 cat "$made/timers.img" | "$program" run /dev/stdin "$at/script.txt" --steps 500 > "$made/run.txt"

@@ -13,7 +13,7 @@ here=$(cd "$(dirname "$0")" && pwd)
 made=$(mktemp -d)
 trap 'rm -r "$made"' EXIT
 # -q keeps which words hold an address (flags.txt); the names that the builder hands in stay open
-arm-none-eabi-gcc @"$here/flags.txt" -I "$here" -Wl,-T,"$here/task.ld" -Wl,--unresolved-symbols=ignore-all -o "$made/elf" \
+arm-none-eabi-gcc @"$here/flags.txt" -ffile-prefix-map="$PWD=." -I "$here" -Wl,-T,"$here/task.ld" -Wl,--unresolved-symbols=ignore-all -o "$made/elf" \
     "$here/start.c" "$@" "$here/mem.c" -lgcc
 arm-none-eabi-objcopy -O binary -j .text -j .data "$made/elf" "$made/code"
 of="$(basename -a "$@" | tr '\n' ' ')by to-source.sh, gcc $(arm-none-eabi-gcc -dumpfullversion)"
@@ -25,3 +25,5 @@ of="$(basename -a "$@" | tr '\n' ' ')by to-source.sh, gcc $(arm-none-eabi-gcc -d
     od -An -v -tx2 -w2 --endian=little "$made/code" | awk '{ print "half", $1 }'
 } | awk -v of="$of" -f "$here/to-source.awk" > "$made/source"
 cp "$made/source" "${1%.*}.s"
+# what lines and variables the C has, for tools/gdb; the paths in it are from where this is called
+cp "$made/elf" "${1%.*}.elf"
