@@ -30,7 +30,7 @@ use Rattle.task_table.proofs.model.Quieting.{ready-with_task}
 use Rattle.task_table.proofs.model.Receives.{well-ready, none_left}
 use Rattle.task_table.proofs.model.Sanity.{sane-faulted}
 use Rattle.lease_core.specs.Loans.{way_of, WentWell, WritesNone, IsEntryRead, IsGranted, target, IsClear}
-use Rattle.lease_core.specs.declared.Loan.{Loan}
+use Rattle.lease_core.specs.declared.borrowing.Loan.{Loan}
 use Rattle.lease_core.proofs.Leases.{leased_good, buffer_good, of_lender}
 use Rattle.lease_core.proofs.Stays.{clear_moved}
 

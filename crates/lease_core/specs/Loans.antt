@@ -18,7 +18,7 @@ use Rattle.task_table.specs.declared.kernel.Kernel.{Kernel}
 use Rattle.task_table.specs.declared.slot.Slice.{Slice}
 use Rattle.lease_core.specs.declared.way.Way.{Way}
 use Rattle.lease_core.specs.declared.way.Way.TheVariants as way
-use Rattle.lease_core.specs.declared.Loan.{Loan}
+use Rattle.lease_core.specs.declared.borrowing.Loan.{Loan}
 
 -- what a way needs
 abbrev pub way_of : Way → Needs

@@ -1,0 +1,15 @@
+use Rattle.std.proofs.Common.{◌<◌, length, arith}
+use Rattle.task_table.proofs.model.StepKeeps.{sane-written}
+use Rattle.lease_core.proofs.borrowing.borrow_write.Goals as goal
+
+pub returns-clause-performs : goal.returns-clause-performs
+returns-clause-performs c =
+    record {
+      stands = λ g t h ready.
+          let inside : c.args.caller < length t.state.tasks = omega (arith, c.requires.there, h.holds.count) in
+          record { holds = c.borrow.ensures.holds g t h; sane = sane-written c.args.caller t h.sane inside };
+      frame = c.borrow.ensures.frame;
+    }
+
+pub returns-clause-held : goal.returns-clause-held
+returns-clause-held c = λ g t h ready. c.borrow.ensures.held g t h

@@ -1,0 +1,12 @@
+use Rattle.std.proofs.Common.{◌≡◌, map, take}
+use Rattle.std.specs.Prelude.{filter}
+use Rattle.task_table.specs.model.State.{Setup, Turn}
+use Rattle.task_table.specs.kept.Parts.{line_setup}
+use Rattle.task_table.specs.model.Rows.{owns_with}
+use Rattle.task_table.specs.kept.Holds.{Holds}
+use Rattle.timer_irq.specs.Midway.{lines_together}
+use Rattle.timer_irq.proofs.asking.own_lines.Given as goal
+
+-- so far the lines of the first owners are taken together
+abbrev pub invariant-loop-owner : goal.invariant-loop-owner
+invariant-loop-owner l = (g : Setup) (t : Turn) → Holds g l.k t → l.together ≡ lines_together t.state (filter (owns_with l.caller l.bits) (take l.owner-index (map line_setup l.owner-items)))

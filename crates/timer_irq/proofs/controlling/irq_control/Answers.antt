@@ -1,0 +1,12 @@
+use Rattle.std.proofs.Common.{◌<◌, length, arith}
+use Rattle.task_table.proofs.model.StepKeeps.{sane-irq_controlled}
+use Rattle.timer_irq.proofs.controlling.irq_control.Goals as goal
+
+pub returns : goal.returns
+returns c =
+    record {
+      stands = λ g t h ready.
+          let inside : c.args.caller < length t.state.tasks = omega (arith, c.requires.there, h.holds.count) in
+          record { holds = c.control_lines.ensures.holds g t h.holds; sane = sane-irq_controlled c.args.caller t h.sane inside };
+      frame = c.control_lines.ensures.frame;
+    }

@@ -1,9 +1,0 @@
-use Rattle.std.proofs.Common.{◌∙◌, bit_and}
-use Rattle.timer_irq.specs.Midway.{status_sum}
-use Rattle.timer_irq.proofs.status_of.Goals as goal
-
-pub returns : goal.returns
-returns c = λ g t h.
-    let lines = c.own_lines.ensures g t h in
-    let posted = c.posted_bits.ensures g t h in
-    c.sum_of.ensures ∙ (λ j. status_sum (lines j) (bit_and (posted j) c.args.bits))

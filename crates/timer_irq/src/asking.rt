@@ -1,0 +1,108 @@
+//! The system call IRQ_STATUS (this project's own).
+ghost use Rattle.std.specs.Prelude.{◌≡◌, ◌+◌, ◌<◌, ◌≤◌, filter, if◌then◌else◌};
+ghost use Rattle.task_table.specs.model.State.{Setup, Turn};
+ghost use Rattle.task_table.specs.model.Reading.{no_line, line_at};
+ghost use Rattle.task_table.specs.model.Rows.{owns_with, status_of_lines, irq_answered};
+ghost use Rattle.task_table.specs.kept.Parts.{line_setup};
+ghost use Rattle.task_table.specs.kept.Holds.{Holds, task_count, note_count};
+ghost use Rattle.task_table.specs.kept.Limits.{syscall_notes, turn_notes};
+ghost use Rattle.task_table.specs.kept.Frames.{AddsAtMost};
+ghost use Rattle.task_table.specs.kept.Calls.{Performs};
+ghost use Rattle.timer_irq.specs.Midway.{lines_together, status_sum, joined};
+
+use crate::owners::{is_owner, line_of, owns};
+use kernel_abi::{IrqArgs, Note, Usage};
+use task_table::{Kernel, Line, LineStart};
+
+/// The line of an owner, where it is this task with exactly these bits; else one that is disabled with nothing pending.
+fn own_line(k: &Kernel, caller: usize, bits: u32, owner: &LineStart) -> Line
+    ensures { (g : Setup) (t : Turn) → Holds g k.now t → result ≡ (if owns_with caller bits (line_setup owner.now) then line_at t.state owner.now.line else no_line) }
+{
+    if is_owner(owner, caller, bits) {
+        line_of(k, usize::from(owner.line))
+    } else {
+        Line {
+            enabled: false,
+            pending: false,
+        }
+    }
+}
+
+/// Two lines as one: enabled where one of them is, pending where one of them is.
+fn both_lines(a: Line, b: Line) -> Line
+    ensures { result ≡ joined a b }
+{
+    Line {
+        enabled: a.enabled || b.enabled,
+        pending: a.pending || b.pending,
+    }
+}
+
+/// The lines that a task owns with exactly these bits as one: enabled where one is, pending where one is.
+fn own_lines(k: &Kernel, caller: usize, bits: u32) -> Line
+    ensures { (g : Setup) (t : Turn) → Holds g k.now t → result ≡ lines_together t.state (filter (owns_with caller bits) g.lines) }
+{
+    let mut together = Line {
+        enabled: false,
+        pending: false,
+    };
+    for owner in k.owners() {
+        together = both_lines(together, own_line(k, caller, bits, owner));
+    }
+    together
+}
+
+/// What counts where something is so.
+fn value_if(is: bool, value: u32) -> u32
+    ensures value { result ≡ (if is then value else 0) }
+    ensures most { result ≤ value }
+{
+    if is { value } else { 0 }
+}
+
+/// 1 for enabled, 2 for pending and 4 for posted bits.
+fn sum_of(lines: Line, posted: u32) -> u32
+    ensures { result ≡ status_sum lines posted }
+{
+    value_if(lines.enabled, 1) + value_if(lines.pending, 2) + value_if(posted != 0, 4)
+}
+
+/// How the lines that a task owns with exactly these bits are, and whether some of the bits are posted to it.
+fn status_of(k: &Kernel, caller: usize, bits: u32) -> u32
+    requires { caller < task_count k.now }
+    ensures { (g : Setup) (t : Turn) → Holds g k.now t → result ≡ status_of_lines g t.state caller bits }
+{
+    sum_of(own_lines(k, caller, bits), k.posted_bits(caller) & bits)
+}
+
+/// IRQ_STATUS, in whatever state.
+fn tell_status(k: &mut Kernel, caller: usize)
+    requires there { caller < task_count k.old }
+    requires room { note_count k.old + syscall_notes ≤ turn_notes }
+    ensures holds { (g : Setup) (t : Turn) → Holds g k.old t → Holds g k.new (irq_answered g caller t) }
+    ensures frame { AddsAtMost k.old syscall_notes k.new }
+{
+    let args = IrqArgs::of(&k.arguments(caller));
+    if owns(k, caller, args.bits) {
+        let status = status_of(k, caller, args.bits);
+        k.note(Note::IrqStatus {
+            task: caller as u16,
+            bits: args.bits,
+            status,
+        });
+        k.answer(caller, &[status]);
+    } else {
+        k.misuse(caller, Usage::NoIrq);
+    }
+}
+
+/// IRQ_STATUS: of the lines that the caller owns with exactly the bits in r4, r4 becomes the sum of 1 where one is
+/// enabled, 2 where on one an interrupt is pending, and 4 where some of these bits are posted to the caller. Where the
+/// caller owns no such line, it faults by usage 6, NoIrq (the call is this project's own).
+pub fn irq_status(k: &mut Kernel, caller: usize)
+    requires there { caller < task_count k.old }
+    requires room { note_count k.old + syscall_notes ≤ turn_notes }
+    ensures { Performs irq_answered k.old caller k.new }
+{
+    tell_status(k, caller);
+}
