@@ -10,6 +10,7 @@ ghost use Rattle.board_core.specs.fast.Stops.{stops_at};
 pub mod breakpoints;
 pub mod glider;
 pub mod poller;
+pub mod regions;
 
 use crate::fast_way::breakpoints::stretch_of;
 use crate::fast_way::glider::aim_window;

@@ -41,7 +41,7 @@ use Rattle.board_model.proofs.Outside.{due_later}
 use Rattle.board_model.proofs.TurnChains.{chosen_is, whole_cpu}
 use Rattle.task_table.specs.model.Sane.{Sane}
 use Rattle.board_core.specs.fast.Reached.{is_flash_at, is_ram_at, is_area, is_second, no_region, unwatched, IsStackRegion, MakeWindow}
-use Rattle.board_core.specs.declared.reach.WindowRegions.{WindowRegions}
+use Rattle.board_core.specs.declared.fast_way.regions.WindowRegions.{WindowRegions}
 use Rattle.board_core.specs.fast.Breakpoints.{IsStretch, is_hit}
 use Rattle.board_core.specs.fast.Stops.{Stops}
 use Rattle.board_core.specs.fast.Windowed.{IsWindow, IsWholeWindow, IsAllOf, IsBeyond, IsBeside, IsSight, IsAtEnd, MustStop, IsFetchedIn, AreTurns, runner, later, with_window}

@@ -12,7 +12,7 @@ use Rattle.thumb_exec.specs.Effect.{Halts}
 use Rattle.thumb_exec.specs.Fetch.{fetched, step_effect}
 use Rattle.thumb_insn.specs.declared.Insn.TheVariants.{Svc}
 use Rattle.thumb_step.specs.Windows.{View, has_code, is_at_syscall}
-use Rattle.board_core.specs.declared.reach.WindowRegions.{WindowRegions}
+use Rattle.board_core.specs.declared.fast_way.regions.WindowRegions.{WindowRegions}
 use Rattle.board_core.specs.fast.Reached.{is_flash_at, MakeWindow}
 use Rattle.board_core.specs.fast.Sights.{Sight, is_port, sight_by, refused_at, held_at}
 use Rattle.board_core.specs.fast.Breakpoints.{IsStretch}

@@ -1,7 +1,7 @@
 use Rattle.std.proofs.Common.{◌≡◌, drop}
 use Rattle.std.specs.Prelude.{find}
 use Rattle.board_core.specs.fast.Reached.{is_second}
-use Rattle.board_core.proofs.reach.second_of.Given as goal
+use Rattle.board_core.proofs.fast_way.regions.second_of.Given as goal
 
 -- none so far
 abbrev pub invariant-loop-region : goal.invariant-loop-region
