@@ -9,7 +9,7 @@ ghost use Rattle.thumb_asm.specs.Passes.{size_from};
 /// No source is assembled to two images: by `Assembles` the lines, the address of the first and
 /// the given symbols leave one sequence of bytes (`bytes`), and one address for each label
 /// (`labels`). A text that is refused is assembled to nothing: `Assembles` asks that none of its lines has a cause.
-pub fn one_image()
+pub fn a_source_has_one_assembly()
     ensures bytes { EachTwo (λ bytes bytes' labels labels'. bytes ≡ bytes') }
     ensures labels { EachTwo (λ bytes bytes' labels labels'. (name : List ℕ) → labels name ≡ labels' name) }
 {}

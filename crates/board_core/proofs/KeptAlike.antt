@@ -19,7 +19,7 @@ use Rattle.board_model.proofs.Quiet.{chosen_by}
 use Rattle.board_core.specs.declared.board.Board.{Board}
 use Rattle.board_core.specs.declared.choice.Choice.{Choice}
 use Rattle.board_core.specs.Kept.{IsChoice}
-use Rattle.board_core.specs.declared.reach.Reach.{Reach}
+use Rattle.board_core.specs.declared.space.AddressSpace.{AddressSpace}
 use Rattle.board_core.specs.Machine.{with_cpu, IsLoaded, HoldsBy}
 use Rattle.board_core.specs.Stands.{Holds, Stands}
 use Rattle.board_core.proofs.Loading.{twice, with_own}
@@ -105,7 +105,7 @@ lent_notes c w v = refl
 alone_lent : (c : ℕ) (w s : State) → IsAlone s → IsAlone (lent c w s)
 alone_lent c w s alone i = rw (call_of-with_task s c i _, listen_of-with_task s c i _) (alone i)
 
-loaded_alike : {X : Type 0} {H : X → Type 0} (shown : Shows X H) (g : Setup) (r : Reach X H) (cpu : Cpu) (t v : Turn) → IsLoaded shown g r cpu t → AreKeptAlike v.state t.state → v.notes ≡ t.notes → IsAlone v.state → IsLoaded shown g r cpu v
+loaded_alike : {X : Type 0} {H : X → Type 0} (shown : Shows X H) (g : Setup) (r : AddressSpace X H) (cpu : Cpu) (t v : Turn) → IsLoaded shown g r cpu t → AreKeptAlike v.state t.state → v.notes ≡ t.notes → IsAlone v.state → IsLoaded shown g r cpu v
 loaded_alike shown g r cpu t v h alike notes alone =
     let w = h.saved in
     let c = w.state.current in
@@ -139,7 +139,7 @@ loaded_alike shown g r cpu t v h alike notes alone =
 
 -- ## a board
 
-pub machine_alike : {X : Type 0} {H : X → Type 0} (shown : Shows X H) (loaded : Bool) (g : Setup) (r : Reach X H) (cpu : Cpu) (t v : Turn) → HoldsBy shown loaded g r cpu t → AreKeptAlike v.state t.state → v.notes ≡ t.notes → IsAlone v.state → HoldsBy shown loaded g r cpu v
+pub machine_alike : {X : Type 0} {H : X → Type 0} (shown : Shows X H) (loaded : Bool) (g : Setup) (r : AddressSpace X H) (cpu : Cpu) (t v : Turn) → HoldsBy shown loaded g r cpu t → AreKeptAlike v.state t.state → v.notes ≡ t.notes → IsAlone v.state → HoldsBy shown loaded g r cpu v
 machine_alike shown true g r cpu t v h alike notes alone = loaded_alike shown g r cpu t v h alike notes alone
 machine_alike shown false g r cpu t v h alike notes alone = record { kernel = shows_alike g (kept_of r.kernel) t v h.kernel alike notes alone; devices = h.devices ∙ alike.devices }
 
@@ -155,11 +155,11 @@ choice_alike g s u c some h alike = record {
 pub stands_alike : {X : Type 0} {H : X → Type 0} (shown : Shows X H) (x : Scenario) (b : Board X H) (s u : State) → Holds shown x b u → AreKeptAlike s u → Sane x.setup s → IsCounted s → Stands shown x b s
 stands_alike shown x b s u h alike sane counted = record {
   holds = record {
-    machine = machine_alike shown b.machine.loaded x.setup b.machine.reach b.machine.glider.runner.processor (rested b.machine u) (rested b.machine s) h.machine alike refl (λ i. alone_of x.setup s i sane);
+    machine = machine_alike shown b.machine.loaded x.setup b.machine.space b.machine.glider.runner.processor (rested b.machine u) (rested b.machine s) h.machine alike refl (λ i. alone_of x.setup s i sane);
     turns = h.turns ∙ alike.turn;
     choice = choice_alike x.setup s u b.choice (let inside = sane.steady.current in omega (arith, inside)) h.choice alike;
     script = h.script;
-    ports = h.ports;
+    io_regions = h.io_regions;
     due = let N : ℕ → Type 0 = λ n. IsNext x.script n b.due in subst N alike.turn h.due;
   };
   sane = sane;

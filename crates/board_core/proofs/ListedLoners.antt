@@ -8,7 +8,7 @@ use Rattle.region_check.specs.Rights.{is_alone}
 use Rattle.region_check.proofs.Sharing as sharing
 use Rattle.image_format.specs.Facts.{Facts}
 use Rattle.image_format.specs.Loners.{regions_by_task, own_regions, regions_beside, is_loner, loners}
-use Rattle.image_format.specs.Picture.{Picture, TaskPicture, no_task, regions_in}
+use Rattle.image_format.specs.ImageData.{ImageData, ImageTask, no_task, regions_in}
 use Rattle.image_format.proofs.Ranges.{all_of, kept_is}
 use Rattle.task_table.specs.model.State.{TaskSetup}
 use Rattle.task_table.specs.model.Reading.{setup_at}
@@ -17,12 +17,12 @@ use Rattle.board_core.specs.Opened.{setup_of_image, setup_of_task}
 use Rattle.board_core.proofs.Opens.{setup_is}
 
 -- who has a region is there
-there : (xs : List TaskPicture) (j : ℕ) (q : Region) → Contains (get_or xs j no_task).regions q → j < length xs
+there : (xs : List ImageTask) (j : ℕ) (q : Region) → Contains (get_or xs j no_task).regions q → j < length xs
 there [] j q here = absurd (omega (arith, here.1))
 there (x ∷ xs) zero q here = omega arith
 there (x ∷ xs) (suc j) q here = let lt = there xs j q here in omega arith
 
-module _ (p : Picture) (i : ℕ) (facts : Facts p) (named : Contains (loners p) i) where
+module _ (p : ImageData) (i : ℕ) (facts : Facts p) (named : Contains (loners p) i) where
   abbrev tasks : List (List Region)
   tasks = regions_by_task p
 
@@ -30,13 +30,13 @@ module _ (p : Picture) (i : ℕ) (facts : Facts p) (named : Contains (loners p) 
   passes = kept_is (is_loner tasks) (length p.tasks) i named
 
   own_is : (j : ℕ) → own_regions tasks j ≡ regions_in p j
-  own_is j = get_or-map (λ (t : TaskPicture). t.regions) p.tasks j no_task
+  own_is j = get_or-map (λ (t : ImageTask). t.regions) p.tasks j no_task
 
   set_up : (j : ℕ) → (setup_at (setup_of_image p) j).regions ≡ regions_in p j
   set_up j = ap (λ (x : TaskSetup). x.regions) (setup_is p j)
 
   alone_beside : (j : ℕ) → j < length p.tasks → is_alone (own_regions tasks i) (regions_beside tasks i j) ≡ true
-  alone_beside j lt = all_of (λ k. is_alone (own_regions tasks i) (regions_beside tasks i k)) (length tasks) j passes.1 (subst (λ n. j < n) (sym (length-map p.tasks (λ (t : TaskPicture). t.regions))) lt)
+  alone_beside j lt = all_of (λ k. is_alone (own_regions tasks i) (regions_beside tasks i k)) (length tasks) j passes.1 (subst (λ n. j < n) (sym (length-map p.tasks (λ (t : ImageTask). t.regions))) lt)
 
   alone_itself : is_alone (regions_in p i) [] ≡ true
   alone_itself = ap (λ rs. is_alone rs []) (sym (own_is i)) ∙ ap (λ b. is_alone (own_regions tasks i) (cond b [] (own_regions tasks i))) (sym (eq-eqb i i refl)) ∙ alone_beside i passes.0

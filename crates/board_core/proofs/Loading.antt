@@ -19,9 +19,9 @@ use Rattle.task_table.specs.model.Start.{begun}
 use Rattle.task_table.proofs.model.Changes.{task_at-with_task}
 use Rattle.thumb_exec.specs.Bytes.{bytes_of}
 use Rattle.board_model.specs.Turn.{refusals, is_device, held, cpu_of, put, took, moved, acted, with_current}
-use Rattle.board_core.specs.Machine.{with_cpu, ReachHolds, shown_by, IsLoaded, HoldsBy, IsReady, MachineStands, HasContext}
+use Rattle.board_core.specs.Machine.{with_cpu, SpaceHolds, shown_by, IsLoaded, HoldsBy, IsReady, MachineStands, HasContext}
 use Rattle.board_core.specs.declared.machine.Machine.{Machine}
-use Rattle.board_core.specs.declared.reach.Reach.{Reach}
+use Rattle.board_core.specs.declared.space.AddressSpace.{AddressSpace}
 use Rattle.board_core.proofs.Running.{between, effect_here}
 use Rattle.board_model.proofs.Stepping.{moves_state}
 use Rattle.board_core.specs.Data.{Shows, data_of}
@@ -51,23 +51,23 @@ pub record HoldsRest (g : Setup) (k : Kernel) (t : Turn) : Type 0 where
   pub holds : Holds g k saved
   pub rest : IsSameRest saved t
 
-pub rest_held : {X : Type 0} {H : X → Type 0} (shown : Shows X H) (loaded : Bool) (g : Setup) (r : Reach X H) (cpu : Cpu) (t : Turn) → HoldsBy shown loaded g r cpu t → HoldsRest g r.kernel t
+pub rest_held : {X : Type 0} {H : X → Type 0} (shown : Shows X H) (loaded : Bool) (g : Setup) (r : AddressSpace X H) (cpu : Cpu) (t : Turn) → HoldsBy shown loaded g r cpu t → HoldsRest g r.kernel t
 rest_held shown true g r cpu t h = record { saved = h.saved; holds = h.holds.kernel; rest = rest_of h.saved t cpu h.is }
 rest_held shown false g r cpu t h = record { saved = t; holds = h.kernel; rest = record { count = refl; notes = refl; memory = refl; time = refl; lines = refl; current = refl; next_call = refl; devices = refl } }
 
-pub devices_held : {X : Type 0} {H : X → Type 0} (shown : Shows X H) (loaded : Bool) (g : Setup) (r : Reach X H) (cpu : Cpu) (t : Turn) → HoldsBy shown loaded g r cpu t → data_of shown r.devices ≡ t.state.devices
+pub devices_held : {X : Type 0} {H : X → Type 0} (shown : Shows X H) (loaded : Bool) (g : Setup) (r : AddressSpace X H) (cpu : Cpu) (t : Turn) → HoldsBy shown loaded g r cpu t → data_of shown r.devices ≡ t.state.devices
 devices_held shown true g r cpu t h = h.holds.devices ∙ sym (rest_of h.saved t cpu h.is).devices
 devices_held shown false g r cpu t h = h.devices
 
 -- ## loaded or not
 
-pub loaded_by : {X : Type 0} {H : X → Type 0} (shown : Shows X H) (loaded : Bool) (g : Setup) (r : Reach X H) (cpu : Cpu) (t : Turn) → loaded ≡ true → IsLoaded shown g r cpu t → HoldsBy shown loaded g r cpu t
+pub loaded_by : {X : Type 0} {H : X → Type 0} (shown : Shows X H) (loaded : Bool) (g : Setup) (r : AddressSpace X H) (cpu : Cpu) (t : Turn) → loaded ≡ true → IsLoaded shown g r cpu t → HoldsBy shown loaded g r cpu t
 loaded_by shown loaded g r cpu t e h = rw e h
 
-pub is_loaded : {X : Type 0} {H : X → Type 0} (shown : Shows X H) (loaded : Bool) (g : Setup) (r : Reach X H) (cpu : Cpu) (t : Turn) → loaded ≡ true → HoldsBy shown loaded g r cpu t → IsLoaded shown g r cpu t
+pub is_loaded : {X : Type 0} {H : X → Type 0} (shown : Shows X H) (loaded : Bool) (g : Setup) (r : AddressSpace X H) (cpu : Cpu) (t : Turn) → loaded ≡ true → HoldsBy shown loaded g r cpu t → IsLoaded shown g r cpu t
 is_loaded shown loaded g r cpu t e h = rw e at h
 
-pub unloaded_by : {X : Type 0} {H : X → Type 0} (shown : Shows X H) (loaded : Bool) (g : Setup) (r : Reach X H) (cpu : Cpu) (t : Turn) → loaded ≡ false → ReachHolds shown g r t → HoldsBy shown loaded g r cpu t
+pub unloaded_by : {X : Type 0} {H : X → Type 0} (shown : Shows X H) (loaded : Bool) (g : Setup) (r : AddressSpace X H) (cpu : Cpu) (t : Turn) → loaded ≡ false → SpaceHolds shown g r t → HoldsBy shown loaded g r cpu t
 unloaded_by shown loaded g r cpu t e h = rw e h
 
 -- ## a turn begins, and has ended
@@ -80,11 +80,11 @@ begun_ready : (s : Turn) → is_ready s.state s.state.current ≡ true → is_re
 unfolding begun
 begun_ready s h = h
 
-begun_reach : {X : Type 0} {H : X → Type 0} (shown : Shows X H) (g : Setup) (r r' : Reach X H) (t : Turn) → r'.devices ≡ r.devices → Holds g r'.kernel (begun t.state) → ReachHolds shown g r t → ReachHolds shown g r' (begun t.state)
+begun_reach : {X : Type 0} {H : X → Type 0} (shown : Shows X H) (g : Setup) (r r' : AddressSpace X H) (t : Turn) → r'.devices ≡ r.devices → Holds g r'.kernel (begun t.state) → SpaceHolds shown g r t → SpaceHolds shown g r' (begun t.state)
 unfolding begun
 begun_reach shown g r r' t same kernel h = record { kernel = kernel; devices = ap (data_of shown) same ∙ h.devices }
 
-pub begun_by : {X : Type 0} {H : X → Type 0} (shown : Shows X H) (loaded : Bool) (g : Setup) (r r' : Reach X H) (cpu : Cpu) (t : Turn) → r'.devices ≡ r.devices → ((u : Turn) → Holds g r.kernel u → Holds g r'.kernel (begun u.state)) → HoldsBy shown loaded g r cpu t → HoldsBy shown loaded g r' cpu (begun t.state)
+pub begun_by : {X : Type 0} {H : X → Type 0} (shown : Shows X H) (loaded : Bool) (g : Setup) (r r' : AddressSpace X H) (cpu : Cpu) (t : Turn) → r'.devices ≡ r.devices → ((u : Turn) → Holds g r.kernel u → Holds g r'.kernel (begun u.state)) → HoldsBy shown loaded g r cpu t → HoldsBy shown loaded g r' cpu (begun t.state)
 begun_by shown true g r r' cpu t same f h = record { saved = begun h.saved.state; holds = begun_reach shown g r r' h.saved same (f h.saved h.holds.kernel) h.holds; ready = begun_ready h.saved h.ready; is = ap (λ (u : Turn). begun u.state) h.is ∙ begun-with_cpu cpu h.saved }
 begun_by shown false g r r' cpu t same f h = begun_reach shown g r r' t same (f t h.kernel) h
 
@@ -100,10 +100,10 @@ turn_ready : (s : State) (n : ℕ) → is_ready s s.current ≡ true → is_read
 unfolding is_ready task_at call_of listen_of
 turn_ready s n h = h
 
-between_reach : {X : Type 0} {H : X → Type 0} (shown : Shows X H) (g : Setup) (r : Reach X H) (u : Turn) (n : ℕ) → ReachHolds shown g r u → ReachHolds shown g r (after r.kernel n u)
+between_reach : {X : Type 0} {H : X → Type 0} (shown : Shows X H) (g : Setup) (r : AddressSpace X H) (u : Turn) (n : ℕ) → SpaceHolds shown g r u → SpaceHolds shown g r (after r.kernel n u)
 between_reach shown g r u n h = record { kernel = between g r.kernel u n h.kernel; devices = h.devices }
 
-pub between_by : {X : Type 0} {H : X → Type 0} (shown : Shows X H) (loaded : Bool) (g : Setup) (r : Reach X H) (cpu : Cpu) (u : Turn) (n : ℕ) → HoldsBy shown loaded g r cpu u → HoldsBy shown loaded g r cpu (after r.kernel n u)
+pub between_by : {X : Type 0} {H : X → Type 0} (shown : Shows X H) (loaded : Bool) (g : Setup) (r : AddressSpace X H) (cpu : Cpu) (u : Turn) (n : ℕ) → HoldsBy shown loaded g r cpu u → HoldsBy shown loaded g r cpu (after r.kernel n u)
 between_by shown true g r cpu u n h = record { saved = after r.kernel n h.saved; holds = between_reach shown g r h.saved n h.holds; ready = turn_ready h.saved.state n h.ready; is = ap (after r.kernel n) h.is ∙ after-with_cpu r.kernel n cpu h.saved }
 between_by shown false g r cpu u n h = between_reach shown g r u n h
 
@@ -113,7 +113,7 @@ task-with_cpu : (cpu : Cpu) (s : Turn) → s.state.current < length s.state.task
 unfolding with_processor
 task-with_cpu cpu s inside = ap cpu_of (task_at-with_task s.state s.state.current _ inside)
 
-pub loaded_cpu : {X : Type 0} {H : X → Type 0} (shown : Shows X H) (g : Setup) (r : Reach X H) (cpu : Cpu) (t : Turn) → IsLoaded shown g r cpu t → t.state.current < length t.state.tasks → cpu ≡ cpu_of (task_at t.state t.state.current)
+pub loaded_cpu : {X : Type 0} {H : X → Type 0} (shown : Shows X H) (g : Setup) (r : AddressSpace X H) (cpu : Cpu) (t : Turn) → IsLoaded shown g r cpu t → t.state.current < length t.state.tasks → cpu ≡ cpu_of (task_at t.state t.state.current)
 loaded_cpu shown g r cpu t h inside =
     let rest = rest_of h.saved t cpu h.is in
     let there : h.saved.state.current < length h.saved.state.tasks = rw (rest.current, rest.count) at inside in
@@ -124,10 +124,10 @@ pub with_own : (c : ℕ) (s : State) (t : Turn) → s ≡ t.state → with_proce
 unfolding with_processor with_task task_at
 with_own c s t e = rw e (ap (λ (xs : List Task). record t { state = record t.state { tasks = xs } }) (set-get_or t.state.tasks c no_task))
 
-pub loaded_own : {X : Type 0} {H : X → Type 0} (shown : Shows X H) (g : Setup) (r : Reach X H) (cpu : Cpu) (t : Turn) → ReachHolds shown g r t → is_ready t.state t.state.current ≡ true → cpu ≡ cpu_of (task_at t.state t.state.current) → IsLoaded shown g r cpu t
+pub loaded_own : {X : Type 0} {H : X → Type 0} (shown : Shows X H) (g : Setup) (r : AddressSpace X H) (cpu : Cpu) (t : Turn) → SpaceHolds shown g r t → is_ready t.state t.state.current ≡ true → cpu ≡ cpu_of (task_at t.state t.state.current) → IsLoaded shown g r cpu t
 loaded_own shown g r cpu t h ready e = record { saved = t; holds = h; ready = ready; is = rw e (sym (with_own t.state.current t.state t refl)) }
 
-pub loaded_again : {X : Type 0} {H : X → Type 0} (shown : Shows X H) (g : Setup) (r : Reach X H) (cpu : Cpu) (t : Turn) (task : ℕ) → task ≡ t.state.current → IsLoaded shown g r cpu t → IsLoaded shown g r cpu (with_current task t)
+pub loaded_again : {X : Type 0} {H : X → Type 0} (shown : Shows X H) (g : Setup) (r : AddressSpace X H) (cpu : Cpu) (t : Turn) (task : ℕ) → task ≡ t.state.current → IsLoaded shown g r cpu t → IsLoaded shown g r cpu (with_current task t)
 loaded_again shown g r cpu t task e h = rw e h
 
 -- ## the context of a task that is not the current one yet
@@ -145,11 +145,11 @@ pub context_register : {X : Type 0} {H : X → Type 0} (shown : Shows X H) (i : 
 unfolding register
 context_register shown i g m c t h inside = ap (λ (x : Cpu). slice_index x.regs.words i) (context_cpu shown g m c t h inside)
 
-pub context_memory : {X : Type 0} {H : X → Type 0} (shown : Shows X H) (g : Setup) (m : Machine X H) (c : ℕ) (t : Turn) → HasContext shown g m c t → memory_of m.reach.kernel ≡ t.state.memory
+pub context_memory : {X : Type 0} {H : X → Type 0} (shown : Shows X H) (g : Setup) (m : Machine X H) (c : ℕ) (t : Turn) → HasContext shown g m c t → memory_of m.space.kernel ≡ t.state.memory
 context_memory shown g m c t h = h.holds.kernel.memory ∙ sym (rest_of (with_current c h.saved) (with_current c t) m.glider.runner.processor h.is).memory
 
 -- that of the current one
-pub context_loaded : {X : Type 0} {H : X → Type 0} (shown : Shows X H) (g : Setup) (m : Machine X H) (c : ℕ) (t : Turn) → IsLoaded shown g m.reach m.glider.runner.processor t → current_of m.reach.kernel ≡ c → HasContext shown g m c t
+pub context_loaded : {X : Type 0} {H : X → Type 0} (shown : Shows X H) (g : Setup) (m : Machine X H) (c : ℕ) (t : Turn) → IsLoaded shown g m.space m.glider.runner.processor t → current_of m.space.kernel ≡ c → HasContext shown g m c t
 context_loaded shown g m c t h e =
     let saved = h.saved in
     let rest = rest_of saved t m.glider.runner.processor h.is in
@@ -162,12 +162,12 @@ context_loaded shown g m c t h e =
     }
 
 -- that of the kernel
-pub context_own : {X : Type 0} {H : X → Type 0} (shown : Shows X H) (g : Setup) (m : Machine X H) (c : ℕ) (t : Turn) → ReachHolds shown g m.reach t → is_ready t.state c ≡ true → m.glider.runner.processor ≡ cpu_of (task_at t.state c) → HasContext shown g m c t
+pub context_own : {X : Type 0} {H : X → Type 0} (shown : Shows X H) (g : Setup) (m : Machine X H) (c : ℕ) (t : Turn) → SpaceHolds shown g m.space t → is_ready t.state c ≡ true → m.glider.runner.processor ≡ cpu_of (task_at t.state c) → HasContext shown g m c t
 unfolding task_at
 context_own shown g m c t h ready e = record { saved = t; holds = h; ready = ready; is = rw e (sym (with_own c (with_current c t).state (with_current c t) refl)) }
 
 -- a machine with another kernel that holds all the same
-pub same_held : {X : Type 0} {H : X → Type 0} (shown : Shows X H) (loaded : Bool) (g : Setup) (r r' : Reach X H) (cpu : Cpu) (t : Turn) → r'.devices ≡ r.devices → ((u : Turn) → Holds g r.kernel u → Holds g r'.kernel u) → HoldsBy shown loaded g r cpu t → HoldsBy shown loaded g r' cpu t
+pub same_held : {X : Type 0} {H : X → Type 0} (shown : Shows X H) (loaded : Bool) (g : Setup) (r r' : AddressSpace X H) (cpu : Cpu) (t : Turn) → r'.devices ≡ r.devices → ((u : Turn) → Holds g r.kernel u → Holds g r'.kernel u) → HoldsBy shown loaded g r cpu t → HoldsBy shown loaded g r' cpu t
 same_held shown true g r r' cpu t same f h = record { saved = h.saved; holds = record { kernel = f h.saved h.holds.kernel; devices = ap (data_of shown) same ∙ h.holds.devices }; ready = h.ready; is = h.is }
 same_held shown false g r r' cpu t same f h = record { kernel = f t h.kernel; devices = ap (data_of shown) same ∙ h.devices }
 
@@ -248,8 +248,8 @@ moves_ready ms t i h =
     subst (λ (s : State). is_ready s i ≡ true) (sym (moves_state ms t)) (memory_ready t.state u.memory u.devices i h)
 
 -- the processor goes on in place, and the stores are the kernel's
-pub goes_on : {X : Type 0} {H : X → Type 0} (shown : Shows X H) (g : Setup) (r r' : Reach X H) (cpu cpu' : Cpu) (t : Turn) (ms : List Move) → IsLoaded shown g r cpu t → t.state.current < length t.state.tasks → ((u : Turn) → ReachHolds shown g r u → ReachHolds shown g r' (fold moved u ms)) → IsLoaded shown g r' cpu' (with_processor t.state.current cpu'.regs.words cpu'.flags (fold moved t ms))
-goes_on shown g reach reach' cpu cpu' t ms h inside f =
+pub goes_on : {X : Type 0} {H : X → Type 0} (shown : Shows X H) (g : Setup) (r r' : AddressSpace X H) (cpu cpu' : Cpu) (t : Turn) (ms : List Move) → IsLoaded shown g r cpu t → t.state.current < length t.state.tasks → ((u : Turn) → SpaceHolds shown g r u → SpaceHolds shown g r' (fold moved u ms)) → IsLoaded shown g r' cpu' (with_processor t.state.current cpu'.regs.words cpu'.flags (fold moved t ms))
+goes_on shown g space reach' cpu cpu' t ms h inside f =
     let s = h.saved in
     let c = s.state.current in
     let rest = rest_of s t cpu h.is in
@@ -273,16 +273,16 @@ goes_on shown g reach reach' cpu cpu' t ms h inside f =
 -- ## as the machine's functions use it
 
 pub stands_of : {X : Type 0} {H : X → Type 0} (shown : Shows X H) (g : Setup) (m : Machine X H) (t : Turn) → IsReady shown g m t → MachineStands shown g m t
-stands_of shown g m t r = record { holds = loaded_by shown m.loaded g m.reach m.glider.runner.processor t r.loaded r.holds; sane = r.sane }
+stands_of shown g m t r = record { holds = loaded_by shown m.loaded g m.space m.glider.runner.processor t r.loaded r.holds; sane = r.sane }
 
-pub below : {X : Type 0} {H : X → Type 0} (shown : Shows X H) (loaded : Bool) (g : Setup) (r : Reach X H) (cpu : Cpu) (t : Turn) (i : ℕ) → HoldsBy shown loaded g r cpu t → i < length t.state.tasks → i < task_count r.kernel
+pub below : {X : Type 0} {H : X → Type 0} (shown : Shows X H) (loaded : Bool) (g : Setup) (r : AddressSpace X H) (cpu : Cpu) (t : Turn) (i : ℕ) → HoldsBy shown loaded g r cpu t → i < length t.state.tasks → i < task_count r.kernel
 below shown loaded g r cpu t i h inside =
     let w = rest_held shown loaded g r cpu t h in
     let b : task_count r.kernel ≡ length w.saved.state.tasks = w.holds.count in
     let n : length t.state.tasks ≡ length w.saved.state.tasks = w.rest.count in
     omega arith
 
-pub written_back : {X : Type 0} {H : X → Type 0} (shown : Shows X H) (g : Setup) (r r' : Reach X H) (cpu : Cpu) (saved t : Turn) (task : ℕ) (words : List ℕ) (flags : Flags) → task ≡ saved.state.current → words ≡ cpu.regs.words → flags ≡ cpu.flags → t ≡ with_cpu cpu saved → r'.devices ≡ r.devices → ReachHolds shown g r saved → Holds g r'.kernel (with_processor task words flags saved) → ReachHolds shown g r' t
+pub written_back : {X : Type 0} {H : X → Type 0} (shown : Shows X H) (g : Setup) (r r' : AddressSpace X H) (cpu : Cpu) (saved t : Turn) (task : ℕ) (words : List ℕ) (flags : Flags) → task ≡ saved.state.current → words ≡ cpu.regs.words → flags ≡ cpu.flags → t ≡ with_cpu cpu saved → r'.devices ≡ r.devices → SpaceHolds shown g r saved → Holds g r'.kernel (with_processor task words flags saved) → SpaceHolds shown g r' t
 written_back shown g r r' cpu saved t task words flags at w f is same before h =
     let P : ℕ → Type 0 = λ i. Holds g r'.kernel (with_processor i words flags saved) in
     let F : Flags → Type 0 = λ y. Holds g r'.kernel (with_processor saved.state.current words y saved) in
@@ -290,19 +290,19 @@ written_back shown g r r' cpu saved t task words flags at w f is same before h =
     let R : Turn → Type 0 = λ u. Holds g r'.kernel u in
     record { kernel = subst R (sym is) (subst Q w (subst F f (subst P at h))); devices = ap (data_of shown) same ∙ before.devices ∙ sym (rest_of saved t cpu is).devices }
 
-pub loaded_register : {X : Type 0} {H : X → Type 0} (shown : Shows X H) (i : ℕ) (g : Setup) (r : Reach X H) (cpu : Cpu) (t : Turn) → IsLoaded shown g r cpu t → t.state.current < length t.state.tasks → slice_index cpu.regs.words i ≡ register t.state t.state.current i
+pub loaded_register : {X : Type 0} {H : X → Type 0} (shown : Shows X H) (i : ℕ) (g : Setup) (r : AddressSpace X H) (cpu : Cpu) (t : Turn) → IsLoaded shown g r cpu t → t.state.current < length t.state.tasks → slice_index cpu.regs.words i ≡ register t.state t.state.current i
 unfolding register
 loaded_register shown i g r cpu t h inside = ap (λ (x : Cpu). slice_index x.regs.words i) (loaded_cpu shown g r cpu t h inside)
 
 -- the effect by the bus and the loaded context is the effect by the turn
-pub effect_loaded : {X : Type 0} {H : X → Type 0} (shown : Shows X H) (g : Setup) (r : Reach X H) (cpu : Cpu) (t : Turn) (insn : Insn) → IsLoaded shown g r cpu t → t.state.current < length t.state.tasks →
+pub effect_loaded : {X : Type 0} {H : X → Type 0} (shown : Shows X H) (g : Setup) (r : AddressSpace X H) (cpu : Cpu) (t : Turn) (insn : Insn) → IsLoaded shown g r cpu t → t.state.current < length t.state.tasks →
     effect (refusals (setup_of r.kernel) (current_of r.kernel)) (shown_by shown r) cpu insn ≡ effect (refusals g t.state.current) (held t.state) (cpu_of (task_at t.state t.state.current)) insn
 effect_loaded shown g r cpu t insn h inside =
     let rest = rest_of h.saved t cpu h.is in
     let kernel = h.holds.kernel in
     effect_here shown g t r cpu insn kernel.setup (kernel.current ∙ sym rest.current) (kernel.memory ∙ sym rest.memory) (h.holds.devices ∙ sym rest.devices) (loaded_cpu shown g r cpu t h inside)
 
-pub next_loaded : {X : Type 0} {H : X → Type 0} (shown : Shows X H) (g : Setup) (r : Reach X H) (t : Turn) (c : ℕ) (e : Effect) (d cpu : Cpu) (ms : List Move) → e ≡ Next d ms → cpu ≡ d → IsLoaded shown g r cpu (with_processor c cpu.regs.words cpu.flags (fold moved t ms)) → IsLoaded shown g r cpu (acted g c e t)
+pub next_loaded : {X : Type 0} {H : X → Type 0} (shown : Shows X H) (g : Setup) (r : AddressSpace X H) (t : Turn) (c : ℕ) (e : Effect) (d cpu : Cpu) (ms : List Move) → e ≡ Next d ms → cpu ≡ d → IsLoaded shown g r cpu (with_processor c cpu.regs.words cpu.flags (fold moved t ms)) → IsLoaded shown g r cpu (acted g c e t)
 next_loaded shown g r t c e d cpu ms is same h =
     let P : Cpu → Type 0 = λ x. IsLoaded shown g r cpu (with_processor c x.regs.words x.flags (fold moved t ms)) in
     let S : Effect → Type 0 = λ x. IsLoaded shown g r cpu (acted g c x t) in
@@ -313,10 +313,10 @@ acted_as g P c t e d is h =
     let S : Effect → Type 0 = λ x. P (acted g c x t) in
     subst S (sym is) h
 
-pub ready_same : {X : Type 0} {H : X → Type 0} (shown : Shows X H) (g : Setup) (m : Machine X H) (reach : Reach X H) (cpu : Cpu) (t : Turn) → reach ≡ m.reach → cpu ≡ m.glider.runner.processor → IsReady shown g m t → IsReady shown g record m { reach = reach; glider = record m.glider { runner = record m.glider.runner { processor = cpu } } } t
-ready_same {X} {H} shown g m reach cpu t e f r =
-    let P : Reach X H → Type 0 = λ x. IsLoaded shown g x m.glider.runner.processor t in
-    let Q : Cpu → Type 0 = λ x. IsLoaded shown g reach x t in
+pub ready_same : {X : Type 0} {H : X → Type 0} (shown : Shows X H) (g : Setup) (m : Machine X H) (space : AddressSpace X H) (cpu : Cpu) (t : Turn) → space ≡ m.space → cpu ≡ m.glider.runner.processor → IsReady shown g m t → IsReady shown g record m { space = space; glider = record m.glider { runner = record m.glider.runner { processor = cpu } } } t
+ready_same {X} {H} shown g m space cpu t e f r =
+    let P : AddressSpace X H → Type 0 = λ x. IsLoaded shown g x m.glider.runner.processor t in
+    let Q : Cpu → Type 0 = λ x. IsLoaded shown g space x t in
     record { loaded = r.loaded; holds = subst Q (sym f) (subst P (sym e) r.holds); sane = r.sane }
 
 pub register_current : (t : Turn) (c : ℕ) → register (with_current c t).state c 15 ≡ register t.state c 15
@@ -333,22 +333,22 @@ noted_ready : (n : Note) (s : Turn) → is_ready s.state s.state.current ≡ tru
 unfolding noted
 noted_ready n s h = h
 
-noted_reach : {X : Type 0} {H : X → Type 0} (shown : Shows X H) (g : Setup) (r r' : Reach X H) (n : Note) (t : Turn) → r'.devices ≡ r.devices → Holds g r'.kernel (noted n t) → ReachHolds shown g r t → ReachHolds shown g r' (noted n t)
+noted_reach : {X : Type 0} {H : X → Type 0} (shown : Shows X H) (g : Setup) (r r' : AddressSpace X H) (n : Note) (t : Turn) → r'.devices ≡ r.devices → Holds g r'.kernel (noted n t) → SpaceHolds shown g r t → SpaceHolds shown g r' (noted n t)
 unfolding noted
 noted_reach shown g r r' n t same kernel h = record { kernel = kernel; devices = ap (data_of shown) same ∙ h.devices }
 
-pub loaded_noted : {X : Type 0} {H : X → Type 0} (shown : Shows X H) (g : Setup) (r r' : Reach X H) (cpu : Cpu) (n : Note) (t : Turn) → r'.devices ≡ r.devices → ((u : Turn) → Holds g r.kernel u → Holds g r'.kernel (noted n u)) → IsLoaded shown g r cpu t → IsLoaded shown g r' cpu (noted n t)
+pub loaded_noted : {X : Type 0} {H : X → Type 0} (shown : Shows X H) (g : Setup) (r r' : AddressSpace X H) (cpu : Cpu) (n : Note) (t : Turn) → r'.devices ≡ r.devices → ((u : Turn) → Holds g r.kernel u → Holds g r'.kernel (noted n u)) → IsLoaded shown g r cpu t → IsLoaded shown g r' cpu (noted n t)
 loaded_noted shown g r r' cpu n t same f h = record { saved = noted n h.saved; holds = noted_reach shown g r r' n h.saved same (f h.saved h.holds.kernel) h.holds; ready = noted_ready n h.saved h.ready; is = ap (noted n) h.is ∙ noted-with_cpu n cpu h.saved }
 
-pub noted_by : {X : Type 0} {H : X → Type 0} (shown : Shows X H) (loaded : Bool) (g : Setup) (r r' : Reach X H) (cpu : Cpu) (n : Note) (t : Turn) → r'.devices ≡ r.devices → ((u : Turn) → Holds g r.kernel u → Holds g r'.kernel (noted n u)) → HoldsBy shown loaded g r cpu t → HoldsBy shown loaded g r' cpu (noted n t)
+pub noted_by : {X : Type 0} {H : X → Type 0} (shown : Shows X H) (loaded : Bool) (g : Setup) (r r' : AddressSpace X H) (cpu : Cpu) (n : Note) (t : Turn) → r'.devices ≡ r.devices → ((u : Turn) → Holds g r.kernel u → Holds g r'.kernel (noted n u)) → HoldsBy shown loaded g r cpu t → HoldsBy shown loaded g r' cpu (noted n t)
 noted_by shown true g r r' cpu n t same f h = loaded_noted shown g r r' cpu n t same f h
 noted_by shown false g r r' cpu n t same f h = noted_reach shown g r r' n t same (f t h.kernel) h
 
-pub opened_as : {X : Type 0} {H : X → Type 0} (shown : Shows X H) (g : Setup) (k : Kernel) (m : Machine X H) (s : State) → m.reach.kernel ≡ k → m.loaded ≡ false → data_of shown m.reach.devices ≡ s.devices → Holds g k record { state = s; notes = notes_of k; writes = []; reads = [] } → HoldsBy shown m.loaded g m.reach m.glider.runner.processor record { state = s; notes = notes_of m.reach.kernel; writes = []; reads = [] }
+pub opened_as : {X : Type 0} {H : X → Type 0} (shown : Shows X H) (g : Setup) (k : Kernel) (m : Machine X H) (s : State) → m.space.kernel ≡ k → m.loaded ≡ false → data_of shown m.space.devices ≡ s.devices → Holds g k record { state = s; notes = notes_of k; writes = []; reads = [] } → HoldsBy shown m.loaded g m.space m.glider.runner.processor record { state = s; notes = notes_of m.space.kernel; writes = []; reads = [] }
 opened_as shown g k m s e loaded none h =
     let P : Kernel → Type 0 = λ x. Holds g x record { state = s; notes = notes_of x; writes = []; reads = [] } in
-    unloaded_by shown m.loaded g m.reach m.glider.runner.processor _ loaded record { kernel = subst P (sym e) h; devices = none }
+    unloaded_by shown m.loaded g m.space m.glider.runner.processor _ loaded record { kernel = subst P (sym e) h; devices = none }
 
 -- a kernel into which the context was saved stands for what its machine does
-pub unloaded_stands : {X : Type 0} {H : X → Type 0} (shown : Shows X H) (g : Setup) (m : Machine X H) (t : Turn) → m.loaded ≡ false → Stands g m.reach.kernel t → data_of shown m.reach.devices ≡ t.state.devices → MachineStands shown g m t
-unloaded_stands shown g m t loaded h none = record { holds = unloaded_by shown m.loaded g m.reach m.glider.runner.processor t loaded record { kernel = h.holds; devices = none }; sane = h.sane }
+pub unloaded_stands : {X : Type 0} {H : X → Type 0} (shown : Shows X H) (g : Setup) (m : Machine X H) (t : Turn) → m.loaded ≡ false → Stands g m.space.kernel t → data_of shown m.space.devices ≡ t.state.devices → MachineStands shown g m t
+unloaded_stands shown g m t loaded h none = record { holds = unloaded_by shown m.loaded g m.space m.glider.runner.processor t loaded record { kernel = h.holds; devices = none }; sane = h.sane }

@@ -4,7 +4,7 @@ use Rattle.kernel_abi.specs.declared.Note.{Note}
 use Rattle.kernel_abi.specs.Devices.{DeviceData}
 use Rattle.thumb_exec.specs.declared.cpu.Cpu.{Cpu}
 use Rattle.task_table.specs.declared.kernel.Kernel.{Kernel}
-use Rattle.board_core.specs.declared.reach.Reach.{Reach}
+use Rattle.board_core.specs.declared.space.AddressSpace.{AddressSpace}
 use Rattle.task_table.specs.model.State.{Setup, Turn}
 use Rattle.task_table.specs.model.Reading.{is_ready, task_at}
 use Rattle.task_table.specs.model.Effects.{noted}
@@ -17,14 +17,14 @@ use Rattle.task_table.proofs.model.StepKeeps.{sane-syscall_noted}
 use Rattle.board_core.specs.declared.machine.Machine.{Machine}
 use Rattle.board_model.specs.declared.outcomes.Level.{Level}
 use Rattle.board_model.specs.declared.outcomes.Level.TheVariants.{Calls, All}
-use Rattle.board_core.specs.Machine.{with_cpu, ReachHolds, IsLoaded, IsReady}
+use Rattle.board_core.specs.Machine.{with_cpu, SpaceHolds, IsLoaded, IsReady}
 use Rattle.board_model.specs.Turn.{noted_at, with_registers_noted, high_note, low_note}
 use Rattle.board_core.proofs.Loading.{rest_of, loaded_noted}
 use Rattle.board_model.proofs.Quiet.{ready-with_processor}
 use Rattle.board_model.proofs.TurnChains.{noted_state, ready-syscall_noted}
 use Rattle.board_core.specs.Data.{Shows, data_of}
 
-pub loaded_ready : {X : Type 0} {H : X → Type 0} (shown : Shows X H) (g : Setup) (r : Reach X H) (cpu : Cpu) (t : Turn) → IsLoaded shown g r cpu t → t.state.current < length t.state.tasks → is_ready t.state t.state.current ≡ true
+pub loaded_ready : {X : Type 0} {H : X → Type 0} (shown : Shows X H) (g : Setup) (r : AddressSpace X H) (cpu : Cpu) (t : Turn) → IsLoaded shown g r cpu t → t.state.current < length t.state.tasks → is_ready t.state t.state.current ≡ true
 loaded_ready shown g r cpu t h inside =
     let s = h.saved in
     let rest = rest_of s t cpu h.is in
@@ -42,10 +42,10 @@ devices-syscall_noted : (c : ℕ) (t : Turn) → (syscall_noted c t).state.devic
 unfolding syscall_noted noted
 devices-syscall_noted c t = refl
 
-pub calling : {X : Type 0} {H : X → Type 0} (shown : Shows X H) (g : Setup) (r : Reach X H) (k' : Kernel) (m : Machine X H) (c : ℕ) (t : Turn) → IsReady shown g m t → c ≡ t.state.current → ReachHolds shown g r t → (Holds g r.kernel t → Holds g k' (syscall_noted c t)) → IsCalling g (data_of shown r.devices) k' c t
+pub calling : {X : Type 0} {H : X → Type 0} (shown : Shows X H) (g : Setup) (r : AddressSpace X H) (k' : Kernel) (m : Machine X H) (c : ℕ) (t : Turn) → IsReady shown g m t → c ≡ t.state.current → SpaceHolds shown g r t → (Holds g r.kernel t → Holds g k' (syscall_noted c t)) → IsCalling g (data_of shown r.devices) k' c t
 calling shown g r k' m c t is at h f =
     let inside : c < length t.state.tasks = rw at is.sane.steady.current in
-    let ready : is_ready t.state c ≡ true = ap (λ (i : ℕ). is_ready t.state i) at ∙ loaded_ready shown g m.reach m.glider.runner.processor t is.holds is.sane.steady.current in
+    let ready : is_ready t.state c ≡ true = ap (λ (i : ℕ). is_ready t.state i) at ∙ loaded_ready shown g m.space m.glider.runner.processor t is.holds is.sane.steady.current in
     record {
       stands = record { holds = f h.kernel; sane = sane-syscall_noted c t is.sane inside };
       ready = ready-syscall_noted c t ready;
@@ -54,7 +54,7 @@ calling shown g r k' m c t is at h f =
     }
 
 -- the kernel has made the call, which changes no device
-pub called : {X : Type 0} {H : X → Type 0} (shown : Shows X H) (g : Setup) (r : Reach X H) (k : Kernel) (c : ℕ) (t : Turn) → IsCalling g (data_of shown r.devices) k c t → Holds g r.kernel (syscall_made g c (syscall_noted c t)) → ReachHolds shown g r (syscall_made g c (syscall_noted c t))
+pub called : {X : Type 0} {H : X → Type 0} (shown : Shows X H) (g : Setup) (r : AddressSpace X H) (k : Kernel) (c : ℕ) (t : Turn) → IsCalling g (data_of shown r.devices) k c t → Holds g r.kernel (syscall_made g c (syscall_noted c t)) → SpaceHolds shown g r (syscall_made g c (syscall_noted c t))
 called shown g r k c t by kernel = record { kernel = kernel; devices = by.devices ∙ sym (stay-syscall_made g c (syscall_noted c t) by.stands.sane by.inside by.ready) }
 
 -- a system call that is noted has the number that it had
@@ -90,8 +90,8 @@ last_eight xs n =
 pub noted_current : (level : Level) (n : Note) (t : Turn) → (noted_at level n t).state.current ≡ t.state.current
 noted_current level n t = ap (λ s. s.current) (noted_state level n t)
 
-pub ready_noted : {X : Type 0} {H : X → Type 0} (shown : Shows X H) (g : Setup) (m : Machine X H) (k : Kernel) (n : Note) (t : Turn) → ((u : Turn) → Holds g m.reach.kernel u → Holds g k (noted n u)) → IsReady shown g m t → IsReady shown g record m { reach = record m.reach { kernel = k } } (noted n t)
-ready_noted shown g m k n t f r = record { loaded = r.loaded; holds = loaded_noted shown g m.reach record m.reach { kernel = k } m.glider.runner.processor n t refl f r.holds; sane = sane-noted n t r.sane }
+pub ready_noted : {X : Type 0} {H : X → Type 0} (shown : Shows X H) (g : Setup) (m : Machine X H) (k : Kernel) (n : Note) (t : Turn) → ((u : Turn) → Holds g m.space.kernel u → Holds g k (noted n u)) → IsReady shown g m t → IsReady shown g record m { space = record m.space { kernel = k } } (noted n t)
+ready_noted shown g m k n t f r = record { loaded = r.loaded; holds = loaded_noted shown g m.space record m.space { kernel = k } m.glider.runner.processor n t refl f r.holds; sane = sane-noted n t r.sane }
 
 -- both notes of the registers, one after the other
 pub registers_noted : (c : ℕ) (t : Turn) → noted (high_note (task_at t.state c)) (noted (low_note (task_at t.state c)) t) ≡ with_registers_noted All c t

@@ -15,9 +15,9 @@ use Rattle.task_table.specs.model.Events.{fed}
 use Rattle.task_table.specs.kept.Holds.{Holds, Kept, Shows as ShowsTurn, kept_of, memory_of}
 use Rattle.task_table.proofs.kept.Steps.{kept_same}
 use Rattle.board_model.specs.Turn.{put, took, is_device, or_zero}
-use Rattle.board_core.specs.declared.reach.Reach.{Reach}
+use Rattle.board_core.specs.declared.space.AddressSpace.{AddressSpace}
 use Rattle.board_core.specs.Data.{Shows, data_of}
-use Rattle.board_core.specs.Machine.{ReachHolds, IsStored, IsGiven, IsTaken, shown_in}
+use Rattle.board_core.specs.Machine.{SpaceHolds, IsStored, IsGiven, IsTaken, shown_in}
 
 -- ## what bytes hold
 
@@ -89,15 +89,15 @@ taken_nothing t a e =
     ap (λ (ds : List DeviceData). with_devices (devices_loaded ds a) t) (sym e)
     ∙ ap (λ (ds : List DeviceData). record t { state = record t.state { devices = ds } }) e
 
-module _ {X : Type 0} {H : X → Type 0} (shown : Shows X H) (r r' : Reach X H) where
-  holds_as : (g : Setup) (u v : Turn) → v ≡ u → ReachHolds shown g r' u → ReachHolds shown g r' v
-  holds_as g u v e h = subst (λ (t : Turn). ReachHolds shown g r' t) (sym e) h
+module _ {X : Type 0} {H : X → Type 0} (shown : Shows X H) (r r' : AddressSpace X H) where
+  holds_as : (g : Setup) (u v : Turn) → v ≡ u → SpaceHolds shown g r' u → SpaceHolds shown g r' v
+  holds_as g u v e h = subst (λ (t : Turn). SpaceHolds shown g r' t) (sym e) h
 
-  ram_at : (g : Setup) (t : Turn) (a n : ℕ) (b : Bool) → ReachHolds shown g r t → is_ram (memory_of r.kernel) a n ≡ b → is_ram t.state.memory a n ≡ b
+  ram_at : (g : Setup) (t : Turn) (a n : ℕ) (b : Bool) → SpaceHolds shown g r t → is_ram (memory_of r.kernel) a n ≡ b → is_ram t.state.memory a n ≡ b
   ram_at g t a n b h e = ap (λ (m : Memory). is_ram m a n) (sym h.kernel.memory) ∙ e
 
   -- a store in the RAM
-  pub stored_ram : (g : Setup) (t : Turn) (a n v : ℕ) → is_ram (memory_of r.kernel) a n ≡ true → r'.devices ≡ r.devices → ReachHolds shown g r t → Holds g r'.kernel (stored Own a (bytes_of v n) t) → ReachHolds shown g r' (put t record { addr = a; bytes = n; value = v })
+  pub stored_ram : (g : Setup) (t : Turn) (a n v : ℕ) → is_ram (memory_of r.kernel) a n ≡ true → r'.devices ≡ r.devices → SpaceHolds shown g r t → Holds g r'.kernel (stored Own a (bytes_of v n) t) → SpaceHolds shown g r' (put t record { addr = a; bytes = n; value = v })
   unfolding stored
   stored_ram g t a n v ram same h kernel =
       holds_as g (stored Own a (bytes_of v n) t) _ (put_ram t a n v (ram_at g t a n true h ram)) record { kernel = kernel; devices = ap (data_of shown) same ∙ h.devices }
@@ -113,19 +113,19 @@ module _ {X : Type 0} {H : X → Type 0} (shown : Shows X H) (r r' : Reach X H) 
   }
 
   -- what the devices are after a store
-  given_devices : (g : Setup) (t : Turn) (a : ℕ) → ReachHolds shown g r t → data_of shown r'.devices ≡ devices_stored (data_of shown r.devices) a → (o : Option Given) → data_of shown r'.devices ≡ (given_out o (with_devices (devices_stored t.state.devices a) t)).state.devices
+  given_devices : (g : Setup) (t : Turn) (a : ℕ) → SpaceHolds shown g r t → data_of shown r'.devices ≡ devices_stored (data_of shown r.devices) a → (o : Option Given) → data_of shown r'.devices ≡ (given_out o (with_devices (devices_stored t.state.devices a) t)).state.devices
   unfolding noted with_devices
   given_devices g t a h e None = e ∙ ap (λ (ds : List DeviceData). devices_stored ds a) h.devices
   given_devices g t a h e (Some x) = e ∙ ap (λ (ds : List DeviceData). devices_stored ds a) h.devices
 
   -- a device that was stored to, and gave this out
-  pub given : (g : Setup) (t : Turn) (a v : ℕ) (o : Option Given) → ReachHolds shown g r t → data_of shown r'.devices ≡ devices_stored (data_of shown r.devices) a → o ≡ device_out (data_of shown r.devices) a v →
-      ((u : Turn) → Holds g r.kernel u → Holds g r'.kernel (given_out o u)) → ReachHolds shown g r' (device_stored a v t)
+  pub given : (g : Setup) (t : Turn) (a v : ℕ) (o : Option Given) → SpaceHolds shown g r t → data_of shown r'.devices ≡ devices_stored (data_of shown r.devices) a → o ≡ device_out (data_of shown r.devices) a v →
+      ((u : Turn) → Holds g r.kernel u → Holds g r'.kernel (given_out o u)) → SpaceHolds shown g r' (device_stored a v t)
   unfolding device_stored
   given g t a v o h e out kernel =
       let same : o ≡ device_out t.state.devices a v = out ∙ ap (λ (ds : List DeviceData). device_out ds a v) h.devices in
       let u : Turn = with_devices (devices_stored t.state.devices a) t in
-      subst (λ (x : Option Given). ReachHolds shown g r' (given_out x u)) same
+      subst (λ (x : Option Given). SpaceHolds shown g r' (given_out x u)) same
       record { kernel = kernel u (holds_devices g (kept_of r.kernel) t (devices_stored t.state.devices a) h.kernel); devices = given_devices g t a h e o }
 
   -- a load from a device
@@ -139,20 +139,20 @@ module _ {X : Type 0} {H : X → Type 0} (shown : Shows X H) (r r' : Reach X H) 
     kernel = same;
   }
 
-module _ {X : Type 0} {H : X → Type 0} (shown : Shows X H) (r : Reach X H) where
+module _ {X : Type 0} {H : X → Type 0} (shown : Shows X H) (r : AddressSpace X H) where
   -- elsewhere a store and a load change nothing
-  pub stored_nowhere : (g : Setup) (t : Turn) (a n v : ℕ) → is_ram (memory_of r.kernel) a n ≡ false → is_device a ≡ false → ReachHolds shown g r t → ReachHolds shown g r (put t record { addr = a; bytes = n; value = v })
+  pub stored_nowhere : (g : Setup) (t : Turn) (a n v : ℕ) → is_ram (memory_of r.kernel) a n ≡ false → is_device a ≡ false → SpaceHolds shown g r t → SpaceHolds shown g r (put t record { addr = a; bytes = n; value = v })
   stored_nowhere g t a n v ram device h =
       let e : is_ram t.state.memory a n ≡ false = ap (λ (m : Memory). is_ram m a n) (sym h.kernel.memory) ∙ ram in
-      subst (λ (u : Turn). ReachHolds shown g r u) (sym (put_none t a n v e device)) h
+      subst (λ (u : Turn). SpaceHolds shown g r u) (sym (put_none t a n v e device)) h
 
   pub taken_nowhere : (a : ℕ) → is_device a ≡ false → IsTaken shown r a r
-  taken_nowhere a device = record { holds = λ g t h. subst (λ (u : Turn). ReachHolds shown g r u) (sym (took_none t a device)) h; kernel = refl }
+  taken_nowhere a device = record { holds = λ g t h. subst (λ (u : Turn). SpaceHolds shown g r u) (sym (took_none t a device)) h; kernel = refl }
 
   -- nor does any load where there is no device
   pub nothing_taken : (a : ℕ) → data_of shown r.devices ≡ [] → IsTaken shown r a r
   nothing_taken a none = record {
-    holds = λ g t h. subst (λ (u : Turn). ReachHolds shown g r u) (sym (unmoved t (is_device a) (sym none ∙ h.devices))) h;
+    holds = λ g t h. subst (λ (u : Turn). SpaceHolds shown g r u) (sym (unmoved t (is_device a) (sym none ∙ h.devices))) h;
     kernel = refl;
   }
     where

@@ -26,30 +26,30 @@ use Rattle.mem_banks.specs.Memory.{Memory, number_at}
 use Rattle.task_table.specs.model.Start.{begun, start}
 use Rattle.task_table.specs.model.Sane.{Sane, IsCounted}
 use Rattle.task_table.proofs.kept.Steps.{holds_turn}
-use Rattle.board_core.specs.declared.reach.Reach.{Reach}
+use Rattle.board_core.specs.declared.space.AddressSpace.{AddressSpace}
 use Rattle.board_model.specs.Turn.{refusals, is_device, or_zero, held, cpu_of, put, took, moved}
-use Rattle.board_core.specs.Machine.{ReachHolds, IsStored, IsTaken, shown_by}
+use Rattle.board_core.specs.Machine.{SpaceHolds, IsStored, IsTaken, shown_by}
 use Rattle.board_core.specs.declared.choice.Choice.{Choice}
 use Rattle.board_core.specs.Kept.{IsChoice}
 use Rattle.board_core.specs.Data.{Shows, data_of}
 
 -- what the bus says of a store
-abbrev pub stored_by : {X : Type 0} {H : X → Type 0} (shown : Shows X H) → Reach X H → ℕ → ℕ → ℕ → Reach X H → Type 0
+abbrev pub stored_by : {X : Type 0} {H : X → Type 0} (shown : Shows X H) → AddressSpace X H → ℕ → ℕ → ℕ → AddressSpace X H → Type 0
 stored_by shown m a n v m' = IsStored shown m a n v m'
 
 -- what it says of a load
-abbrev pub taken_by : {X : Type 0} {H : X → Type 0} (shown : Shows X H) → Reach X H → ℕ → Reach X H → Type 0
+abbrev pub taken_by : {X : Type 0} {H : X → Type 0} (shown : Shows X H) → AddressSpace X H → ℕ → AddressSpace X H → Type 0
 taken_by shown m a m' = IsTaken shown m a m'
 
 -- ## moves through the bus are the turn's
 
-pub moves_notes : {X : Type 0} {H : X → Type 0} (shown : Shows X H) (ms : List Move) (m m' : Reach X H) → Moves (stored_by shown) (taken_by shown) m ms m' → note_count m'.kernel ≤ note_count m.kernel + length ms
-moves_notes {X} {H} shown [] m m' e = let same = ap (λ (n : Reach X H). note_count n.kernel) e in omega (arith, same)
+pub moves_notes : {X : Type 0} {H : X → Type 0} (shown : Shows X H) (ms : List Move) (m m' : AddressSpace X H) → Moves (stored_by shown) (taken_by shown) m ms m' → note_count m'.kernel ≤ note_count m.kernel + length ms
+moves_notes {X} {H} shown [] m m' e = let same = ap (λ (n : AddressSpace X H). note_count n.kernel) e in omega (arith, same)
 moves_notes shown (Puts x ∷ xs) m m' e = let more = e.1.notes in let rest = moves_notes shown xs e.0 m' e.2 in omega (arith, more, rest)
 moves_notes shown (Takes a n ∷ xs) m m' e = let same = ap (λ (k : Kernel). note_count k) e.1.kernel in let rest = moves_notes shown xs e.0 m' e.2 in omega (arith, same, rest)
 
 -- where there is room for a note of each
-pub moves_hold : {X : Type 0} {H : X → Type 0} (shown : Shows X H) (ms : List Move) (m m' : Reach X H) → Moves (stored_by shown) (taken_by shown) m ms m' → note_count m.kernel + length ms ≤ turn_notes → (g : Setup) (t : Turn) → ReachHolds shown g m t → ReachHolds shown g m' (fold moved t ms)
+pub moves_hold : {X : Type 0} {H : X → Type 0} (shown : Shows X H) (ms : List Move) (m m' : AddressSpace X H) → Moves (stored_by shown) (taken_by shown) m ms m' → note_count m.kernel + length ms ≤ turn_notes → (g : Setup) (t : Turn) → SpaceHolds shown g m t → SpaceHolds shown g m' (fold moved t ms)
 moves_hold shown [] m m' e room g t h = rw e h
 moves_hold shown (Puts x ∷ xs) m m' e room g t h = let more = e.1.notes in moves_hold shown xs e.0 m' e.2 (omega (arith, room, more)) g (put t x) (e.1.holds g t (omega (arith, room)) h)
 moves_hold shown (Takes a n ∷ xs) m m' e room g t h = let same = ap (λ (k : Kernel). note_count k) e.1.kernel in moves_hold shown xs e.0 m' e.2 (omega (arith, room, same)) g (took t a) (e.1.holds g t h)
@@ -61,7 +61,7 @@ abbrev pub held_in : Memory → List DeviceData → ℕ → ℕ → ℕ
 held_in m ds a n = cond (is_device a) (or_zero (device_number ds a n)) (number_at m a n)
 
 -- the effect by the bus is the effect by the turn
-pub effect_here : {X : Type 0} {H : X → Type 0} (shown : Shows X H) (g : Setup) (t : Turn) (r : Reach X H) (cpu : Cpu) (insn : Insn) → setup_of r.kernel ≡ g → current_of r.kernel ≡ t.state.current → memory_of r.kernel ≡ t.state.memory → data_of shown r.devices ≡ t.state.devices → cpu ≡ cpu_of (task_at t.state t.state.current) →
+pub effect_here : {X : Type 0} {H : X → Type 0} (shown : Shows X H) (g : Setup) (t : Turn) (r : AddressSpace X H) (cpu : Cpu) (insn : Insn) → setup_of r.kernel ≡ g → current_of r.kernel ≡ t.state.current → memory_of r.kernel ≡ t.state.memory → data_of shown r.devices ≡ t.state.devices → cpu ≡ cpu_of (task_at t.state t.state.current) →
     effect (refusals (setup_of r.kernel) (current_of r.kernel)) (shown_by shown r) cpu insn ≡ effect (refusals g t.state.current) (held t.state) (cpu_of (task_at t.state t.state.current)) insn
 effect_here shown g t r cpu insn setup current memory devices same =
     ap (λ (x : Setup). effect (refusals x (current_of r.kernel)) (shown_by shown r) cpu insn) setup
@@ -70,24 +70,24 @@ effect_here shown g t r cpu insn setup current memory devices same =
     ∙ ap (λ (ds : List DeviceData). effect (refusals g t.state.current) (held_in t.state.memory ds) cpu insn) devices
     ∙ ap (λ (c : Cpu). effect (refusals g t.state.current) (held t.state) c insn) same
 
-pub record WasNext {X : Type 0} {H : X → Type 0} (shown : Shows X H) (c' : Cpu) (m m' : Reach X H) (e : Effect) : Type 0 where
+pub record WasNext {X : Type 0} {H : X → Type 0} (shown : Shows X H) (c' : Cpu) (m m' : AddressSpace X H) (e : Effect) : Type 0 where
   pub processor : Cpu
   pub moves : List Move
   pub is : e ≡ Next processor moves
   pub after : c' ≡ processor
   pub bus : Moves (stored_by shown) (taken_by shown) m moves m'
 
-pub was_next : {X : Type 0} {H : X → Type 0} (shown : Shows X H) (c c' : Cpu) (m m' : Reach X H) (o : Outcome) (e : Effect) → Acts (stored_by shown) (taken_by shown) c c' m m' o e → o ≡ outcome.Next → WasNext shown c' m m' e
+pub was_next : {X : Type 0} {H : X → Type 0} (shown : Shows X H) (c c' : Cpu) (m m' : AddressSpace X H) (o : Outcome) (e : Effect) → Acts (stored_by shown) (taken_by shown) c c' m m' o e → o ≡ outcome.Next → WasNext shown c' m m' e
 was_next shown c c' m m' o (Next d ms) a p = record { processor = d; moves = ms; is = refl; after = a.1; bus = a.2 }
 was_next shown c c' m m' o Syscall a p = absurd (let q : o ≡ outcome.Call = a.0 in cc)
 was_next shown c c' m m' o (Trap f) a p = absurd (let q : o ≡ outcome.Trap f = a.0 in cc)
 
-pub was_syscall : {X : Type 0} {H : X → Type 0} (shown : Shows X H) (c c' : Cpu) (m m' : Reach X H) (o : Outcome) (e : Effect) → Acts (stored_by shown) (taken_by shown) c c' m m' o e → o ≡ outcome.Call → (e ≡ Syscall) × (m' ≡ m) × (c' ≡ c)
+pub was_syscall : {X : Type 0} {H : X → Type 0} (shown : Shows X H) (c c' : Cpu) (m m' : AddressSpace X H) (o : Outcome) (e : Effect) → Acts (stored_by shown) (taken_by shown) c c' m m' o e → o ≡ outcome.Call → (e ≡ Syscall) × (m' ≡ m) × (c' ≡ c)
 was_syscall shown c c' m m' o (Next d ms) a p = absurd (let q : o ≡ outcome.Next = a.0 in cc)
 was_syscall shown c c' m m' o Syscall a p = (refl, a.2, a.1)
 was_syscall shown c c' m m' o (Trap f) a p = absurd (let q : o ≡ outcome.Trap f = a.0 in cc)
 
-pub was_trap : {X : Type 0} {H : X → Type 0} (shown : Shows X H) (c c' : Cpu) (m m' : Reach X H) (o : Outcome) (e : Effect) (f : Fault) → Acts (stored_by shown) (taken_by shown) c c' m m' o e → o ≡ outcome.Trap f → (e ≡ Trap f) × (m' ≡ m) × (c' ≡ c)
+pub was_trap : {X : Type 0} {H : X → Type 0} (shown : Shows X H) (c c' : Cpu) (m m' : AddressSpace X H) (o : Outcome) (e : Effect) (f : Fault) → Acts (stored_by shown) (taken_by shown) c c' m m' o e → o ≡ outcome.Trap f → (e ≡ Trap f) × (m' ≡ m) × (c' ≡ c)
 was_trap shown c c' m m' o (Next d ms) f a p = absurd (let q : o ≡ outcome.Next = a.0 in cc)
 was_trap shown c c' m m' o Syscall f a p = absurd (let q : o ≡ outcome.Call = a.0 in cc)
 was_trap shown c c' m m' o (Trap d) f a p = (let q : o ≡ outcome.Trap d = a.0 in let r : d ≡ f = cc in ap Trap r, a.2, a.1)

@@ -17,24 +17,24 @@ use Rattle.board_model.specs.Script.{Scenario}
 use Rattle.board_core.specs.declared.board.Board.{Board}
 use Rattle.board_core.specs.declared.choice.Choice.{Choice}
 use Rattle.board_core.specs.Kept.{IsChoice}
-use Rattle.board_core.specs.Machine.{ReachHolds}
+use Rattle.board_core.specs.Machine.{SpaceHolds}
 use Rattle.board_core.specs.Setting.{with_flash}
 use Rattle.std.specs.Prelude.{map, vec_items}
-use Rattle.board_core.specs.fast.Ports.{AllPorts}
+use Rattle.board_core.specs.fast.IoRegions.{AllIoRegions}
 use Rattle.board_core.specs.Stands.{Holds}
 use Rattle.board_core.proofs.Loading.{unloaded_by}
 use Rattle.board_core.proofs.Turning.{rested, rested_as}
 use Rattle.board_core.specs.Data.{Shows}
 
 -- its kernel holds the state, and has all contexts; the devices, the turn and what is known of the events are as they were
-pub holds_told : {X : Type 0} {H : X → Type 0} (shown : Shows X H) (x y : Scenario) (s u : State) (b b' : Board X H) → Holds shown x b s → y.script ≡ x.script → u.turn ≡ s.turn → ReachHolds shown y.setup b'.machine.reach (rested b.machine u) → b'.machine.loaded ≡ false → IsChoice y.setup u b'.choice → b'.turns ≡ b.turns → b'.script ≡ b.script → b'.due ≡ b.due → AllPorts y.setup (map vec_items b'.ports.items) → Holds shown y b' u
-holds_told shown x y s u b b' h same turn reach unloaded choice turns script due ports = record {
-  machine = rested_as shown y.setup b.machine b'.machine u (unloaded_by shown b'.machine.loaded y.setup b'.machine.reach b'.machine.glider.runner.processor (rested b.machine u) unloaded reach);
+pub holds_told : {X : Type 0} {H : X → Type 0} (shown : Shows X H) (x y : Scenario) (s u : State) (b b' : Board X H) → Holds shown x b s → y.script ≡ x.script → u.turn ≡ s.turn → SpaceHolds shown y.setup b'.machine.space (rested b.machine u) → b'.machine.loaded ≡ false → IsChoice y.setup u b'.choice → b'.turns ≡ b.turns → b'.script ≡ b.script → b'.due ≡ b.due → AllIoRegions y.setup (map vec_items b'.io_regions.items) → Holds shown y b' u
+holds_told shown x y s u b b' h same turn space unloaded choice turns script due io_regions = record {
+  machine = rested_as shown y.setup b.machine b'.machine u (unloaded_by shown b'.machine.loaded y.setup b'.machine.space b'.machine.glider.runner.processor (rested b.machine u) unloaded space);
   turns = turns ∙ h.turns ∙ sym turn;
   choice = choice;
   script = rw (script, same) h.script;
   due = rw (due, same, turn) h.due;
-  ports = ports;
+  io_regions = io_regions;
 }
 
 -- who is chosen does not go by the memory, the time, the lines, the turn or the number of the next call

@@ -26,10 +26,10 @@ use Rattle.board_core.specs.Data.{Shows}
 
 -- a machine between turns
 abbrev pub rested : {X : Type 0} {H : X → Type 0} → Machine X H → State → Turn
-rested m s = record { state = s; notes = notes_of m.reach.kernel; writes = []; reads = [] }
+rested m s = record { state = s; notes = notes_of m.space.kernel; writes = []; reads = [] }
 
-pub noted_in : {X : Type 0} {H : X → Type 0} (shown : Shows X H) (g : Setup) (m : Machine X H) (t : Turn) → MachineHolds shown g m t → notes_of m.reach.kernel ≡ t.notes
-noted_in shown g m t h = let w = rest_held shown m.loaded g m.reach m.glider.runner.processor t h in w.holds.notes ∙ sym w.rest.notes
+pub noted_in : {X : Type 0} {H : X → Type 0} (shown : Shows X H) (g : Setup) (m : Machine X H) (t : Turn) → MachineHolds shown g m t → notes_of m.space.kernel ≡ t.notes
+noted_in shown g m t h = let w = rest_held shown m.loaded g m.space m.glider.runner.processor t h in w.holds.notes ∙ sym w.rest.notes
 
 some_left : (x : Note) (xs : List Note) → length (x ∷ xs) ≡ 0 → ⊥
 some_left x xs e = omega arith
@@ -58,14 +58,14 @@ module _ {X : Type 0} {H : X → Type 0} (shown : Shows X H) (level : Level) (x 
   stands_after sane h =
       let t = after_events x s in
       let u : Turn = turn_of level x.setup (chosen x.setup t.state) t in
-      record { holds = between_by shown m.loaded x.setup m.reach m.glider.runner.processor u (u.state.turn + 1) h; sane = sane-after level x s sane }
+      record { holds = between_by shown m.loaded x.setup m.space m.glider.runner.processor u (u.state.turn + 1) h; sane = sane-after level x s sane }
 
-  pub turn_notes : HasTurned → notes_of m.reach.kernel ≡ (turn level x s).notes
+  pub turn_notes : HasTurned → notes_of m.space.kernel ≡ (turn level x s).notes
   unfolding turn ended
   turn_notes h = noted_in shown x.setup m (turn_of level x.setup (chosen x.setup (after_events x s).state) (after_events x s)) h
 
   -- where it noted nothing after its events, the choice after them is the one after the turn
-  pub choice_kept : (kept : Choice) → Sane x.setup s → HasTurned → IsChoice x.setup (after_events x s).state kept → length (notes_of m.reach.kernel) ≤ length (after_events x s).notes → IsChoice x.setup (turn level x s).state kept
+  pub choice_kept : (kept : Choice) → Sane x.setup s → HasTurned → IsChoice x.setup (after_events x s).state kept → length (notes_of m.space.kernel) ≤ length (after_events x s).notes → IsChoice x.setup (turn level x s).state kept
   choice_kept kept sane h is few =
       let same = quiet-turn level x s (sane-after_events x s sane) (rw (sym (turn_notes h)) few) in
       record {
@@ -88,8 +88,8 @@ few_events shown x s b st =
     subst P st.holds.script (each_turn (script_data b.script) b.script.facts s.turn).few
 
 -- where as many notes are there as there were, and none were, none are
-pub none_of : {X : Type 0} {H : X → Type 0} (m m' : Machine X H) → notes_of m.reach.kernel ≡ [] → note_count m'.reach.kernel ≡ note_count m.reach.kernel → notes_of m'.reach.kernel ≡ []
-none_of m m' none e = empty_by (notes_of m'.reach.kernel) (e ∙ ap (λ (xs : List Note). length xs) none)
+pub none_of : {X : Type 0} {H : X → Type 0} (m m' : Machine X H) → notes_of m.space.kernel ≡ [] → note_count m'.space.kernel ≡ note_count m.space.kernel → notes_of m'.space.kernel ≡ []
+none_of m m' none e = empty_by (notes_of m'.space.kernel) (e ∙ ap (λ (xs : List Note). length xs) none)
   where
     empty_by : (xs : List Note) → length xs ≡ 0 → xs ≡ []
     empty_by [] h = refl

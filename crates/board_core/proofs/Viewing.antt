@@ -9,7 +9,7 @@ use Rattle.task_table.specs.model.Effects.{with_task, with_processor}
 use Rattle.task_table.specs.kept.Holds.{Holds, current_of}
 use Rattle.task_table.proofs.model.Changes.{task_at-with_task, task_at-with_task_other, call_of-with_task, listen_of-with_task, length-with_task}
 use Rattle.board_core.specs.declared.views.TaskView.{TaskView}
-use Rattle.board_core.specs.declared.reach.Reach.{Reach}
+use Rattle.board_core.specs.declared.space.AddressSpace.{AddressSpace}
 use Rattle.board_core.specs.Views.{IsTask}
 use Rattle.board_core.specs.Machine.{with_cpu, IsLoaded, HoldsBy}
 use Rattle.board_core.specs.Data.{Shows}
@@ -53,7 +53,7 @@ own_at cpu s v b =
     }
 
 -- no context is loaded, or that of another task
-pub other_view : {X : Type 0} {H : X → Type 0} (shown : Shows X H) (loaded : Bool) (g : Setup) (r : Reach X H) (cpu : Cpu) (t : Turn) (i : ℕ) (v : TaskView) → (loaded ≡ false) ⊎ (current_of r.kernel ≢ i) → HoldsBy shown loaded g r cpu t → ((u : Turn) → Holds g r.kernel u → IsTask u.state i v) → IsTask t.state i v
+pub other_view : {X : Type 0} {H : X → Type 0} (shown : Shows X H) (loaded : Bool) (g : Setup) (r : AddressSpace X H) (cpu : Cpu) (t : Turn) (i : ℕ) (v : TaskView) → (loaded ≡ false) ⊎ (current_of r.kernel ≢ i) → HoldsBy shown loaded g r cpu t → ((u : Turn) → Holds g r.kernel u → IsTask u.state i v) → IsTask t.state i v
 other_view shown false g r cpu t i v d h f = f t h.kernel
 other_view shown true g r cpu t i v (inl e) h f = absurd (false≢true (sym e))
 other_view shown true g r cpu t i v (inr ne) h f =
@@ -61,7 +61,7 @@ other_view shown true g r cpu t i v (inr ne) h f =
     subst P (sym h.is) (other_at cpu h.saved i v (λ e. ne (h.holds.kernel.current ∙ sym e)) (f h.saved h.holds.kernel))
 
 -- it is this one's
-pub own_view : {X : Type 0} {H : X → Type 0} (shown : Shows X H) (g : Setup) (r : Reach X H) (cpu : Cpu) (t : Turn) (i : ℕ) (v : TaskView) → current_of r.kernel ≡ i → IsLoaded shown g r cpu t → ((u : Turn) → Holds g r.kernel u → IsTask u.state i v) → IsTask t.state i record v { regs = cpu.regs.words; flags = cpu.flags }
+pub own_view : {X : Type 0} {H : X → Type 0} (shown : Shows X H) (g : Setup) (r : AddressSpace X H) (cpu : Cpu) (t : Turn) (i : ℕ) (v : TaskView) → current_of r.kernel ≡ i → IsLoaded shown g r cpu t → ((u : Turn) → Holds g r.kernel u → IsTask u.state i v) → IsTask t.state i record v { regs = cpu.regs.words; flags = cpu.flags }
 own_view shown g r cpu t i v e h f =
     let same : h.saved.state.current ≡ i = sym h.holds.kernel.current ∙ e in
     let P : Turn → Type 0 = λ u. IsTask u.state i record v { regs = cpu.regs.words; flags = cpu.flags } in

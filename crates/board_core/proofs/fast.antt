@@ -1,6 +1,6 @@
 pub mod WindowCovers
 pub mod WindowTurns
-pub mod Ports
+pub mod IoRegions
 pub mod SightTurns
 pub mod Polled
 pub mod Gliding

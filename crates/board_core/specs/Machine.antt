@@ -14,12 +14,12 @@ use Rattle.task_table.specs.model.Syscalls.{Meaning}
 use Rattle.task_table.specs.kept.Holds.{Holds, Stands, setup_of, current_of, task_count, note_count, memory_of}
 use Rattle.task_table.specs.kept.Limits.{syscall_notes, turn_notes}
 use Rattle.board_core.specs.declared.machine.Machine.{Machine}
-use Rattle.board_core.specs.declared.reach.Reach.{Reach}
+use Rattle.board_core.specs.declared.space.AddressSpace.{AddressSpace}
 use Rattle.board_model.specs.Turn.{put, took, is_device, or_zero, refusals, with_current}
 use Rattle.board_core.specs.Data.{Shows, data_of}
 
 -- what the kernel keeps and the devices show is just what the turn has come to
-pub record ReachHolds {X : Type 0} {H : X → Type 0} (shown : Shows X H) (g : Setup) (r : Reach X H) (t : Turn) : Type 0 where
+pub record SpaceHolds {X : Type 0} {H : X → Type 0} (shown : Shows X H) (g : Setup) (r : AddressSpace X H) (t : Turn) : Type 0 where
   pub kernel : Holds g r.kernel t
   pub devices : data_of shown r.devices ≡ t.state.devices
 
@@ -27,21 +27,21 @@ pub record ReachHolds {X : Type 0} {H : X → Type 0} (shown : Shows X H) (g : S
 abbrev pub shown_in : Kernel → List DeviceData → ℕ → ℕ → ℕ
 shown_in k ds a n = if is_device a then or_zero (device_number ds a n) else number_at (memory_of k) a n
 
-abbrev pub shown_by : {X : Type 0} {H : X → Type 0} → Shows X H → Reach X H → ℕ → ℕ → ℕ
+abbrev pub shown_by : {X : Type 0} {H : X → Type 0} → Shows X H → AddressSpace X H → ℕ → ℕ → ℕ
 shown_by shown r a n = shown_in r.kernel (data_of shown r.devices) a n
 
 -- what a store leaves: the turn that was held, with the store, where there is room for the note of a byte that a device gives out;
 -- all else is as it was
-pub record IsStored {X : Type 0} {H : X → Type 0} (shown : Shows X H) (r : Reach X H) (a n v : ℕ) (r' : Reach X H) : Type 0 where
-  pub holds : (g : Setup) (t : Turn) → note_count r.kernel < turn_notes → ReachHolds shown g r t → ReachHolds shown g r' (put t record { addr = a; bytes = n; value = v })
+pub record IsStored {X : Type 0} {H : X → Type 0} (shown : Shows X H) (r : AddressSpace X H) (a n v : ℕ) (r' : AddressSpace X H) : Type 0 where
+  pub holds : (g : Setup) (t : Turn) → note_count r.kernel < turn_notes → SpaceHolds shown g r t → SpaceHolds shown g r' (put t record { addr = a; bytes = n; value = v })
   pub setup : setup_of r'.kernel ≡ setup_of r.kernel
   pub current : current_of r'.kernel ≡ current_of r.kernel
   pub tasks : task_count r'.kernel ≡ task_count r.kernel
   pub notes : note_count r'.kernel ≤ note_count r.kernel + 1
 
 -- the same of a store to the device behind an address
-pub record IsGiven {X : Type 0} {H : X → Type 0} (shown : Shows X H) (r : Reach X H) (a v : ℕ) (r' : Reach X H) : Type 0 where
-  pub holds : (g : Setup) (t : Turn) → note_count r.kernel < turn_notes → ReachHolds shown g r t → ReachHolds shown g r' (device_stored a v t)
+pub record IsGiven {X : Type 0} {H : X → Type 0} (shown : Shows X H) (r : AddressSpace X H) (a v : ℕ) (r' : AddressSpace X H) : Type 0 where
+  pub holds : (g : Setup) (t : Turn) → note_count r.kernel < turn_notes → SpaceHolds shown g r t → SpaceHolds shown g r' (device_stored a v t)
   pub setup : setup_of r'.kernel ≡ setup_of r.kernel
   pub current : current_of r'.kernel ≡ current_of r.kernel
   pub tasks : task_count r'.kernel ≡ task_count r.kernel
@@ -49,8 +49,8 @@ pub record IsGiven {X : Type 0} {H : X → Type 0} (shown : Shows X H) (r : Reac
 
 -- what is left once an instruction that went on has loaded from an address: the turn that was held, in which a device there
 -- gave up what it gave
-pub record IsTaken {X : Type 0} {H : X → Type 0} (shown : Shows X H) (r : Reach X H) (a : ℕ) (r' : Reach X H) : Type 0 where
-  pub holds : (g : Setup) (t : Turn) → ReachHolds shown g r t → ReachHolds shown g r' (took t a)
+pub record IsTaken {X : Type 0} {H : X → Type 0} (shown : Shows X H) (r : AddressSpace X H) (a : ℕ) (r' : AddressSpace X H) : Type 0 where
+  pub holds : (g : Setup) (t : Turn) → SpaceHolds shown g r t → SpaceHolds shown g r' (took t a)
   pub kernel : r'.kernel ≡ r.kernel
 
 -- the registers and flags of the current task become the processor's
@@ -59,19 +59,19 @@ with_cpu cpu t = with_processor t.state.current cpu.regs.words cpu.flags t
 
 -- the context of the current task is loaded: what the kernel has of that task's registers and flags
 -- is of an earlier time
-pub record IsLoaded {X : Type 0} {H : X → Type 0} (shown : Shows X H) (g : Setup) (r : Reach X H) (cpu : Cpu) (t : Turn) : Type 0 where
+pub record IsLoaded {X : Type 0} {H : X → Type 0} (shown : Shows X H) (g : Setup) (r : AddressSpace X H) (cpu : Cpu) (t : Turn) : Type 0 where
   pub saved : Turn
-  pub holds : ReachHolds shown g r saved
+  pub holds : SpaceHolds shown g r saved
   pub ready : is_ready saved.state saved.state.current ≡ true
   pub is : t ≡ with_cpu cpu saved
 
-abbrev pub HoldsBy : {X : Type 0} {H : X → Type 0} → Shows X H → Bool → Setup → Reach X H → Cpu → Turn → Type 0
+abbrev pub HoldsBy : {X : Type 0} {H : X → Type 0} → Shows X H → Bool → Setup → AddressSpace X H → Cpu → Turn → Type 0
 HoldsBy shown true g r cpu t = IsLoaded shown g r cpu t
-HoldsBy shown false g r cpu t = ReachHolds shown g r t
+HoldsBy shown false g r cpu t = SpaceHolds shown g r t
 
 -- the machine holds just what the turn has come to
 abbrev pub MachineHolds : {X : Type 0} {H : X → Type 0} → Shows X H → Setup → Machine X H → Turn → Type 0
-MachineHolds shown g m t = HoldsBy shown m.loaded g m.reach m.glider.runner.processor t
+MachineHolds shown g m t = HoldsBy shown m.loaded g m.space m.glider.runner.processor t
 
 -- and the state is sane
 pub record MachineStands {X : Type 0} {H : X → Type 0} (shown : Shows X H) (g : Setup) (m : Machine X H) (t : Turn) : Type 0 where
@@ -81,7 +81,7 @@ pub record MachineStands {X : Type 0} {H : X → Type 0} (shown : Shows X H) (g 
 -- the machine stands for the turn, and the context of the current task, which is ready, is loaded
 pub record IsReady {X : Type 0} {H : X → Type 0} (shown : Shows X H) (g : Setup) (m : Machine X H) (t : Turn) : Type 0 where
   pub loaded : m.loaded ≡ true
-  pub holds : IsLoaded shown g m.reach m.glider.runner.processor t
+  pub holds : IsLoaded shown g m.space m.glider.runner.processor t
   pub sane : Sane g t.state
 
 -- the machine stands for the turn, and this is the choice
@@ -93,7 +93,7 @@ pub record IsNext {X : Type 0} {H : X → Type 0} (shown : Shows X H) (g : Setup
 -- of that task's registers and flags may be of an earlier time
 pub record HasContext {X : Type 0} {H : X → Type 0} (shown : Shows X H) (g : Setup) (m : Machine X H) (c : ℕ) (t : Turn) : Type 0 where
   pub saved : Turn
-  pub holds : ReachHolds shown g m.reach saved
+  pub holds : SpaceHolds shown g m.space saved
   pub ready : is_ready saved.state c ≡ true
   pub is : with_current c t ≡ with_cpu m.glider.runner.processor (with_current c saved)
 
@@ -114,14 +114,14 @@ pub record IsStarted (g : Setup) (k : Kernel) : Type 0 where
 -- it may act: a further call has a number, and the turn has room for n notes
 pub record MayAct {X : Type 0} {H : X → Type 0} (shown : Shows X H) (m : Machine X H) (n : ℕ) : Type 0 where
   pub ready : (g : Setup) × (t : Turn) × IsReady shown g m t × HasNumber t.state
-  pub room : note_count m.reach.kernel + n ≤ turn_notes
+  pub room : note_count m.space.kernel + n ≤ turn_notes
 
 -- it did so, and noted n things or fewer
 pub record HasActed {X : Type 0} {H : X → Type 0} (shown : Shows X H) (does : Meaning) (n : ℕ) (old new : Machine X H) : Type 0 where
   pub holds : (g : Setup) (t : Turn) → IsReady shown g old t → MachineHolds shown g new (does g t.state.current t)
-  pub count : note_count new.reach.kernel ≤ note_count old.reach.kernel + n
+  pub count : note_count new.space.kernel ≤ note_count old.space.kernel + n
 
 -- the task that is chosen, where there is one, may have its turn
 pub record MayTurn {X : Type 0} {H : X → Type 0} (shown : Shows X H) (m : Machine X H) (choice : Option ℕ) : Type 0 where
   pub next : (g : Setup) × (t : Turn) × IsNext shown g m t choice × HasNumber t.state
-  pub room : note_count m.reach.kernel + (syscall_notes + 4) ≤ turn_notes
+  pub room : note_count m.space.kernel + (syscall_notes + 4) ≤ turn_notes

@@ -11,7 +11,7 @@ use Rattle.board_model.specs.Script.{Scenario}
 use Rattle.board_model.specs.Turn.{after_events}
 use Rattle.board_core.specs.Kept.{IsChoice, WasChoice}
 use Rattle.board_core.specs.Machine.{MachineStands}
-use Rattle.board_core.specs.fast.Ports.{AllPorts}
+use Rattle.board_core.specs.fast.IoRegions.{AllIoRegions}
 use Rattle.board_core.specs.Data.{Shows}
 
 -- the board before the events of the turn: nothing is noted as yet
@@ -20,14 +20,14 @@ pub record IsDue {X : Type 0} {H : X → Type 0} (shown : Shows X H) (x : Scenar
   pub turns : b.turns ≡ s.turn
   pub choice : WasChoice x.setup b.choice
   pub script : script_data b.script ≡ x.script
-  pub ports : AllPorts x.setup (map vec_items b.ports.items)
+  pub io_regions : AllIoRegions x.setup (map vec_items b.io_regions.items)
   pub counted : IsCounted s
-  pub nothing : note_count b.machine.reach.kernel ≡ 0
+  pub nothing : note_count b.machine.space.kernel ≡ 0
 
 -- the board once the events of the turn have happened: it has chosen anew, and looks ahead to later turns
 pub record IsMidway {X : Type 0} {H : X → Type 0} (shown : Shows X H) (x : Scenario) (b : Board X H) (s : State) : Type 0 where
   pub machine : MachineStands shown x.setup b.machine (after_events x s)
   pub choice : IsChoice x.setup (after_events x s).state b.choice
   pub script : script_data b.script ≡ x.script
-  pub ports : AllPorts x.setup (map vec_items b.ports.items)
+  pub io_regions : AllIoRegions x.setup (map vec_items b.io_regions.items)
   pub due : IsNext x.script (s.turn + 1) b.due

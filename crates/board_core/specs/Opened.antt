@@ -1,19 +1,19 @@
 -- What an image fixes for ever, and the run over it.
 use Rattle.std.specs.Prelude.{List, map}
 use Rattle.kernel_abi.specs.Devices.{DeviceData}
-use Rattle.image_format.specs.Picture.{Picture, TaskPicture, LinePicture}
+use Rattle.image_format.specs.ImageData.{ImageData, ImageTask, ImageLine}
 use Rattle.task_table.specs.kept.Limits.{board_lines}
 use Rattle.task_table.specs.model.State.{Setup, TaskSetup, LineSetup}
 use Rattle.run_script.specs.Scripts.{ScriptData}
 use Rattle.board_model.specs.Script.{Scenario}
 
-abbrev pub setup_of_task : TaskPicture → TaskSetup
+abbrev pub setup_of_task : ImageTask → TaskSetup
 setup_of_task t = record { priority = t.priority; entry = t.entry; stack = t.sp; regions = t.regions; start = t.started }
 
-abbrev pub setup_of_line : LinePicture → LineSetup
+abbrev pub setup_of_line : ImageLine → LineSetup
 setup_of_line l = record { line = l.line; owner = l.task; bits = l.bits }
 
-abbrev pub setup_of_image : Picture → Setup
+abbrev pub setup_of_image : ImageData → Setup
 setup_of_image p = record {
   tasks = map setup_of_task p.tasks;
   lines = map setup_of_line p.lines;
@@ -23,5 +23,5 @@ setup_of_image p = record {
   line_count = board_lines;
 }
 
-abbrev pub scenario_of : Picture → ScriptData → List DeviceData → Scenario
+abbrev pub scenario_of : ImageData → ScriptData → List DeviceData → Scenario
 scenario_of p script devices = record { setup = setup_of_image p; script = script; devices = devices }

@@ -1,10 +1,10 @@
 -- The regions of an image that are no device, by base and size.
 use Rattle.std.specs.Prelude.{ℕ, ◌≡◌, ◌<◌, false, List, Contains}
 use Rattle.region_check.specs.declared.Region.{Region}
-use Rattle.image_format.specs.Picture.{Picture, regions_in}
+use Rattle.image_format.specs.ImageData.{ImageData, regions_in}
 
 -- this is the place of such a region
-pub record IsPlace (p : Picture) (x : ℕ × ℕ) : Type 0 where
+pub record IsPlace (p : ImageData) (x : ℕ × ℕ) : Type 0 where
   pub task : ℕ
   pub region : Region
   pub has : Contains (regions_in p task) region
@@ -12,9 +12,9 @@ pub record IsPlace (p : Picture) (x : ℕ × ℕ) : Type 0 where
   pub base : x.0 ≡ region.base
   pub size : x.1 ≡ region.size
 
-abbrev pub ArePlaces : Picture → List (ℕ × ℕ) → Type 0
+abbrev pub ArePlaces : ImageData → List (ℕ × ℕ) → Type 0
 ArePlaces p xs = (x : ℕ × ℕ) → Contains xs x → IsPlace p x
 
 -- each region of the first n tasks that is no device has its place
-abbrev pub HavePlaces : Picture → ℕ → List (ℕ × ℕ) → Type 0
+abbrev pub HavePlaces : ImageData → ℕ → List (ℕ × ℕ) → Type 0
 HavePlaces p n xs = (i : ℕ) (r : Region) → i < n → Contains (regions_in p i) r → r.rights.device ≡ false → Contains xs (r.base, r.size)

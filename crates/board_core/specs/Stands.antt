@@ -11,19 +11,19 @@ use Rattle.board_core.specs.declared.board.Board.{Board}
 use Rattle.board_model.specs.Script.{Scenario}
 use Rattle.board_core.specs.Kept.{IsChoice}
 use Rattle.board_core.specs.Machine.{MachineHolds}
-use Rattle.board_core.specs.fast.Ports.{AllPorts}
+use Rattle.board_core.specs.fast.IoRegions.{AllIoRegions}
 use Rattle.board_core.specs.Data.{Shows}
 
 -- what is shown of a board whatever it stands for: the notes of its last turn, how many turns it
 -- has made, how many tasks it has
 abbrev pub notes_of : {X : Type 0} {H : X → Type 0} → Board X H → List Note
-notes_of b = kernel_notes b.machine.reach.kernel
+notes_of b = kernel_notes b.machine.space.kernel
 
 abbrev pub turns_of : {X : Type 0} {H : X → Type 0} → Board X H → ℕ
 turns_of b = b.turns
 
 abbrev pub count_of : {X : Type 0} {H : X → Type 0} → Board X H → ℕ
-count_of b = task_count b.machine.reach.kernel
+count_of b = task_count b.machine.space.kernel
 
 -- its script
 abbrev pub script_of : {X : Type 0} {H : X → Type 0} → Board X H → Script
@@ -37,7 +37,7 @@ pub record Holds {X : Type 0} {H : X → Type 0} (shown : Shows X H) (x : Scenar
   pub choice : IsChoice x.setup s b.choice
   pub script : script_data b.script ≡ x.script
   pub due : IsNext x.script s.turn b.due
-  pub ports : AllPorts x.setup (map vec_items b.ports.items)
+  pub io_regions : AllIoRegions x.setup (map vec_items b.io_regions.items)
 
 -- and the state is sane, and its counts are those that a run can reach
 pub record Stands {X : Type 0} {H : X → Type 0} (shown : Shows X H) (x : Scenario) (b : Board X H) (s : State) : Type 0 where
@@ -46,5 +46,5 @@ pub record Stands {X : Type 0} {H : X → Type 0} (shown : Shows X H) (x : Scena
   pub counted : IsCounted s
 
 -- it stands for some state of some run
-abbrev pub Stood : {X : Type 0} {H : X → Type 0} → Shows X H → Board X H → Type 0
-Stood shown b = (x : Scenario) × (s : State) × Stands shown x b s
+abbrev pub StandsForSome : {X : Type 0} {H : X → Type 0} → Shows X H → Board X H → Type 0
+StandsForSome shown b = (x : Scenario) × (s : State) × Stands shown x b s

@@ -7,4 +7,4 @@ pub mod Skipped
 pub mod Gliding
 pub mod Sights
 pub mod Polling
-pub mod Ports
+pub mod IoRegions

@@ -1,6 +1,6 @@
 //! The board and one turn of it.
 ghost use Rattle.std.specs.Prelude.{ℕ, ◌≡◌, ◌≢◌, ◌<◌, ◌≤◌, ◌+◌, ◌-◌, ◌*◌, ◌&&◌, [], Option, Some, None, is_some, length, map, true, false, IfOk};
-ghost use Rattle.image_format.specs.Images.{picture};
+ghost use Rattle.image_format.specs.Images.{image_data};
 ghost use Rattle.kernel_abi.specs.Devices.{AreFresh};
 ghost use Rattle.mem_banks.specs.Memory.{byte_at};
 ghost use Rattle.task_table.specs.model.State.{Setup, State, Turn};
@@ -18,7 +18,7 @@ ghost use Rattle.board_model.specs.Lifetimes.{IsGroundedTurn};
 ghost use Rattle.board_model.specs.Agreement.{DependsOnReads};
 ghost use Rattle.board_model.specs.LonerTurns.{LeavesLoners, LonersDecide};
 ghost use Rattle.board_core.specs.Opened.{scenario_of};
-ghost use Rattle.board_core.specs.Stands.{Stands, Stood, notes_of, turns_of};
+ghost use Rattle.board_core.specs.Stands.{Stands, StandsForSome, notes_of, turns_of};
 ghost use Rattle.board_core.specs.Machine.{MachineHolds, MachineStands};
 ghost use Rattle.board_core.specs.Kept.{IsChoice, WasChoice};
 ghost use Rattle.board_core.specs.fast.Advanced.{IsAdvanced, IsStopped, HasMade, WentFar, IsCall, IsToCall, MayGoFast, MayGoFastBy, WentFast, WentFastBy, NeededTurn, WaitedFor};
@@ -30,10 +30,10 @@ ghost use Rattle.board_core.specs.Midway.{IsDue, IsMidway};
 
 use crate::changes::{Change, change_by, runner_of};
 use crate::choice::{Choice, choice_of, renew_choice};
-use crate::fast_way::breakpoints::hit_of;
+use crate::fast_path::breakpoints::hit_of;
 use crate::list::Devices;
 use crate::machine::Machine;
-use crate::opening::{kernel, ports};
+use crate::opening::{kernel, io_regions};
 use board_model::{Level, Turned};
 use devices::Device;
 use image_format::Image;
@@ -56,7 +56,7 @@ pub struct Board {
     pub(crate) first_listed: usize,
 
     /// The regions of devices that each task may read.
-    pub(crate) ports: Vec<Vec<Region>>,
+    pub(crate) io_regions: Vec<Vec<Region>>,
 }
 
 impl Board {
@@ -73,7 +73,7 @@ impl Board {
         devices: Vec<Box<dyn Device>>,
     ) -> Result<Board, AllocError>
         requires { AreFresh (map shown devices.items) }
-        ensures stands { let x = scenario_of (picture image.now) (script_data script.now) (map shown devices.items) in IfOk result (λ b. Stands shown x b (start_of x)) }
+        ensures stands { let x = scenario_of (image_data image.now) (script_data script.now) (map shown devices.items) in IfOk result (λ b. Stands shown x b (start_of x)) }
         ensures turns { IfOk result (λ b. turns_of b ≡ 0) }
     {
         let devices = Devices::of(devices);
@@ -81,7 +81,7 @@ impl Board {
         let script = script.copy(alloc)?;
         let choice = choice_of(&kernel);
         let due = script.next(0);
-        let ports = ports(alloc, &kernel)?;
+        let io_regions = io_regions(alloc, &kernel)?;
         Ok(Board {
             machine: Machine::of(alloc, kernel, devices),
             turns: 0,
@@ -89,7 +89,7 @@ impl Board {
             script,
             due,
             first_listed: 0,
-            ports,
+            io_regions,
         })
     }
 
@@ -97,7 +97,7 @@ impl Board {
     /// is ready. What `Level::All` tells is among the notes.
     pub fn turn(&mut self) -> Turned
         requires few { turns_of self.old < 1000000000 }
-        requires stood { Stood shown self.old }
+        requires stood { StandsForSome shown self.old }
         ensures model { (x : Scenario) (s : State) → Stands shown x self.old s → Stands shown x self.new (turn All x s).state }
         ensures notes { (x : Scenario) (s : State) → Stands shown x self.old s → notes_of self.new ≡ (turn All x s).notes }
         ensures turned { (x : Scenario) (s : State) → Stands shown x self.old s → result ≡ turned x s }
@@ -123,7 +123,7 @@ impl Board {
     /// One turn as `turn`, of which only so much is noted.
     pub fn turn_at(&mut self, level: Level) -> Turned
         requires few { turns_of self.old < 1000000000 }
-        requires stood { Stood shown self.old }
+        requires stood { StandsForSome shown self.old }
         ensures model { (x : Scenario) (s : State) → Stands shown x self.old s → Stands shown x self.new (turn level x s).state }
         ensures notes { (x : Scenario) (s : State) → Stands shown x self.old s → notes_of self.new ≡ (turn level x s).notes }
         ensures turned { (x : Scenario) (s : State) → Stands shown x self.old s → result ≡ turned x s }
@@ -160,7 +160,7 @@ impl Board {
     /// one turn.
     #[inline(always)]
     pub fn advance(&mut self, level: Level, limit: u32)
-        requires stood { Stood shown self.old }
+        requires stood { StandsForSome shown self.old }
         requires left { turns_of self.old < limit }
         requires few { limit ≤ 1000000000 }
         ensures advanced { (x : Scenario) (s : State) → Stands shown x self.old s → IsAdvanced shown level x (turns_of self.new - turns_of self.old - 1) s self.new }
@@ -180,7 +180,7 @@ impl Board {
     /// The same, where instructions are not noted.
     #[inline(always)]
     fn go_on(&mut self, limit: u32)
-        requires stood { Stood shown self.old }
+        requires stood { StandsForSome shown self.old }
         requires left { turns_of self.old < limit }
         requires few { limit ≤ 1000000000 }
         ensures advanced { (x : Scenario) (s : State) → Stands shown x self.old s → IsAdvanced shown Calls x (turns_of self.new - turns_of self.old - 1) s self.new }
@@ -195,12 +195,12 @@ impl Board {
         }
     }
 
-    /// As many turns as can be made the fast way, and then a whole one, where fewer than `limit` are made by then: which task that
+    /// As many turns as can be made on the fast path, and then a whole one, where fewer than `limit` are made by then: which task that
     /// one ran and where its PC was, where that is a breakpoint. No turn before it was at one. Whoever calls this has a copy of the fast
     /// way, which knows of no breakpoints where there are none.
     #[inline(always)]
     pub fn advance_past(&mut self, breakpoints: &[u32], limit: u32) -> Option<(u16, u32)>
-        requires stood { Stood shown self.old }
+        requires stood { StandsForSome shown self.old }
         requires left { turns_of self.old < limit }
         requires few { limit ≤ 1000000000 }
         ensures advanced { (x : Scenario) (s : State) → Stands shown x self.old s → IsAdvanced shown Calls x (turns_of self.new - turns_of self.old - 1) s self.new }
@@ -210,7 +210,7 @@ impl Board {
         ensures passed { (x : Scenario) (s : State) → Stands shown x self.old s → (k : ℕ) → k < turns_of self.new - turns_of self.old - 1 → is_hit breakpoints.now (turned x (state_after Calls x k s)) ≡ false }
         ensures hit { (x : Scenario) (s : State) → Stands shown x self.old s → result ≡ hit_of breakpoints.now (turned x (state_after Calls x (turns_of self.new - turns_of self.old - 1) s)) }
 
-        // The whole turn is one that the fast way does not make past these breakpoints.
+        // The whole turn is one that the fast path does not make past these breakpoints.
         ensures needed { NeededTurn shown (stops_at breakpoints.now None) limit self.old self.new }
         ensures idle { WaitedFor shown limit self.old self.new }
     {
@@ -228,11 +228,11 @@ impl Board {
         }
     }
 
-    /// As many turns as can be made the fast way, without a window that has the byte at an address, and then a whole one, where fewer
+    /// As many turns as can be made on the fast path, without a window that has the byte at an address, and then a whole one, where fewer
     /// than `limit` are made by then: what the last one changed of the byte. No turn before it changed it.
     #[inline(always)]
     pub fn advance_watching(&mut self, at: u32, limit: u32) -> Option<Change>
-        requires stood { Stood shown self.old }
+        requires stood { StandsForSome shown self.old }
         requires left { turns_of self.old < limit }
         requires few { limit ≤ 1000000000 }
         ensures advanced { (x : Scenario) (s : State) → Stands shown x self.old s → IsAdvanced shown Calls x (turns_of self.new - turns_of self.old - 1) s self.new }
@@ -242,7 +242,7 @@ impl Board {
         ensures untouched { (x : Scenario) (s : State) → Stands shown x self.old s → (k : ℕ) → k < turns_of self.new - turns_of self.old - 1 → byte_at (turn_after Calls x k s).state.memory at ≡ byte_at s.memory at }
         ensures changed { (x : Scenario) (s : State) → Stands shown x self.old s → result ≡ change_in x at (state_after Calls x (turns_of self.new - turns_of self.old - 1) s) }
 
-        // The whole turn is one that the fast way does not make without the byte.
+        // The whole turn is one that the fast path does not make without the byte.
         ensures needed { NeededTurn shown (stops_at [] (Some at)) limit self.old self.new }
         ensures idle { WaitedFor shown limit self.old self.new }
     {
@@ -256,7 +256,7 @@ impl Board {
     /// One whole turn: what it changed of the byte at an address.
     fn turn_watching(&mut self, at: u32) -> Option<Change>
         requires few { turns_of self.old < 1000000000 }
-        requires stood { Stood shown self.old }
+        requires stood { StandsForSome shown self.old }
         ensures model { (x : Scenario) (s : State) → Stands shown x self.old s → Stands shown x self.new (turn Calls x s).state }
         ensures notes { (x : Scenario) (s : State) → Stands shown x self.old s → notes_of self.new ≡ (turn Calls x s).notes }
         ensures changed { (x : Scenario) (s : State) → Stands shown x self.old s → result ≡ change_in x at s }
@@ -269,7 +269,7 @@ impl Board {
         change_by(runner_of(turned), before, after)
     }
 
-    /// The fast way: turns before turn `until`, before which nothing is due, none of which notes anything, is at a breakpoint or
+    /// The fast path: turns before turn `until`, before which nothing is due, none of which notes anything, is at a breakpoint or
     /// changes the byte that is watched. They are those of the task that is chosen, within a window of its memory, as far as it
     /// goes there; or all idle ones, where no task is ready.
     #[inline(always)]
@@ -315,7 +315,7 @@ impl Board {
         requires { MayGoFastBy shown self.old (Some task) until }
         ensures { WentFastBy shown (stops_at breakpoints.now watched) task until self.old self.new result }
     {
-        if !self.ports[task].is_empty() {
+        if !self.io_regions[task].is_empty() {
             return self.poll_on(breakpoints, watched, task, until);
         }
         self.machine.begin();
@@ -340,10 +340,10 @@ impl Board {
         ensures { WentFastBy shown (stops_at breakpoints.now watched) task until self.old self.new result }
     {
         self.machine.begin();
-        let ports = &mut self.ports[task];
+        let io_regions = &mut self.io_regions[task];
         let glided = self
             .machine
-            .poll(breakpoints, watched, task, until - self.turns, ports);
+            .poll(breakpoints, watched, task, until - self.turns, io_regions);
         self.turns += glided.made;
         glided.at_syscall
     }
@@ -376,7 +376,7 @@ impl Board {
 
     /// All idle turns up to turn `to` at once, before which no task is ready and nothing happens.
     pub fn skip(&mut self, to: u32)
-        requires stood { Stood shown self.old }
+        requires stood { StandsForSome shown self.old }
         requires from { turns_of self.old ≤ to }
         requires few { to ≤ 1000000000 }
         requires idle { (x : Scenario) (s : State) → Stands shown x self.old s → IsIdleUntil x s to }
@@ -392,7 +392,7 @@ impl Board {
     #[inline(always)]
     fn begin(&mut self)
         requires few { turns_of self.old < 1000000000 }
-        requires stood { Stood shown self.old }
+        requires stood { StandsForSome shown self.old }
         ensures midway { (x : Scenario) (s : State) → Stands shown x self.old s → IsMidway shown x self.new s }
         ensures few { length (notes_of self.new) ≤ 9 * syscall_notes }
         ensures turns { turns_of self.new ≡ turns_of self.old }
@@ -417,7 +417,7 @@ impl Board {
         let first = self.script.first_listed(self.first_listed, self.turns);
         self.machine.happen_all(&self.script, first, self.turns);
         self.machine.save_context();
-        renew_choice(&self.machine.reach.kernel, &mut self.choice);
+        renew_choice(&self.machine.space.kernel, &mut self.choice);
         self.first_listed = self.script.first_listed_after(first, self.turns);
         self.due = self.script.next_from(self.first_listed, self.turns + 1);
     }
@@ -433,13 +433,13 @@ impl Board {
         ensures count { length (notes_of self.new) ≡ length (notes_of self.old) }
         ensures turns { turns_of self.new ≡ turns_of self.old }
         ensures script { self.new.script ≡ self.old.script }
-        ensures ports { self.new.ports ≡ self.old.ports }
+        ensures io_regions { self.new.io_regions ≡ self.old.io_regions }
         ensures due { self.new.due ≡ self.old.due }
         ensures kept { length (notes_of self.new) ≤ noted → self.new.choice ≡ self.old.choice }
     {
         if self.notes().len() > noted {
             self.machine.save_context();
-            renew_choice(&self.machine.reach.kernel, &mut self.choice);
+            renew_choice(&self.machine.space.kernel, &mut self.choice);
         }
     }
 
@@ -447,7 +447,7 @@ impl Board {
     pub fn notes(&self) -> &[Note]
         ensures { result.now ≡ notes_of self.now }
     {
-        self.machine.reach.kernel.notes()
+        self.machine.space.kernel.notes()
     }
 }
 

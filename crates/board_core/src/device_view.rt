@@ -56,14 +56,14 @@ impl Board {
     pub fn device_count(&self) -> usize
         ensures { (x : Scenario) (s : State) → Stands shown x self.now s → result ≡ length s.devices }
     {
-        self.machine.reach.devices.len()
+        self.machine.space.devices.len()
     }
 
     /// The k-th device, or None past the last one.
     pub fn device(&self, k: usize) -> Option<DeviceView>
         ensures { (x : Scenario) (s : State) → Stands shown x self.now s → option_map device_told result ≡ slice_get s.devices k }
     {
-        let devices = &self.machine.reach.devices;
+        let devices = &self.machine.space.devices;
         if k >= devices.len() {
             return None;
         }

@@ -13,13 +13,13 @@ ghost use Rattle.task_table.specs.kept.Limits.{syscall_notes, turn_notes};
 ghost use Rattle.task_table.specs.kept.Frames.{AddsNotes};
 ghost use Rattle.thumb_insn.specs.Range.{IsCoded};
 ghost use Rattle.board_model.specs.Turn.{with_current, noted_at, happened, stepped, executed, cpu_of, with_registers_noted, turn_of, turned_of, happened_next};
-ghost use Rattle.board_core.specs.Machine.{IsReady, IsNext, ReachHolds, MachineHolds, MachineStands, IsLoaded, MayAct, HasActed, MayTurn};
+ghost use Rattle.board_core.specs.Machine.{IsReady, IsNext, SpaceHolds, MachineHolds, MachineStands, IsLoaded, MayAct, HasActed, MayTurn};
 ghost use Rattle.board_core.specs.fast.Windowed.{IsCalling};
 
-use crate::fast_way::glider::Glider;
-use crate::fast_way::poller::Poller;
+use crate::fast_path::glider::Glider;
+use crate::fast_path::poller::Poller;
 use crate::list::Devices;
-use crate::reach::Reach;
+use crate::space::AddressSpace;
 use crate::syscalls::syscall;
 use board_model::{Level, Turned};
 use kernel_abi::{Fault, Note};
@@ -38,7 +38,7 @@ use words_core::{Flags, PROGRAM_COUNTER, Regs};
 /// and flags are the processor's; what the kernel has of them is of an earlier time.
 #[derive(Drop)]
 pub struct Machine {
-    pub reach: Reach,
+    pub space: AddressSpace,
     pub loaded: bool,
 
     /// The processor, which can make instructions on end within a window of the task's memory.
@@ -61,12 +61,12 @@ pub fn load(processor: &mut Cpu, kernel: &Kernel, task: usize)
 impl Machine {
     /// A machine with this kernel and these devices, whose processor has no task's context.
     pub fn of(alloc: Global, kernel: Kernel, devices: Devices) -> Machine
-        ensures kernel { result.reach.kernel ≡ kernel }
-        ensures devices { result.reach.devices ≡ devices }
+        ensures kernel { result.space.kernel ≡ kernel }
+        ensures devices { result.space.devices ≡ devices }
         ensures loaded { result.loaded ≡ false }
     {
         Machine {
-            reach: Reach { kernel, devices },
+            space: AddressSpace { kernel, devices },
             loaded: false,
             glider: Glider::new(alloc),
             poller: Poller::new(alloc),
@@ -75,14 +75,14 @@ impl Machine {
 
     /// The kernel has the registers and flags of the current task again: before it acts.
     pub fn save_context(&mut self)
-        ensures holds { (g : Setup) (t : Turn) → MachineHolds shown g self.old t → ReachHolds shown g self.new.reach t }
+        ensures holds { (g : Setup) (t : Turn) → MachineHolds shown g self.old t → SpaceHolds shown g self.new.space t }
         ensures unloaded { self.new.loaded ≡ false }
-        ensures frame { AddsNotes self.old.reach.kernel 0 self.new.reach.kernel }
+        ensures frame { AddsNotes self.old.space.kernel 0 self.new.space.kernel }
     {
         if self.loaded {
-            let task = self.reach.kernel.current();
+            let task = self.space.kernel.current();
             let processor = &self.glider.runner.processor;
-            self.reach
+            self.space
                 .kernel
                 .set_processor(task, processor.regs.words(), processor.flags.told());
             self.loaded = false;
@@ -92,11 +92,11 @@ impl Machine {
     /// Whether the processor has this task's context.
     pub fn is_loaded_for(&self, task: usize) -> bool
         ensures loaded { result ≡ true → self.now.loaded ≡ true }
-        ensures current { result ≡ true → current_of self.now.reach.kernel ≡ task }
-        ensures other { result ≡ false → (self.now.loaded ≡ false) ⊎ (current_of self.now.reach.kernel ≢ task) }
+        ensures current { result ≡ true → current_of self.now.space.kernel ≡ task }
+        ensures other { result ≡ false → (self.now.loaded ≡ false) ⊎ (current_of self.now.space.kernel ≢ task) }
     {
         if self.loaded {
-            self.reach.kernel.current() == task
+            self.space.kernel.current() == task
         } else {
             false
         }
@@ -104,17 +104,17 @@ impl Machine {
 
     /// The task is the current one from now on, and the processor has its context.
     fn load_context(&mut self, task: usize)
-        requires { task < task_count self.old.reach.kernel }
+        requires { task < task_count self.old.space.kernel }
         ensures loaded { self.new.loaded ≡ true }
-        ensures holds { (g : Setup) (t : Turn) → MachineHolds shown g self.old t → is_ready t.state task ≡ true → IsLoaded shown g self.new.reach self.new.glider.runner.processor (with_current task t) }
-        ensures count { note_count self.new.reach.kernel ≡ note_count self.old.reach.kernel }
+        ensures holds { (g : Setup) (t : Turn) → MachineHolds shown g self.old t → is_ready t.state task ≡ true → IsLoaded shown g self.new.space self.new.glider.runner.processor (with_current task t) }
+        ensures count { note_count self.new.space.kernel ≡ note_count self.old.space.kernel }
     {
         if self.is_loaded_for(task) {
             return;
         }
         self.save_context();
-        self.reach.kernel.set_current(task);
-        load(&mut self.glider.runner.processor, &self.reach.kernel, task);
+        self.space.kernel.set_current(task);
+        load(&mut self.glider.runner.processor, &self.space.kernel, task);
         self.loaded = true;
     }
 }
@@ -124,26 +124,26 @@ impl Machine {
     #[inline(always)]
     pub fn begin(&mut self)
         ensures holds { (g : Setup) (t : Turn) → MachineHolds shown g self.old t → MachineHolds shown g self.new (begun t.state) }
-        ensures count { note_count self.new.reach.kernel ≡ 0 }
+        ensures count { note_count self.new.space.kernel ≡ 0 }
         ensures loaded { self.new.loaded ≡ self.old.loaded }
     {
-        self.reach.kernel.clear_notes();
+        self.space.kernel.clear_notes();
     }
 
     /// Something happens from outside.
     fn happen(&mut self, event: Event)
         requires stands { (g : Setup) × (t : Turn) × MachineStands shown g self.old t × (t.state.now + 1 < 2 ^ 64) }
-        requires room { note_count self.old.reach.kernel + syscall_notes ≤ turn_notes }
+        requires room { note_count self.old.space.kernel + syscall_notes ≤ turn_notes }
         ensures stands { (g : Setup) (t : Turn) → MachineStands shown g self.old t → MachineStands shown g self.new (happened g t event) }
-        ensures count { note_count self.new.reach.kernel ≤ note_count self.old.reach.kernel + syscall_notes }
+        ensures count { note_count self.new.space.kernel ≤ note_count self.old.space.kernel + syscall_notes }
     {
         self.save_context();
         match event {
-            Event::Tick => tick(&mut self.reach.kernel),
-            Event::Irq { line } => interrupt(&mut self.reach.kernel, line),
+            Event::Tick => tick(&mut self.space.kernel),
+            Event::Irq { line } => interrupt(&mut self.space.kernel, line),
             Event::Feed { device, byte } => {
-                let fed = self.reach.devices.feed(usize::from(device), byte);
-                self.reach.kernel.note(Note::In { device, byte, fed });
+                let fed = self.space.devices.feed(usize::from(device), byte);
+                self.space.kernel.note(Note::In { device, byte, fed });
             }
         }
     }
@@ -152,9 +152,9 @@ impl Machine {
     fn happen_at(&mut self, script: &Script, first: usize, turn: u32, k: u32) -> bool
         requires first { IsFirstListed (script_data script.now) turn first }
         requires stands { (g : Setup) × (t : Turn) × MachineStands shown g self.old t × (t.state.now + 1 < 2 ^ 64) }
-        requires room { note_count self.old.reach.kernel + syscall_notes ≤ turn_notes }
+        requires room { note_count self.old.space.kernel + syscall_notes ≤ turn_notes }
         ensures stands { (g : Setup) (t : Turn) → MachineStands shown g self.old t → MachineStands shown g self.new (happened_next g (slice_get (events_of (script_data script.now) turn) k) t) }
-        ensures count { note_count self.new.reach.kernel ≤ note_count self.old.reach.kernel + syscall_notes }
+        ensures count { note_count self.new.space.kernel ≤ note_count self.old.space.kernel + syscall_notes }
         ensures over { result ≡ false → slice_get (events_of (script_data script.now) turn) k ≡ None }
     {
         match script.event_from(first, turn, k) {
@@ -170,9 +170,9 @@ impl Machine {
     pub fn happen_all(&mut self, script: &Script, first: usize, turn: u32)
         requires first { IsFirstListed (script_data script.now) turn first }
         requires stands { (g : Setup) × (t : Turn) × MachineStands shown g self.old t × (t.state.now + 9 < 2 ^ 64) }
-        requires room { note_count self.old.reach.kernel ≡ 0 }
+        requires room { note_count self.old.space.kernel ≡ 0 }
         ensures stands { (g : Setup) (t : Turn) → MachineStands shown g self.old t → MachineStands shown g self.new (fold (happened g) t (events_of (script_data script.now) turn)) }
-        ensures count { note_count self.new.reach.kernel ≤ 9 * syscall_notes }
+        ensures count { note_count self.new.space.kernel ≤ 9 * syscall_notes }
     {
         script.facts();
         for k in 0..9 {
@@ -211,52 +211,52 @@ impl Machine {
     /// With all instructions, that of the current task is noted.
     #[inline(always)]
     fn note_insn(&mut self, level: Level, at: u32, code: u32)
-        requires { note_count self.old.reach.kernel < turn_notes }
+        requires { note_count self.old.space.kernel < turn_notes }
         ensures ready { (g : Setup) (t : Turn) → IsReady shown g self.old t → IsReady shown g self.new (noted_at level (Note.Insn t.state.current at code) t) }
-        ensures count { note_count self.new.reach.kernel ≤ note_count self.old.reach.kernel + 1 }
+        ensures count { note_count self.new.space.kernel ≤ note_count self.old.space.kernel + 1 }
     {
         match level {
             Level::Calls => {}
             Level::All => {
-                let task = self.reach.kernel.current() as u16;
-                self.reach.kernel.note(Note::Insn { task, at, code });
+                let task = self.space.kernel.current() as u16;
+                self.space.kernel.note(Note::Insn { task, at, code });
             }
         }
     }
 
     /// With all instructions, an idle turn is noted.
     fn note_idle(&mut self, level: Level)
-        requires room { note_count self.old.reach.kernel < turn_notes }
+        requires room { note_count self.old.space.kernel < turn_notes }
         ensures holds { (g : Setup) (t : Turn) → MachineHolds shown g self.old t → MachineHolds shown g self.new (noted_at level Note.Idle t) }
-        ensures count { note_count self.new.reach.kernel ≤ note_count self.old.reach.kernel + 1 }
+        ensures count { note_count self.new.space.kernel ≤ note_count self.old.space.kernel + 1 }
     {
         match level {
             Level::Calls => {}
-            Level::All => self.reach.kernel.note(Note::Idle),
+            Level::All => self.space.kernel.note(Note::Idle),
         }
     }
 
     /// The registers and flags of a task are noted.
     fn note_registers(&mut self, task: usize)
-        requires there { task < task_count self.old.reach.kernel }
-        requires room { note_count self.old.reach.kernel + 2 ≤ turn_notes }
+        requires there { task < task_count self.old.space.kernel }
+        requires room { note_count self.old.space.kernel + 2 ≤ turn_notes }
         ensures holds { (g : Setup) (t : Turn) → MachineHolds shown g self.old t → MachineHolds shown g self.new (with_registers_noted Level.All task t) }
-        ensures count { note_count self.new.reach.kernel ≤ note_count self.old.reach.kernel + 2 }
+        ensures count { note_count self.new.space.kernel ≤ note_count self.old.space.kernel + 2 }
     {
         self.save_context();
-        let registers = self.reach.kernel.registers(task);
-        let flags = self.reach.kernel.flags(task);
-        self.reach.kernel.note(low_note(&registers));
-        self.reach.kernel.note(high_note(&registers, flags));
+        let registers = self.space.kernel.registers(task);
+        let flags = self.space.kernel.flags(task);
+        self.space.kernel.note(low_note(&registers));
+        self.space.kernel.note(high_note(&registers, flags));
     }
 
     /// With all instructions, the registers and flags of the task that ran are noted.
     #[inline(always)]
     fn note_task(&mut self, level: Level, task: usize)
-        requires there { task < task_count self.old.reach.kernel }
-        requires room { note_count self.old.reach.kernel + 2 ≤ turn_notes }
+        requires there { task < task_count self.old.space.kernel }
+        requires room { note_count self.old.space.kernel + 2 ≤ turn_notes }
         ensures holds { (g : Setup) (t : Turn) → MachineHolds shown g self.old t → MachineHolds shown g self.new (with_registers_noted level task t) }
-        ensures count { note_count self.new.reach.kernel ≤ note_count self.old.reach.kernel + 2 }
+        ensures count { note_count self.new.space.kernel ≤ note_count self.old.space.kernel + 2 }
     {
         match level {
             Level::Calls => {}
@@ -284,7 +284,7 @@ impl Machine {
         requires may_act { MayAct shown self.old (syscall_notes + 1) }
         ensures { HasActed shown (λ g i. executed g i insn.now) (syscall_notes + 1) self.old self.new }
     {
-        match exec(&mut self.glider.runner.processor, insn, &mut self.reach) {
+        match exec(&mut self.glider.runner.processor, insn, &mut self.space) {
             Outcome::Next => {}
             Outcome::Call => self.syscall(),
             Outcome::Trap(fault) => self.fault(fault),
@@ -297,21 +297,21 @@ impl Machine {
         ensures { HasActed shown (λ g i t. syscall_made g i (syscall_noted i t)) (syscall_notes + 1) self.old self.new }
     {
         self.save_context();
-        let task = self.reach.kernel.current();
-        self.reach.kernel.note_syscall(task);
-        syscall(&mut self.reach.kernel, task);
+        let task = self.space.kernel.current();
+        self.space.kernel.note_syscall(task);
+        syscall(&mut self.space.kernel, task);
     }
 
     /// The current task faults.
     fn fault(&mut self, fault: Fault)
         requires from_one { 1 ≤ fault.number }
         requires to_ten { fault.number ≤ 10 }
-        requires room { note_count self.old.reach.kernel + 4 ≤ turn_notes }
+        requires room { note_count self.old.space.kernel + 4 ≤ turn_notes }
         ensures { HasActed shown (λ g i. faulted g i fault) 4 self.old self.new }
     {
         self.save_context();
-        let task = self.reach.kernel.current();
-        self.reach.kernel.fault(task, fault);
+        let task = self.space.kernel.current();
+        self.space.kernel.fault(task, fault);
     }
 
     /// One instruction of the current task: fetched, decoded, carried out.
@@ -321,7 +321,7 @@ impl Machine {
         ensures { HasActed shown (stepped level) (syscall_notes + 2) self.old self.new }
     {
         let at = self.glider.runner.processor.regs.get(PROGRAM_COUNTER);
-        match fetch(&self.reach, at) {
+        match fetch(&self.space, at) {
             Ok(fetched) => {
                 self.note_insn(level, at, fetched.code);
                 self.execute(&fetched.insn);
@@ -338,7 +338,7 @@ impl Machine {
         requires { MayTurn shown self.old next }
         ensures holds { (g : Setup) (t : Turn) → IsNext shown g self.old t next → MachineHolds shown g self.new (turn_of level g next t) }
         ensures turned { (g : Setup) (t : Turn) → IsNext shown g self.old t next → result ≡ turned_of t.state next }
-        ensures count { note_count self.new.reach.kernel ≤ note_count self.old.reach.kernel + syscall_notes + 4 }
+        ensures count { note_count self.new.space.kernel ≤ note_count self.old.space.kernel + syscall_notes + 4 }
     {
         match next {
             None => {
@@ -363,7 +363,7 @@ impl Machine {
     pub fn call(&mut self, task: usize)
         requires { MayTurn shown self.old (Some task) }
         ensures holds { (g : Setup) (t : Turn) → IsNext shown g self.old t (Some task) → IsCalling g task t.state → MachineHolds shown g self.new (turn_of Level.Calls g (Some task) t) }
-        ensures count { note_count self.new.reach.kernel ≤ note_count self.old.reach.kernel + syscall_notes + 4 }
+        ensures count { note_count self.new.space.kernel ≤ note_count self.old.space.kernel + syscall_notes + 4 }
     {
         self.load_context(task);
         self.syscall();

@@ -1,7 +1,7 @@
 //! The kernel at the start of a run of an image.
 ghost use Rattle.std.specs.Prelude.{◌≡◌, ◌<◌, ◌+◌, ◌-◌, length, map, filter, vec_items, IfOk};
-ghost use Rattle.image_format.specs.Images.{picture};
-ghost use Rattle.image_format.specs.Picture.{task_in, line_in};
+ghost use Rattle.image_format.specs.Images.{image_data};
+ghost use Rattle.image_format.specs.ImageData.{task_in, line_in};
 ghost use Rattle.mem_banks.specs.Memory.{Memory};
 ghost use Rattle.task_table.specs.model.Start.{start};
 ghost use Rattle.task_table.specs.kept.Parts.{task_setup, line_setup};
@@ -10,7 +10,7 @@ ghost use Rattle.board_core.specs.Regions.{ArePlaces, HavePlaces};
 ghost use Rattle.board_core.specs.Opened.{setup_of_image, setup_of_task, setup_of_line};
 ghost use Rattle.board_core.specs.Machine.{IsStarted};
 ghost use Rattle.board_core.specs.fast.Sights.{is_port};
-ghost use Rattle.board_core.specs.fast.Ports.{ArePorts};
+ghost use Rattle.board_core.specs.fast.IoRegions.{ArePorts};
 
 use image_format::Image;
 use region_check::Region;
@@ -19,8 +19,8 @@ use task_table::{Kernel, LineStart, Memory, TaskStart};
 
 /// What the image says of a task.
 fn task_start(alloc: Global, image: &Image, i: usize) -> Result<TaskStart, AllocError>
-    requires { i < length (picture image.now).tasks }
-    ensures { IfOk result (λ t. task_setup t ≡ setup_of_task (task_in (picture image.now) i)) }
+    requires { i < length (image_data image.now).tasks }
+    ensures { IfOk result (λ t. task_setup t ≡ setup_of_task (task_in (image_data image.now) i)) }
 {
     Ok(TaskStart {
         priority: image.priority(i),
@@ -33,7 +33,7 @@ fn task_start(alloc: Global, image: &Image, i: usize) -> Result<TaskStart, Alloc
 
 /// What the image says of each task.
 fn task_starts(alloc: Global, image: &Image) -> Result<Vec<TaskStart>, AllocError>
-    ensures { IfOk result (λ v. map task_setup v.items ≡ map setup_of_task (picture image.now).tasks) }
+    ensures { IfOk result (λ v. map task_setup v.items ≡ map setup_of_task (image_data image.now).tasks) }
 {
     let mut tasks = Vec::new(alloc);
     for i in 0..image.task_count() {
@@ -44,8 +44,8 @@ fn task_starts(alloc: Global, image: &Image) -> Result<Vec<TaskStart>, AllocErro
 
 /// What the image says of an interrupt line.
 fn line_start(image: &Image, k: usize) -> LineStart
-    requires { k < length (picture image.now).lines }
-    ensures { line_setup result ≡ setup_of_line (line_in (picture image.now) k) }
+    requires { k < length (image_data image.now).lines }
+    ensures { line_setup result ≡ setup_of_line (line_in (image_data image.now) k) }
 {
     LineStart {
         line: image.line(k),
@@ -56,7 +56,7 @@ fn line_start(image: &Image, k: usize) -> LineStart
 
 /// What the image says of each interrupt line.
 fn line_starts(alloc: Global, image: &Image) -> Result<Vec<LineStart>, AllocError>
-    ensures { IfOk result (λ v. map line_setup v.items ≡ map setup_of_line (picture image.now).lines) }
+    ensures { IfOk result (λ v. map line_setup v.items ≡ map setup_of_line (image_data image.now).lines) }
 {
     let mut lines = Vec::new(alloc);
     for k in 0..image.line_count() {
@@ -72,11 +72,11 @@ fn push_places(
     i: usize,
     places: &mut Vec<(u32, u32)>,
 ) -> Result<(), AllocError>
-    requires task { i < length (picture image.now).tasks }
-    requires places { ArePlaces (picture image.now) places.old.items }
-    requires before { HavePlaces (picture image.now) i places.old.items }
-    ensures places { IfOk result (λ _. ArePlaces (picture image.now) places.new.items) }
-    ensures all { IfOk result (λ _. HavePlaces (picture image.now) (i + 1) places.new.items) }
+    requires task { i < length (image_data image.now).tasks }
+    requires places { ArePlaces (image_data image.now) places.old.items }
+    requires before { HavePlaces (image_data image.now) i places.old.items }
+    ensures places { IfOk result (λ _. ArePlaces (image_data image.now) places.new.items) }
+    ensures all { IfOk result (λ _. HavePlaces (image_data image.now) (i + 1) places.new.items) }
 {
     let regions = image.regions(alloc, i)?;
     for k in 0..regions.len() {
@@ -90,8 +90,8 @@ fn push_places(
 
 /// The places of all regions that are no device, by base and size in bytes.
 fn places(alloc: Global, image: &Image) -> Result<Vec<(u32, u32)>, AllocError>
-    ensures places { IfOk result (λ v. ArePlaces (picture image.now) v.items) }
-    ensures all { IfOk result (λ v. HavePlaces (picture image.now) (length (picture image.now).tasks) v.items) }
+    ensures places { IfOk result (λ v. ArePlaces (image_data image.now) v.items) }
+    ensures all { IfOk result (λ v. HavePlaces (image_data image.now) (length (image_data image.now).tasks) v.items) }
 {
     let mut places = Vec::new(alloc);
     for i in 0..image.task_count() {
@@ -102,7 +102,7 @@ fn places(alloc: Global, image: &Image) -> Result<Vec<(u32, u32)>, AllocError>
 
 /// The kernel at the start of a run of an image.
 pub fn kernel(alloc: Global, image: &Image) -> Result<Kernel, AllocError>
-    ensures { IfOk result (λ k. IsStarted (setup_of_image (picture image.now)) k) }
+    ensures { IfOk result (λ k. IsStarted (setup_of_image (image_data image.now)) k) }
 {
     image.facts();
     let flash = image.flash();
@@ -125,12 +125,12 @@ fn ports_among(alloc: Global, regions: &[Region]) -> Result<Vec<Region>, AllocEr
 }
 
 /// The regions of devices that each task may read.
-pub fn ports(alloc: Global, kernel: &Kernel) -> Result<Vec<Vec<Region>>, AllocError>
+pub fn io_regions(alloc: Global, kernel: &Kernel) -> Result<Vec<Vec<Region>>, AllocError>
     ensures { IfOk result (λ v. ArePorts (setup_of kernel.now) (task_count kernel.now) (map vec_items v.items)) }
 {
-    let mut ports = Vec::new(alloc);
+    let mut io_regions = Vec::new(alloc);
     for task in 0..kernel.task_count() {
-        ports.push(ports_among(alloc, kernel.regions(task))?)?;
+        io_regions.push(ports_among(alloc, kernel.regions(task))?)?;
     }
-    Ok(ports)
+    Ok(io_regions)
 }

@@ -80,7 +80,7 @@ impl Board {
         ensures count { count_of self.new ≡ count_of self.old }
     {
         self.machine.save_context();
-        self.machine.reach.kernel.set_now(v);
+        self.machine.space.kernel.set_now(v);
     }
 
     /// The task with this index ran last.
@@ -90,8 +90,8 @@ impl Board {
         ensures count { count_of self.new ≡ count_of self.old }
     {
         self.machine.save_context();
-        self.machine.reach.kernel.set_current(v);
-        self.choice = choice_of(&self.machine.reach.kernel);
+        self.machine.space.kernel.set_current(v);
+        self.choice = choice_of(&self.machine.space.kernel);
     }
 
     /// The next call gets this number.
@@ -101,7 +101,7 @@ impl Board {
         ensures count { count_of self.new ≡ count_of self.old }
     {
         self.machine.save_context();
-        self.machine.reach.kernel.set_next_call(v);
+        self.machine.space.kernel.set_next_call(v);
     }
 
     /// An interrupt line is so; where there is none with this number, nothing changes.
@@ -112,7 +112,7 @@ impl Board {
     {
         self.machine.save_context();
         self.machine
-            .reach
+            .space
             .kernel
             .set_line(k, Line { enabled, pending });
     }
@@ -126,8 +126,8 @@ impl Board {
         ensures count { count_of self.new ≡ count_of self.old }
     {
         self.machine.save_context();
-        self.machine.reach.kernel.set_task(i, slot(v));
-        self.choice = choice_of(&self.machine.reach.kernel);
+        self.machine.space.kernel.set_task(i, slot(v));
+        self.choice = choice_of(&self.machine.space.kernel);
     }
 
     /// The byte at an address of the flash or of the RAM is so. With another flash it is a board of an image that has that one.
@@ -138,7 +138,7 @@ impl Board {
         ensures count { count_of self.new ≡ count_of self.old }
     {
         self.machine.save_context();
-        self.machine.reach.kernel.set_byte(addr, v);
+        self.machine.space.kernel.set_byte(addr, v);
     }
 
     /// All bytes of the RAM are so.
@@ -148,7 +148,7 @@ impl Board {
         ensures count { count_of self.new ≡ count_of self.old }
     {
         self.machine.save_context();
-        self.machine.reach.kernel.set_ram(bytes);
+        self.machine.space.kernel.set_ram(bytes);
     }
 
     /// So many bytes were stored to the k-th device, modulo 2^32, and these wait in it, the first first.
@@ -159,6 +159,6 @@ impl Board {
         ensures count { count_of self.new ≡ count_of self.old }
     {
         self.machine.save_context();
-        self.machine.reach.devices.set(k, count, queue);
+        self.machine.space.devices.set(k, count, queue);
     }
 }

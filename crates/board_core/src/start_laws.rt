@@ -4,7 +4,7 @@ ghost use Rattle.std.specs.Prelude.{List};
 ghost use Rattle.kernel_abi.specs.Devices.{DeviceData, AreFresh};
 ghost use Rattle.mem_banks.specs.Memory.{AreAllBytes};
 ghost use Rattle.image_format.specs.Facts.{Facts};
-ghost use Rattle.image_format.specs.Picture.{Picture};
+ghost use Rattle.image_format.specs.ImageData.{ImageData};
 ghost use Rattle.run_script.specs.Scripts.{ScriptData};
 ghost use Rattle.task_table.specs.kept.Parts.{IsSound};
 ghost use Rattle.task_table.specs.model.Sane.{Sane};
@@ -14,6 +14,6 @@ ghost use Rattle.board_core.specs.Opened.{setup_of_image, scenario_of};
 /// The start of every run is sane, whatever its script: of each image that is read, where nothing has come to its devices as
 /// yet. So what board_model says of runs from a sane start, or of the turns that follow one, holds of every run.
 pub fn the_start_of_every_run_is_sane()
-    ensures sound { (p : Picture) → Facts p → AreAllBytes p.flash → IsSound (setup_of_image p) }
-    ensures sane { (p : Picture) (script : ScriptData) (devices : List DeviceData) → Facts p → AreAllBytes p.flash → AreFresh devices → Sane (setup_of_image p) (start_of (scenario_of p script devices)) }
+    ensures sound { (p : ImageData) → Facts p → AreAllBytes p.flash → IsSound (setup_of_image p) }
+    ensures sane { (p : ImageData) (script : ScriptData) (devices : List DeviceData) → Facts p → AreAllBytes p.flash → AreFresh devices → Sane (setup_of_image p) (start_of (scenario_of p script devices)) }
 {}

@@ -11,7 +11,7 @@ ghost use Rattle.run_script.specs.Events.{script_data};
 ghost use Rattle.run_script.specs.Scripts.{IsNext, lasts};
 ghost use Rattle.board_model.specs.Script.{Scenario};
 ghost use Rattle.board_model.specs.Run.{ending, end_at, end_in};
-ghost use Rattle.board_core.specs.Stands.{Stands, Stood, turns_of, count_of};
+ghost use Rattle.board_core.specs.Stands.{Stands, StandsForSome, turns_of, count_of};
 ghost use Rattle.board_core.specs.Views.{IsTask, IsView};
 ghost use Rattle.board_core.specs.Machine.{MachineHolds};
 
@@ -41,7 +41,7 @@ impl Board {
     /// Whether the run ends here, its bound aside: the supervisor has faulted, or no task is ready and
     /// nothing more comes from outside.
     pub fn ended(&self) -> Option<End>
-        requires { Stood shown self.now }
+        requires { StandsForSome shown self.now }
         ensures end { (x : Scenario) (s : State) → Stands shown x self.now s → result ≡ end_at x s }
         ensures before { (x : Scenario) (s : State) (left : ℕ) → Stands shown x self.now s → 0 < left → result ≡ ending x left s }
     {
@@ -74,21 +74,21 @@ impl Board {
     pub fn now(&self) -> u64
         ensures { (x : Scenario) (s : State) → Stands shown x self.now s → result ≡ s.now }
     {
-        self.machine.reach.kernel.now()
+        self.machine.space.kernel.now()
     }
 
     /// The index of the task that ran last; 0 at the start.
     pub fn current(&self) -> usize
         ensures { (x : Scenario) (s : State) → Stands shown x self.now s → result ≡ s.current }
     {
-        self.machine.reach.kernel.current()
+        self.machine.space.kernel.current()
     }
 
     /// The number of the next call.
     pub fn next_call(&self) -> u32
         ensures { (x : Scenario) (s : State) → Stands shown x self.now s → result ≡ s.next_call }
     {
-        self.machine.reach.kernel.next_call()
+        self.machine.space.kernel.next_call()
     }
 
     /// How many tasks there are.
@@ -97,7 +97,7 @@ impl Board {
         ensures few { result ≤ most_tasks }
         ensures tasks { (x : Scenario) (s : State) → Stands shown x self.now s → result ≡ length s.tasks }
     {
-        self.machine.reach.kernel.task_count()
+        self.machine.space.kernel.task_count()
     }
 
     /// A task, or None past the last one.
@@ -105,7 +105,7 @@ impl Board {
         ensures there { IsSome result ↔ (i < count_of self.now) }
         ensures view { (x : Scenario) (s : State) → Stands shown x self.now s → IsView s i result }
     {
-        if i >= self.machine.reach.kernel.task_count() {
+        if i >= self.machine.space.kernel.task_count() {
             return None;
         }
         Some(view(&self.machine, i))
@@ -115,7 +115,7 @@ impl Board {
     pub fn byte(&self, addr: u32) -> Option<u8>
         ensures { (x : Scenario) (s : State) → Stands shown x self.now s → result ≡ byte_at s.memory addr }
     {
-        self.machine.reach.kernel.byte(addr)
+        self.machine.space.kernel.byte(addr)
     }
 
     /// How many bytes of RAM there are.
@@ -123,7 +123,7 @@ impl Board {
         ensures len { (x : Scenario) (s : State) → Stands shown x self.now s → result ≡ length s.memory.ram }
         ensures few { result ≤ 262144 }
     {
-        self.machine.reach.kernel.ram_len() as usize
+        self.machine.space.kernel.ram_len() as usize
     }
 
     /// All bytes of the RAM.
@@ -131,14 +131,14 @@ impl Board {
         requires { (x : Scenario) × (s : State) × Stands shown x self.now s × (length out.old ≡ length s.memory.ram) }
         ensures { (x : Scenario) (s : State) → Stands shown x self.now s → out.new ≡ s.memory.ram }
     {
-        self.machine.reach.kernel.read_ram(out);
+        self.machine.space.kernel.read_ram(out);
     }
 
     /// How an interrupt line is: enabled, pending. None past the last one.
     pub fn irq_line(&self, k: usize) -> Option<(bool, bool)>
         ensures { (x : Scenario) (s : State) → Stands shown x self.now s → result ≡ option_map (λ l. (l.enabled, l.pending)) (slice_get s.lines k) }
     {
-        match self.machine.reach.kernel.line(k) {
+        match self.machine.space.kernel.line(k) {
             Some(line) => Some((line.enabled, line.pending)),
             None => None,
         }
@@ -148,21 +148,21 @@ impl Board {
     pub fn owners(&self) -> &[LineStart]
         ensures { (x : Scenario) (s : State) → Stands shown x self.now s → map line_setup result.now ≡ x.setup.lines }
     {
-        self.machine.reach.kernel.owners()
+        self.machine.space.kernel.owners()
     }
 
     /// The regions of a task; none where there is no such task.
     pub fn regions(&self, i: usize) -> &[Region]
         ensures { (x : Scenario) (s : State) → Stands shown x self.now s → result.now ≡ (setup_at x.setup i).regions }
     {
-        self.machine.reach.kernel.regions(i)
+        self.machine.space.kernel.regions(i)
     }
 
     /// Region k of a task.
     pub fn region(&self, i: usize, k: usize) -> Option<Region>
         ensures { (x : Scenario) (s : State) → Stands shown x self.now s → result ≡ slice_get (setup_at x.setup i).regions k }
     {
-        self.machine.reach.kernel.regions(i).get(k).copied()
+        self.machine.space.kernel.regions(i).get(k).copied()
     }
 }
 
@@ -200,10 +200,10 @@ fn kept(kernel: &Kernel, i: usize) -> TaskView
 
 /// What a machine shows of a task: the registers and flags of the processor where it has its context.
 fn view(machine: &Machine, i: usize) -> TaskView
-    requires { i < task_count machine.now.reach.kernel }
+    requires { i < task_count machine.now.space.kernel }
     ensures { (g : Setup) (t : Turn) → MachineHolds shown g machine.now t → IsTask t.state i result }
 {
-    let kept = kept(&machine.reach.kernel, i);
+    let kept = kept(&machine.space.kernel, i);
     if machine.is_loaded_for(i) {
         return TaskView {
             regs: machine.glider.runner.processor.regs.words(),

@@ -7,7 +7,7 @@
 ghost use Rattle.std.specs.Prelude.{◌≡◌, ◌≤◌, ◌+◌, ℕ};
 ghost use Rattle.task_table.specs.model.State.{State};
 ghost use Rattle.task_table.specs.model.Sane.{Sane};
-ghost use Rattle.board_model.specs.declared.outcomes.Level.{Level as Detail};
+ghost use Rattle.board_model.specs.declared.outcomes.Level.{Level as NoteLevel};
 ghost use Rattle.board_model.specs.Script.{Scenario};
 ghost use Rattle.board_model.specs.Turn.{turned};
 ghost use Rattle.board_model.specs.Run.{run, with_front, ending};
@@ -20,18 +20,18 @@ ghost use Rattle.board_model.specs.Cut.{cut_at, from_turn, left_of, rest_from, I
 /// `generations_decide` says of each state), and the same last state with births modulo 64. The run to the cut comes to each turn
 /// before it, with a bound of just so many turns.
 pub fn runs_go_on_from_a_cut()
-    ensures whole { (level : Detail) (x : Scenario) (n m : ℕ) (s : State) → Sane x.setup s → IsCutWithin level x n m s →
+    ensures whole { (level : NoteLevel) (x : Scenario) (n m : ℕ) (s : State) → Sane x.setup s → IsCutWithin level x n m s →
         run level x m s ≡ with_front (run level x n s).notes (rest_from level x m s (cut_at level x n s)) }
-    ensures rest { (level before : Detail) (x : Scenario) (n m : ℕ) (s : State) → Sane x.setup s → IsCutWithin before x n m s →
+    ensures rest { (level before : NoteLevel) (x : Scenario) (n m : ℕ) (s : State) → Sane x.setup s → IsCutWithin before x n m s →
         rest_from level x m s (cut_at before x n s) ≡ from_turn (cut_at before x n s).turn (run level x m s) }
-    ensures notes { (level before : Detail) (x : Scenario) (n m : ℕ) (s : State) → Sane x.setup s → IsCutWithin before x n m s →
+    ensures notes { (level before : NoteLevel) (x : Scenario) (n m : ℕ) (s : State) → Sane x.setup s → IsCutWithin before x n m s →
         (run level x (left_of m s (cut_at before x n s)) (reduced (cut_at before x n s))).notes ≡ (from_turn (cut_at before x n s).turn (run level x m s)).notes }
-    ensures end { (level before : Detail) (x : Scenario) (n m : ℕ) (s : State) → Sane x.setup s → IsCutWithin before x n m s →
+    ensures end { (level before : NoteLevel) (x : Scenario) (n m : ℕ) (s : State) → Sane x.setup s → IsCutWithin before x n m s →
         (run level x (left_of m s (cut_at before x n s)) (reduced (cut_at before x n s))).end ≡ (run level x m s).end }
-    ensures last { (level before : Detail) (x : Scenario) (n m : ℕ) (s : State) → Sane x.setup s → IsCutWithin before x n m s →
+    ensures last { (level before : NoteLevel) (x : Scenario) (n m : ℕ) (s : State) → Sane x.setup s → IsCutWithin before x n m s →
         reduced (run level x (left_of m s (cut_at before x n s)) (reduced (cut_at before x n s))).last ≡ reduced (run level x m s).last }
-    ensures sane { (level : Detail) (x : Scenario) (n : ℕ) (s : State) → Sane x.setup s → Sane x.setup (cut_at level x n s) }
-    ensures reached { (level : Detail) (x : Scenario) (n k : ℕ) (s : State) → Sane x.setup s → s.turn + k ≤ (cut_at level x n s).turn → (cut_at level x k s).turn ≡ s.turn + k }
+    ensures sane { (level : NoteLevel) (x : Scenario) (n : ℕ) (s : State) → Sane x.setup s → Sane x.setup (cut_at level x n s) }
+    ensures reached { (level : NoteLevel) (x : Scenario) (n k : ℕ) (s : State) → Sane x.setup s → s.turn + k ≤ (cut_at level x n s).turn → (cut_at level x k s).turn ≡ s.turn + k }
 {}
 
 /// What is seen of a state between turns rests on its births modulo 64: whether and why a run ends there, which task its turn

@@ -19,7 +19,7 @@ ghost use Rattle.task_table.specs.model.Chain.{Chain};
 ghost use Rattle.task_table.specs.model.Grounds.{AreReached};
 ghost use Rattle.task_table.specs.model.Lives.{IsClosed};
 ghost use Rattle.task_table.specs.model.Step.{Step};
-ghost use Rattle.board_model.specs.declared.outcomes.Level.{Level as Detail};
+ghost use Rattle.board_model.specs.declared.outcomes.Level.{Level as NoteLevel};
 ghost use Rattle.board_model.specs.Script.{Scenario, start_of};
 ghost use Rattle.board_model.specs.Turn.{effect_of, moved, noted_at, stepped, happened, after_events, with_current, turn_of, turn};
 ghost use Rattle.board_model.specs.Faults.{IsFaulting, IsSameButForFault, AreEntries};
@@ -31,14 +31,14 @@ ghost use Rattle.board_model.specs.Lifetimes.{IsUnused, IsGroundedTurn, ChangesO
 /// The turn of the chosen task, from where it is the current one, is a chain of steps: those of its
 /// instruction or of its system call's row, and what is noted besides.
 pub fn turns_are_chains_of_steps()
-    ensures { (level : Detail) (g : Setup) (c : ℕ) (t : Turn) → Sane g t.state → chosen g t.state ≡ Some c → Chain (Step g (with_current c t).state c) (with_current c t) (turn_of level g (Some c) t) }
+    ensures { (level : NoteLevel) (g : Setup) (c : ℕ) (t : Turn) → Sane g t.state → chosen g t.state ≡ Some c → Chain (Step g (with_current c t).state c) (with_current c t) (turn_of level g (Some c) t) }
 {}
 
 /// The events of a turn, an instruction of a ready task and the whole turn leave a sane state sane.
 pub fn turns_keep_sane()
     ensures events { (x : Scenario) (s : State) → Sane x.setup s → Sane x.setup (after_events x s).state }
-    ensures stepped { (level : Detail) (g : Setup) (c : ℕ) (t : Turn) → Sane g t.state → c < length t.state.tasks → is_ready t.state c ≡ true → Sane g (stepped level g c t).state }
-    ensures turn { (level : Detail) (x : Scenario) (s : State) → Sane x.setup s → Sane x.setup (turn level x s).state }
+    ensures stepped { (level : NoteLevel) (g : Setup) (c : ℕ) (t : Turn) → Sane g t.state → c < length t.state.tasks → is_ready t.state c ≡ true → Sane g (stepped level g c t).state }
+    ensures turn { (level : NoteLevel) (x : Scenario) (s : State) → Sane x.setup s → Sane x.setup (turn level x s).state }
 {}
 
 /// The task that is chosen is ready, and there.
@@ -50,27 +50,27 @@ pub fn who_is_chosen_is_ready()
 /// A turn counts itself, events change the time by at most a tick each, and so the counts are in order
 /// after each turn of at most nine events, as each turn of a script that is read is.
 pub fn turns_keep_counts_in_order()
-    ensures turn { (level : Detail) (x : Scenario) (s : State) → Sane x.setup s → (turn level x s).state.turn ≡ s.turn + 1 }
+    ensures turn { (level : NoteLevel) (x : Scenario) (s : State) → Sane x.setup s → (turn level x s).state.turn ≡ s.turn + 1 }
     ensures now { (g : Setup) (events : List Event) (t : Turn) → (fold (happened g) t events).state.now ≤ t.state.now + length events }
-    ensures counted { (level : Detail) (x : Scenario) (s : State) → Sane x.setup s → length (events_of x.script s.turn) ≤ 9 → IsCounted s → IsCounted (turn level x s).state }
-    ensures of_scripts { (level : Detail) (x : Scenario) (s : State) → Sane x.setup s → Facts x.script → IsCounted s → IsCounted (turn level x s).state }
+    ensures counted { (level : NoteLevel) (x : Scenario) (s : State) → Sane x.setup s → length (events_of x.script s.turn) ≤ 9 → IsCounted s → IsCounted (turn level x s).state }
+    ensures of_scripts { (level : NoteLevel) (x : Scenario) (s : State) → Sane x.setup s → Facts x.script → IsCounted s → IsCounted (turn level x s).state }
 {}
 
 /// So a run leaves its counts in order, where no turn of its script has more than nine events, as none of a script that is read
 /// has; and it starts so. It leaves the RAM as long as it was.
 pub fn runs_keep_counts_in_order()
-    ensures counted { (level : Detail) (x : Scenario) (n : ℕ) (s : State) → Sane x.setup s → ((turn : ℕ) → length (events_of x.script turn) ≤ 9) → IsCounted s → IsCounted (run level x n s).last }
-    ensures of_scripts { (level : Detail) (x : Scenario) (n : ℕ) (s : State) → Sane x.setup s → Facts x.script → IsCounted s → IsCounted (run level x n s).last }
+    ensures counted { (level : NoteLevel) (x : Scenario) (n : ℕ) (s : State) → Sane x.setup s → ((turn : ℕ) → length (events_of x.script turn) ≤ 9) → IsCounted s → IsCounted (run level x n s).last }
+    ensures of_scripts { (level : NoteLevel) (x : Scenario) (n : ℕ) (s : State) → Sane x.setup s → Facts x.script → IsCounted s → IsCounted (run level x n s).last }
     ensures start { (x : Scenario) → IsCounted (start_of x) }
-    ensures ram { (level : Detail) (x : Scenario) (n : ℕ) (s : State) → Sane x.setup s → length (run level x n s).last.memory.ram ≡ length s.memory.ram }
+    ensures ram { (level : NoteLevel) (x : Scenario) (n : ℕ) (s : State) → Sane x.setup s → length (run level x n s).last.memory.ram ≡ length s.memory.ram }
 {}
 
 /// A turn that notes nothing after its events leaves the choice: the same task is chosen as after them, and
 /// the supervisor has faulted just where it had then.
 pub fn turns_without_notes_keep_the_choice()
-    ensures next { (level : Detail) (x : Scenario) (s : State) → Sane x.setup s → length (turn level x s).notes ≤ length (after_events x s).notes →
+    ensures next { (level : NoteLevel) (x : Scenario) (s : State) → Sane x.setup s → length (turn level x s).notes ≤ length (after_events x s).notes →
         chosen x.setup (turn level x s).state ≡ chosen x.setup (after_events x s).state }
-    ensures down { (level : Detail) (x : Scenario) (s : State) → Sane x.setup s → length (turn level x s).notes ≤ length (after_events x s).notes → is_down (turn level x s).state ≡ is_down (after_events x s).state }
+    ensures down { (level : NoteLevel) (x : Scenario) (s : State) → Sane x.setup s → length (turn level x s).notes ≤ length (after_events x s).notes → is_down (turn level x s).state ≡ is_down (after_events x s).state }
 {}
 
 /// A byte that comes for a device leaves the choice: each task is as ready as before, the same one is chosen, and the
@@ -84,27 +84,27 @@ pub fn bytes_for_devices_keep_the_choice()
 /// A turn writes on its grounds alone, touches no call but those that are open or that it offers, and leaves alone what is
 /// closed. (Hubris Reference: IPC, leases.)
 pub fn turns_stand_on_their_grounds()
-    ensures { (level : Detail) (x : Scenario) (s : State) → Sane x.setup s → IsGroundedTurn level x s }
+    ensures { (level : NoteLevel) (x : Scenario) (s : State) → Sane x.setup s → IsGroundedTurn level x s }
 {}
 
 /// A turn changes devices only at addresses that the chosen task may read, or write; before it each byte that comes from
 /// outside changes its own, and an idle turn changes none.
 pub fn turns_reach_devices_where_they_may()
-    ensures reached { (level : Detail) (x : Scenario) (s : State) (c : ℕ) → Sane x.setup s → IsOwnTurn x c s → AreReached x.setup c (after_events x s).state.devices (turn level x s).state.devices }
-    ensures idle { (level : Detail) (x : Scenario) (s : State) → chosen x.setup (after_events x s).state ≡ None → (turn level x s).state.devices ≡ (after_events x s).state.devices }
+    ensures reached { (level : NoteLevel) (x : Scenario) (s : State) (c : ℕ) → Sane x.setup s → IsOwnTurn x c s → AreReached x.setup c (after_events x s).state.devices (turn level x s).state.devices }
+    ensures idle { (level : NoteLevel) (x : Scenario) (s : State) → chosen x.setup (after_events x s).state ≡ None → (turn level x s).state.devices ≡ (after_events x s).state.devices }
     ensures fed { (x : Scenario) (s : State) → (after_events x s).state.devices ≡ fold devices_after s.devices (events_of x.script s.turn) }
 {}
 
 /// The notes of a run from the start are a right ledger of its calls: each is offered once, taken and closed at most once,
 /// in this order, and it is open at the end just where it was offered and not closed.
 pub fn runs_keep_a_ledger()
-    ensures { (level : Detail) (x : Scenario) (n : ℕ) → Sane x.setup (start_of x) → IsLedgerOfRun level x n }
+    ensures { (level : NoteLevel) (x : Scenario) (n : ℕ) → Sane x.setup (start_of x) → IsLedgerOfRun level x n }
 {}
 
 /// A run is its first turns, one after the other, as many as it makes: its last state is the one that these come to, and its notes
 /// are theirs. So what holds of each turn that follows a state holds of each turn of its runs.
 pub fn runs_are_turns_one_after_the_other()
-    ensures { (level : Detail) (x : Scenario) (n : ℕ) (s : State) → IsOfTurns level x n s }
+    ensures { (level : NoteLevel) (x : Scenario) (n : ℕ) (s : State) → IsOfTurns level x n s }
 {}
 
 /// Each byte that a run changes lies on a ground. Where a byte of memory is after a turn of a run another one than before it, a
@@ -112,15 +112,15 @@ pub fn runs_are_turns_one_after_the_other()
 /// takes what it sends in this turn, or of the reply buffer or a lease that may be written of a call that it serves, whose client still
 /// waits for it, both being of the very births of which they were when the call was made. (Hubris Reference: IPC, leases.)
 pub fn each_byte_that_a_run_changes_lies_on_a_ground()
-    ensures { (level : Detail) (x : Scenario) (n : ℕ) (s : State) → Sane x.setup s → ChangesOnGrounds level x (state_after level x n s) }
+    ensures { (level : NoteLevel) (x : Scenario) (n : ℕ) (s : State) → Sane x.setup s → ChangesOnGrounds level x (state_after level x n s) }
 {}
 
 /// A closed call moves no byte. From the turn on that follows the one in which a run from the start notes that a call is closed, no
 /// byte is written on its ground, none is read for it, and no task takes it or borrows from it; and so it is from any state in which a
 /// call is closed. (Hubris Reference: leases.)
 pub fn a_closed_call_moves_no_byte()
-    ensures noted { (level : Detail) (x : Scenario) (n m k : ℕ) (ending : Ending) → Sane x.setup (start_of x) → ClosesIn level x n k ending → n < m → IsUnused (turn_after level x m (start_of x)) k }
-    ensures closed { (level : Detail) (x : Scenario) (n k : ℕ) (s : State) → Sane x.setup s → IsClosed s k → IsUnused (turn_after level x n s) k × IsClosed (state_after level x n s) k }
+    ensures noted { (level : NoteLevel) (x : Scenario) (n m k : ℕ) (ending : Ending) → Sane x.setup (start_of x) → ClosesIn level x n k ending → n < m → IsUnused (turn_after level x m (start_of x)) k }
+    ensures closed { (level : NoteLevel) (x : Scenario) (n k : ℕ) (s : State) → Sane x.setup s → IsClosed s k → IsUnused (turn_after level x n s) k × IsClosed (state_after level x n s) k }
 {}
 
 /// A fault changes nothing else. Where an instruction or a system call faults the task that was chosen, memory, the devices and
@@ -128,9 +128,9 @@ pub fn a_closed_call_moves_no_byte()
 /// task, nor read of one but entries of lease tables, and of the other tasks only task 0 changes: by the post of its
 /// fault bits. (Hubris Reference: supervision; that a refused instruction or system call takes no effect is docs/FORMATS.md.)
 pub fn faults_change_nothing_else()
-    ensures state { (level : Detail) (x : Scenario) (s : State) (c : ℕ) → Sane x.setup s → IsFaulting level x s c → IsSameButForFault x.setup c (after_events x s).state (turn level x s).state }
-    ensures writes { (level : Detail) (x : Scenario) (s : State) (c : ℕ) → Sane x.setup s → IsFaulting level x s c → (turn level x s).writes ≡ [] }
-    ensures reads { (level : Detail) (x : Scenario) (s : State) (c : ℕ) → Sane x.setup s → IsFaulting level x s c → AreEntries (turn level x s).reads }
+    ensures state { (level : NoteLevel) (x : Scenario) (s : State) (c : ℕ) → Sane x.setup s → IsFaulting level x s c → IsSameButForFault x.setup c (after_events x s).state (turn level x s).state }
+    ensures writes { (level : NoteLevel) (x : Scenario) (s : State) (c : ℕ) → Sane x.setup s → IsFaulting level x s c → (turn level x s).writes ≡ [] }
+    ensures reads { (level : NoteLevel) (x : Scenario) (s : State) (c : ℕ) → Sane x.setup s → IsFaulting level x s c → AreEntries (turn level x s).reads }
 {}
 
 /// Where the task that was chosen makes a system call that names an earlier birth of a task, the turn changes nothing but that
@@ -139,19 +139,19 @@ pub fn faults_change_nothing_else()
 /// REFRESH_TASK_ID gets the id of the present birth, and REPLY_FAULT with a reason above 5 faults the task.
 /// (Hubris Reference: task ids and generations.)
 pub fn turns_with_dead_ids_change_their_caller_alone()
-    ensures { (level : Detail) (x : Scenario) (s : State) → Sane x.setup s → IsDeadTurn level x s }
+    ensures { (level : NoteLevel) (x : Scenario) (s : State) → Sane x.setup s → IsDeadTurn level x s }
 {}
 
 /// An outdated id touches no memory. In whatever turn of a run a task makes a system call that names an earlier birth of a task, be
 /// it answered, refused or overtaken by a notification: memory is as before, and nothing was written. (Hubris Reference: task ids and generations.)
 pub fn an_outdated_id_touches_no_memory()
-    ensures { (level : Detail) (x : Scenario) (n c : ℕ) (s : State) → Sane x.setup s → NamesDead x (state_after level x n s) c → TouchesNoMemory level x (state_after level x n s) }
+    ensures { (level : NoteLevel) (x : Scenario) (n c : ℕ) (s : State) → Sane x.setup s → NamesDead x (state_after level x n s) c → TouchesNoMemory level x (state_after level x n s) }
 {}
 
 /// The moves of an instruction change nothing of a state but its memory and its devices, and what is noted changes none.
 pub fn moves_change_memory_and_devices_alone()
     ensures moves { (moves : List Move) (t : Turn) → (fold moved t moves).state ≡ record t.state { memory = (fold moved t moves).state.memory; devices = (fold moved t moves).state.devices } }
-    ensures noted_at { (level : Detail) (n : Note) (t : Turn) → (noted_at level n t).state ≡ t.state }
+    ensures noted_at { (level : NoteLevel) (n : Note) (t : Turn) → (noted_at level n t).state ≡ t.state }
 {}
 
 /// The fault of an instruction that has a code has a number from 1 to 10.

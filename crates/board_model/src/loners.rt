@@ -12,7 +12,7 @@ ghost use Rattle.task_table.specs.model.State.{Setup, State};
 ghost use Rattle.task_table.specs.model.Reading.{task_at, IsIdle};
 ghost use Rattle.task_table.specs.model.Start.{start};
 ghost use Rattle.task_table.specs.model.Sane.{Sane};
-ghost use Rattle.board_model.specs.declared.outcomes.Level.{Level as Detail};
+ghost use Rattle.board_model.specs.declared.outcomes.Level.{Level as NoteLevel};
 ghost use Rattle.board_model.specs.Script.{Scenario};
 ghost use Rattle.board_model.specs.Turn.{after_events, turn};
 ghost use Rattle.board_model.specs.Run.{state_after};
@@ -24,14 +24,14 @@ ghost use Rattle.board_model.specs.LonerTurns.{IsRestart, LeavesLoners, LonersDe
 /// that turn; and the events of a turn, whosever it is, do not even that. The bytes of a loner stay in any case.
 pub fn others_leave_loners_alone()
     ensures events { (x : Scenario) (s : State) (i : ℕ) → IsIdle s i → IsUntouched s i (after_events x s).state }
-    ensures turn { (level : Detail) (x : Scenario) (s : State) → Sane x.setup s → LeavesLoners level x s }
+    ensures turn { (level : NoteLevel) (x : Scenario) (s : State) → Sane x.setup s → LeavesLoners level x s }
 {}
 
 /// A loner's own turn goes by its registers, its flags and the bytes of its regions alone, where it makes no system call but
 /// PANIC: a loner of the same regions, in whatever order and in whatever other state of whatever other image, has the same after
 /// its own turn.
 pub fn loners_decide_their_own_turns()
-    ensures { (level : Detail) (x : Scenario) (s : State) → Sane x.setup s → LonersDecide level x s }
+    ensures { (level : NoteLevel) (x : Scenario) (s : State) → Sane x.setup s → LonersDecide level x s }
 {}
 
 /// A loner goes its own way. Two loners that the images make alike, at births with the same bytes in their regions, have the
@@ -39,9 +39,9 @@ pub fn loners_decide_their_own_turns()
 /// the other tasks, the priorities and the scripts are and whenever these turns fall: as long as neither makes a system call
 /// but PANIC, nor is made to fault by the supervisor.
 pub fn loners_go_their_own_way()
-    ensures runs { (level other : Detail) (x y : Scenario) (i j n m : ℕ) (s u : State) → AreBornAlike x y i j s u → LiveAsLong level other x y i j s u n m →
+    ensures runs { (level other : NoteLevel) (x y : Scenario) (i j n m : ℕ) (s u : State) → AreBornAlike x y i j s u → LiveAsLong level other x y i j s u n m →
         HaveSameOwn x.setup i j (state_after level x n s) (state_after other y m u) }
-    ensures lives { (level other : Detail) (x y : Scenario) (i j k : ℕ) (s u z v : State) → AreBornAlike x y i j s u → LivesAlone level x i s (suc k) z → LivesAlone other y j u (suc k) v → HaveSameOwn x.setup i j z v }
+    ensures lives { (level other : NoteLevel) (x y : Scenario) (i j k : ℕ) (s u z v : State) → AreBornAlike x y i j s u → LivesAlone level x i s (suc k) z → LivesAlone other y j u (suc k) v → HaveSameOwn x.setup i j z v }
 {}
 
 /// A birth begins with the registers and flags that the image gives it, and waits for nothing: the first one at the start of
@@ -49,8 +49,8 @@ pub fn loners_go_their_own_way()
 /// was born is such a turn.
 pub fn births_begin_alike()
     ensures first { (g : Setup) (i : ℕ) → i < length g.tasks → IsAtBirth g i (start g) }
-    ensures later { (level : Detail) (x : Scenario) (s : State) (c i : ℕ) → IsRestart level x s c i → i ≢ c → IsAtBirth x.setup i (turn level x s).state }
-    ensures each { (level : Detail) (x : Scenario) (s : State) (i : ℕ) → Sane x.setup s → (task_at (turn level x s).state i).births ≢ (task_at s i).births → IsAtBirth x.setup i (turn level x s).state }
+    ensures later { (level : NoteLevel) (x : Scenario) (s : State) (c i : ℕ) → IsRestart level x s c i → i ≢ c → IsAtBirth x.setup i (turn level x s).state }
+    ensures each { (level : NoteLevel) (x : Scenario) (s : State) (i : ℕ) → Sane x.setup s → (task_at (turn level x s).state i).births ≢ (task_at s i).births → IsAtBirth x.setup i (turn level x s).state }
 {}
 
 /// A task that is alone among the others, and has no device, is a loner, where any two regions are at the same place or have

@@ -9,7 +9,7 @@ ghost use Rattle.std.specs.Prelude.{◌≡◌, ℕ};
 ghost use Rattle.task_table.specs.model.State.{Setup, State, Turn};
 ghost use Rattle.task_table.specs.model.Syscalls.{syscall_made};
 ghost use Rattle.task_table.specs.model.Sane.{Sane};
-ghost use Rattle.board_model.specs.declared.outcomes.Level.{Level as Detail};
+ghost use Rattle.board_model.specs.declared.outcomes.Level.{Level as NoteLevel};
 ghost use Rattle.board_model.specs.declared.outcomes.Level.TheVariants.{Calls, All};
 ghost use Rattle.board_model.specs.Script.{Scenario};
 ghost use Rattle.board_model.specs.Turn.{turn};
@@ -35,7 +35,7 @@ pub fn instructions_are_noted_beside()
 /// that are no device, and where it read for another task. With the same devices and any memory that has the same bytes
 /// there it gives the same writes, reads and notes, and the same next state but for memory.
 pub fn a_turn_depends_on_what_it_reads()
-    ensures { (level : Detail) (x : Scenario) (s : State) → Sane x.setup s → DependsOnReads level x s }
+    ensures { (level : NoteLevel) (x : Scenario) (s : State) → Sane x.setup s → DependsOnReads level x s }
 {}
 
 /// Of a number of births nothing but the generation decides: a sane state is sane with its births modulo 64, and a
@@ -43,9 +43,9 @@ pub fn a_turn_depends_on_what_it_reads()
 /// that are equal with their births modulo 64.
 pub fn generations_decide()
     ensures sane { (g : Setup) (s : State) → Sane g s → Sane g (reduced s) }
-    ensures notes { (level : Detail) (x : Scenario) (s : State) → Sane x.setup s → (turn level x (reduced s)).notes ≡ (turn level x s).notes }
-    ensures state { (level : Detail) (x : Scenario) (s : State) → Sane x.setup s → reduced (turn level x (reduced s)).state ≡ reduced (turn level x s).state }
-    ensures run_notes { (level : Detail) (x : Scenario) (n : ℕ) (s : State) → Sane x.setup s → (run level x n (reduced s)).notes ≡ (run level x n s).notes }
-    ensures last { (level : Detail) (x : Scenario) (n : ℕ) (s : State) → Sane x.setup s → reduced (run level x n (reduced s)).last ≡ reduced (run level x n s).last }
-    ensures end { (level : Detail) (x : Scenario) (n : ℕ) (s : State) → Sane x.setup s → (run level x n (reduced s)).end ≡ (run level x n s).end }
+    ensures notes { (level : NoteLevel) (x : Scenario) (s : State) → Sane x.setup s → (turn level x (reduced s)).notes ≡ (turn level x s).notes }
+    ensures state { (level : NoteLevel) (x : Scenario) (s : State) → Sane x.setup s → reduced (turn level x (reduced s)).state ≡ reduced (turn level x s).state }
+    ensures run_notes { (level : NoteLevel) (x : Scenario) (n : ℕ) (s : State) → Sane x.setup s → (run level x n (reduced s)).notes ≡ (run level x n s).notes }
+    ensures last { (level : NoteLevel) (x : Scenario) (n : ℕ) (s : State) → Sane x.setup s → reduced (run level x n (reduced s)).last ≡ reduced (run level x n s).last }
+    ensures end { (level : NoteLevel) (x : Scenario) (n : ℕ) (s : State) → Sane x.setup s → (run level x n (reduced s)).end ≡ (run level x n s).end }
 {}

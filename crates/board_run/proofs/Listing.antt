@@ -11,7 +11,7 @@ use Rattle.region_check.specs.declared.Region.{Region}
 use Rattle.mem_banks.specs.Memory.{Memory}
 use Rattle.task_table.specs.model.State.{Setup, TaskSetup, State}
 use Rattle.task_table.specs.model.Reading.{setup_in}
-use Rattle.image_format.specs.Picture.{Picture, regions_in}
+use Rattle.image_format.specs.ImageData.{ImageData, regions_in}
 use Rattle.region_check.specs.Rights.{SameOrApart}
 use Rattle.image_format.specs.Facts.{Facts}
 use Rattle.board_core.specs.Opened.{setup_of_image}
@@ -148,7 +148,7 @@ pub region_of_task : (tasks : List TaskSetup) (r : Region) → Contains (flat_ma
 region_of_task [] r c = absurd (omega (arith, c.1))
 region_of_task (t ∷ ts) r c = elim (Contains-append_cases t.regions (flat_map (λ u. u.regions) ts) r c) [ inl here ↦ (zero, here) | inr later ↦ let next = region_of_task ts r later in (suc next.0, next.1) ]
 
-of_image : (p : Picture) (r : Region) → Contains (regions_of (setup_of_image p)) r → (i : ℕ) × Contains (regions_in p i) r
+of_image : (p : ImageData) (r : Region) → Contains (regions_of (setup_of_image p)) r → (i : ℕ) × Contains (regions_in p i) r
 of_image p r has =
     let own = region_of_task (setup_of_image p).tasks r has in
     (own.0, subst (λ (t : TaskSetup). Contains t.regions r) (setup_is p own.0) own.1)
@@ -159,7 +159,7 @@ as_long r q some also same (inl alike) = alike.1
 as_long r q some also same (inr (inl before)) = absurd (omega (arith, some, same, before))
 as_long r q some also same (inr (inr behind)) = absurd (omega (arith, also, same, behind))
 
-pub of_images : (p : Picture) → Facts p → HasRamRegions (setup_of_image p)
+pub of_images : (p : ImageData) → Facts p → HasRamRegions (setup_of_image p)
 of_images p f = record {
   placed = λ r has inside. let own = of_image p r has in f.regions.aligned own.0 r own.1;
   sized = λ r q has also inside same.

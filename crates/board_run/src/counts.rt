@@ -4,7 +4,7 @@ ghost use Rattle.board_model.specs.Run.{at_turn};
 ghost use Rattle.board_run.specs.Counts.{CountedKind};
 ghost use Rattle.board_run.specs.Counting.{HaveGrown, count_at, counted};
 
-use crate::telling::Teller;
+use crate::observer::Observer;
 use kernel_abi::Note;
 use outside_io::Failed;
 use trace_text::TurnLines;
@@ -82,7 +82,7 @@ impl Counts {
 }
 
 /// Counting never fails.
-impl Teller for Counts {
+impl Observer for Counts {
     ghost heard = { HaveGrown };
 
     ghost broke = { λ _ _ _. ⊥ };

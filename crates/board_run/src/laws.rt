@@ -3,12 +3,12 @@
 ghost use Rattle.std.specs.Prelude.{◌≡◌, ℕ, List};
 ghost use Rattle.std.specs.List.{flat_map};
 ghost use Rattle.region_check.specs.declared.Region.{Region};
-ghost use Rattle.image_format.specs.Picture.{Picture};
+ghost use Rattle.image_format.specs.ImageData.{ImageData};
 ghost use Rattle.image_format.specs.Facts.{Facts};
 ghost use Rattle.task_table.specs.model.State.{Setup, State};
 ghost use Rattle.task_table.specs.model.Sane.{Sane};
 ghost use Rattle.board_model.specs.declared.outcomes.End.{End as Ending};
-ghost use Rattle.board_model.specs.declared.outcomes.Level.{Level as Detail};
+ghost use Rattle.board_model.specs.declared.outcomes.Level.{Level as NoteLevel};
 ghost use Rattle.board_model.specs.Alike.{reduced};
 ghost use Rattle.board_model.specs.Run.{run};
 ghost use Rattle.board_model.specs.Script.{Scenario};
@@ -21,7 +21,7 @@ ghost use Rattle.board_run.specs.Text.{end_text, trace_text};
 /// texts of the regions of a list, the same for every state, which has all of them. Said of setups whose regions in RAM
 /// begin at multiples of 256, where two that begin alike are as long; the setup of every image is one.
 pub fn memories_have_each_region_once()
-    ensures images { (p : Picture) → Facts p → HasRamRegions (setup_of_image p) }
+    ensures images { (p : ImageData) → Facts p → HasRamRegions (setup_of_image p) }
     ensures once { (g : Setup) → HasRamRegions g → (rs : List Region) × ListsRam g rs × ((s : State) → memory_text g s ≡ flat_map (region_text s.memory) rs) }
 {}
 
@@ -31,6 +31,6 @@ pub fn memories_have_each_region_once()
 pub fn generations_decide_what_is_told()
     ensures end { (end : Ending) (s : State) → end_text end (reduced s) ≡ end_text end s }
     ensures memory { (g : Setup) (s : State) → memory_text g (reduced s) ≡ memory_text g s }
-    ensures text { (level : Detail) (x : Scenario) (n : ℕ) (s : State) → Sane x.setup s → trace_text (run level x n (reduced s)) ≡ trace_text (run level x n s) }
-    ensures last { (level : Detail) (x : Scenario) (n : ℕ) (s : State) → Sane x.setup s → memory_text x.setup (run level x n (reduced s)).last ≡ memory_text x.setup (run level x n s).last }
+    ensures text { (level : NoteLevel) (x : Scenario) (n : ℕ) (s : State) → Sane x.setup s → trace_text (run level x n (reduced s)) ≡ trace_text (run level x n s) }
+    ensures last { (level : NoteLevel) (x : Scenario) (n : ℕ) (s : State) → Sane x.setup s → memory_text x.setup (run level x n (reduced s)).last ≡ memory_text x.setup (run level x n s).last }
 {}

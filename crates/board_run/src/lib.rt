@@ -10,7 +10,7 @@ mod regions;
 mod running;
 mod silence;
 mod summary;
-mod telling;
+mod observer;
 
 pub use counts::Counts;
 pub use laws::{generations_decide_what_is_told, memories_have_each_region_once};
@@ -21,4 +21,4 @@ pub use regions::{RegionTest, first_region};
 pub use running::{ending, play, run};
 pub use silence::Nobody;
 pub use summary::summarize;
-pub use telling::Teller;
+pub use observer::Observer;

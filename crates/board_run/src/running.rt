@@ -3,7 +3,7 @@ ghost use Rattle.std.specs.Prelude.{◌≡◌, ◌≢◌, [], ◌≤◌, ◌<◌
 ghost use Rattle.outside_io.specs.Outside.{Pushes, HasCause};
 ghost use Rattle.task_table.specs.model.State.{State};
 ghost use Rattle.board_model.specs.Script.{Scenario, start_of};
-ghost use Rattle.board_core.specs.Stands.{Stands, Stood, notes_of, turns_of};
+ghost use Rattle.board_core.specs.Stands.{Stands, StandsForSome, notes_of, turns_of};
 ghost use Rattle.board_core.specs.Data.{boxed};
 ghost use Rattle.board_model.specs.Run.{at_turn, run, ending};
 ghost use Rattle.board_model.specs.Lifetimes.{IsLedgerOfRun};
@@ -15,7 +15,7 @@ ghost use Rattle.board_run.specs.Running.{StandsMidway, BreaksOff, end_within};
 ghost use Rattle.board_run.specs.Telling.{BreaksTelling, notes_in};
 
 use crate::pushing::push_end;
-use crate::telling::Teller;
+use crate::observer::Observer;
 use board_core::{Board, End, Level};
 use outside_io::{Failed, Sink};
 use trace_text::TurnLines;
@@ -41,7 +41,7 @@ fn end_within(ended: Option<End>, left: u32) -> Option<End>
 
 /// Whether a run that makes turns below `limit` ends before the next one, and why.
 pub fn ending(board: &Board, limit: u32) -> Option<End>
-    requires stood { Stood (boxed shown) board.now }
+    requires stood { StandsForSome (boxed shown) board.now }
     requires within { turns_of board.now ≤ limit }
     ensures end { (x : Scenario) (s : State) → Stands (boxed shown) x board.now s → result ≡ ending x (limit - s.turn) s }
     ensures goes { IsNone result → (x : Scenario) (s : State) → Stands (boxed shown) x board.now s → ending x 1 s ≡ None }
@@ -63,7 +63,7 @@ fn due_after(turns: u32, limit: u32) -> u32
 
 // Tells the notes of the last turn, and passes on what is held back where it is due. Answers when that is next due: at
 // `limit` while nothing is held back.
-fn tell_last<T: Teller>(
+fn tell_last<T: Observer>(
     board: &Board,
     due: u32,
     limit: u32,
@@ -102,13 +102,13 @@ fn tell_last<T: Teller>(
 /// # Errors
 ///
 /// Only where the teller failed.
-pub fn play<T: Teller>(
+pub fn play<T: Observer>(
     board: &mut Board,
     limit: u32,
     level: Level,
     teller: &mut T,
 ) -> Result<End, Failed>
-    requires stood { Stood (boxed shown) board.old }
+    requires stood { StandsForSome (boxed shown) board.old }
     requires from { turns_of board.old ≤ limit }
     requires few { limit ≤ 1000000000 }
 
@@ -147,7 +147,7 @@ pub fn play<T: Teller>(
 /// Turns up to the end of the run, and its text, which tells each turn at a level. After a failing push
 /// nothing more is pushed, and no further turn is made.
 pub fn run<S: Sink>(board: &mut Board, limit: u32, level: Level, out: &mut S) -> Result<End, Failed>
-    requires stood { Stood (boxed shown) board.old }
+    requires stood { StandsForSome (boxed shown) board.old }
     requires from { turns_of board.old ≤ limit }
     requires few { limit ≤ 1000000000 }
 

@@ -1,7 +1,7 @@
 //! A listener that hears nothing: a run is made, and nobody is told.
 ghost use Rattle.std.specs.Prelude.{◌≡◌};
 
-use crate::telling::Teller;
+use crate::observer::Observer;
 use kernel_abi::Note;
 use outside_io::Failed;
 use trace_text::TurnLines;
@@ -11,7 +11,7 @@ use trace_text::TurnLines;
 pub struct Nobody;
 
 /// Telling nobody never fails.
-impl Teller for Nobody {
+impl Observer for Nobody {
     ghost heard = { λ t notes u. u ≡ t };
 
     ghost broke = { λ _ _ _. ⊥ };

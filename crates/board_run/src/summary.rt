@@ -5,7 +5,7 @@ ghost use Rattle.outside_io.specs.Outside.{Pushes, HasCause};
 ghost use Rattle.task_table.specs.model.State.{State};
 ghost use Rattle.board_model.specs.declared.outcomes.Level.TheVariants.{Calls};
 ghost use Rattle.board_model.specs.Script.{Scenario};
-ghost use Rattle.board_core.specs.Stands.{Stands, Stood, turns_of};
+ghost use Rattle.board_core.specs.Stands.{Stands, StandsForSome, turns_of};
 ghost use Rattle.board_core.specs.Data.{boxed};
 ghost use Rattle.board_model.specs.Run.{run};
 ghost use Rattle.board_run.specs.Counts.{counts_text, summary_text};
@@ -88,7 +88,7 @@ fn push_summary<S: Sink>(
 ///
 /// Only where a push failed.
 pub fn summarize<S: Sink>(board: &mut Board, limit: u32, out: &mut S) -> Result<End, Failed>
-    requires stood { Stood (boxed shown) board.old }
+    requires stood { StandsForSome (boxed shown) board.old }
     requires from { turns_of board.old ≤ limit }
     requires few { limit ≤ 1000000000 }
 

@@ -1,7 +1,7 @@
 pub mod Arranging
 pub mod Filling
 pub mod OneImage
-pub mod OnePicture
+pub mod OneImageData
 mod Free
 mod Cards
 mod Supervisor

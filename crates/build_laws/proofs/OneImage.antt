@@ -2,13 +2,13 @@
 use Rattle.std.proofs.Common.{◌≡◌, ◌∙◌, ℕ, ◌+◌, ◌-◌, ◌≤◌, ◌<◌, List, length, get_or, refl, sym, ap, arith}
 use Rattle.std.proofs.lemmas.List.{ext_get_or}
 use Rattle.app_toml.specs.Apps.{AppData}
-use Rattle.image_format.specs.Picture.{Picture}
+use Rattle.image_format.specs.ImageData.{ImageData}
 use Rattle.mem_plan.specs.Placing.{placed}
 use Rattle.mem_plan.specs.Sizes.{rounded}
 use Rattle.text_lines.specs.Text.{lines_of}
 use Rattle.thumb_asm.specs.Assembly.{Assembles}
 use Rattle.thumb_asm.specs.Meaning.{Env}
-use Rattle.image_build.specs.Built.{Built, HasProgram, flash_byte, given, picture_built, source_at}
+use Rattle.image_build.specs.Built.{Built, HasProgram, flash_byte, given, image_data_built, source_at}
 use Rattle.image_build.specs.Layout.{flash_base, flash_needed, flash_sizes, task_at}
 use Rattle.build_laws.proofs.Filling.{filled}
 use Rattle.image_build.proofs.Planning.{flash_size, flash_count}
@@ -47,9 +47,9 @@ one_byte app sources flash flash' once p q j below =
     let same : flash_byte app i flash k ≡ flash_byte app i flash' k = one_program app sources i flash flash' (once i index) (p i index) (q i index) k inside in
     ap (λ (n : ℕ). get_or flash n 0) (sym there) ∙ same ∙ ap (λ (n : ℕ). get_or flash' n 0) there
 
-pub one_flash : (app : AppData) (sources : List (List ℕ)) (image image' : Picture) → ((i : ℕ) → i < length app.tasks → HasOneCode app sources i)
+pub one_flash : (app : AppData) (sources : List (List ℕ)) (image image' : ImageData) → ((i : ℕ) → i < length app.tasks → HasOneCode app sources i)
     → Built app sources image → Built app sources image' → image ≡ image'
 one_flash app sources image image' once a b =
     let same : image.flash ≡ image'.flash = ext_get_or 0 image.flash image'.flash (a.length_of_flash ∙ sym b.length_of_flash)
     (λ j below. one_byte app sources image.flash image'.flash once a.programs b.programs j (omega (arith, below, a.length_of_flash))) in
-    a.parts ∙ ap (picture_built app) same ∙ sym b.parts
+    a.parts ∙ ap (image_data_built app) same ∙ sym b.parts

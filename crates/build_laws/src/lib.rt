@@ -6,7 +6,7 @@ mod sample;
 ghost use Rattle.std.specs.Prelude.{◌≡◌, ℕ, List, ◌+◌, ◌≤◌, ◌<◌};
 ghost use Rattle.app_toml.specs.Apps.{AppData};
 ghost use Rattle.image_build.specs.Built.{Built};
-ghost use Rattle.image_format.specs.Picture.{Picture};
+ghost use Rattle.image_format.specs.ImageData.{ImageData};
 ghost use Rattle.mem_plan.specs.Sizes.{total};
 ghost use Rattle.build_laws.specs.Filling.{LiesIn};
 
@@ -19,6 +19,6 @@ pub fn regions_fill_the_room()
 {}
 
 /// An application and the sources of its tasks are built to at most one image.
-pub fn one_picture()
-    ensures { (app : AppData) (sources : List (List ℕ)) (image image' : Picture) → Built app sources image → Built app sources image' → image ≡ image' }
+pub fn an_application_has_one_image()
+    ensures { (app : AppData) (sources : List (List ℕ)) (image image' : ImageData) → Built app sources image → Built app sources image' → image ≡ image' }
 {}

@@ -4,7 +4,7 @@ use Rattle.std.specs.Prelude.{min}
 use Rattle.board_model.specs.Script.{Scenario}
 use Rattle.board_core.specs.Data.{Shows}
 use Rattle.debug_core.specs.declared.answer.Answer.TheVariants.{Hit}
-use Rattle.debug_core.specs.declared.timeline.Timeline.{Timeline}
+use Rattle.debug_core.specs.declared.replay.Replay.{Replay}
 use Rattle.debug_core.specs.Answers.{gone_to, hit_at}
 use Rattle.debug_core.specs.Hits.{CameTo, first_hit}
 use Rattle.debug_core.specs.Runs.{forward, most_turns, state_at}
@@ -16,23 +16,23 @@ module _ {X : Type 0} {H : X → Type 0} (shown : Shows X H) (x : Scenario) (s :
   same_hit = λ i. hit_in x (same i) s.cursor ((state_at x (limit i)).turn - s.cursor)
 
   -- nothing was hit
-  pub none_from : (t : Timeline X H) → CameTo shown x breakpoints s.cursor to t None → hit_from x s n ≡ None
+  pub none_from : (t : Replay X H) → CameTo shown x breakpoints s.cursor to t None → hit_from x s n ≡ None
   none_from t h = sym same_hit ∙ h.1
 
-  pub at_end : (t : Timeline X H) → CameTo shown x breakpoints s.cursor to t None → IsAt shown x t (forward x s.cursor n)
+  pub at_end : (t : Replay X H) → CameTo shown x breakpoints s.cursor to t None → IsAt shown x t (forward x s.cursor n)
   at_end t h = subst (λ k. IsAt shown x t (state_at x k).turn) limit h.0
 
-  pub at_gone : (t : Timeline X H) → CameTo shown x breakpoints s.cursor to t None → IsAt shown x t (gone x s n (hit_from x s n))
+  pub at_gone : (t : Replay X H) → CameTo shown x breakpoints s.cursor to t None → IsAt shown x t (gone x s n (hit_from x s n))
   at_gone t h = subst (λ o. IsAt shown x t (gone x s n o)) (sym (none_from t h)) (at_end t h)
 
   -- the first that is hit
-  pub some_from : (t : Timeline X H) (hit : ℕ × ℕ) → (h : CameTo shown x breakpoints s.cursor to t (Some hit)) → hit_from x s n ≡ Some h.0
+  pub some_from : (t : Replay X H) (hit : ℕ × ℕ) → (h : CameTo shown x breakpoints s.cursor to t (Some hit)) → hit_from x s n ≡ Some h.0
   some_from t hit h = sym same_hit ∙ h.2
 
-  pub at_hit : (t : Timeline X H) (hit : ℕ × ℕ) → CameTo shown x breakpoints s.cursor to t (Some hit) → IsAt shown x t (gone x s n (hit_from x s n))
+  pub at_hit : (t : Replay X H) (hit : ℕ × ℕ) → CameTo shown x breakpoints s.cursor to t (Some hit) → IsAt shown x t (gone x s n (hit_from x s n))
   at_hit t hit h = subst (λ o. IsAt shown x t (gone x s n o)) (sym (some_from t hit h)) h.1
 
-  pub told_hit : (t : Timeline X H) (hit : ℕ × ℕ) (cursor : ℕ) → (h : CameTo shown x breakpoints s.cursor to t (Some hit)) → cursor ≡ h.0 + 1 → Hit cursor hit.0 hit.1 ≡ gone_to x s n (hit_from x s n)
+  pub told_hit : (t : Replay X H) (hit : ℕ × ℕ) (cursor : ℕ) → (h : CameTo shown x breakpoints s.cursor to t (Some hit)) → cursor ≡ h.0 + 1 → Hit cursor hit.0 hit.1 ≡ gone_to x s n (hit_from x s n)
   told_hit t hit cursor h is =
       ap (λ k. Hit k hit.0 hit.1) is
       ∙ ap (hit_at (h.0 + 1)) (sym h.3)

@@ -10,7 +10,7 @@ use Rattle.board_model.specs.Turn.{turned}
 use Rattle.board_core.specs.fast.Breakpoints.{hit_of, is_hit, stands}
 use Rattle.board_core.specs.Data.{Shows}
 use Rattle.board_core.specs.Stands.{turns_of}
-use Rattle.debug_core.specs.declared.timeline.Timeline.{Timeline}
+use Rattle.debug_core.specs.declared.replay.Replay.{Replay}
 use Rattle.debug_core.specs.Hits.{CameTo, WentPast}
 use Rattle.debug_core.specs.Runs.{state_at}
 use Rattle.debug_core.specs.Times.{IsAt}
@@ -48,7 +48,7 @@ ran_hit x breakpoints turn = is_hit breakpoints (turned x (state_at x turn))
 
 module _ {X : Type 0} {H : X → Type 0} (shown : Shows X H) (x : Scenario) (breakpoints : List ℕ) where
   -- turns on end, of which none before the last is hit, and what of that is told
-  pub went_past : (t t' : Timeline X H) (turn n : ℕ) (hit : Option (ℕ × ℕ)) → (h : IsAt shown x t turn) → IsAt shown x t' (turn + n + 1) → ending x 1 h.state.0 ≡ None → ((k : ℕ) → k < n → ending x 1 (turn_after Calls x k h.state.0).state ≡ None) →
+  pub went_past : (t t' : Replay X H) (turn n : ℕ) (hit : Option (ℕ × ℕ)) → (h : IsAt shown x t turn) → IsAt shown x t' (turn + n + 1) → ending x 1 h.state.0 ≡ None → ((k : ℕ) → k < n → ending x 1 (turn_after Calls x k h.state.0).state ≡ None) →
       ((k : ℕ) → k < n → is_hit breakpoints (turned x (state_after Calls x k h.state.0)) ≡ false) → hit ≡ hit_of breakpoints (turned x (state_after Calls x n h.state.0)) → WentPast shown x breakpoints turn t' hit
   went_past t t' turn n hit h at first on none is =
       record {
@@ -67,11 +67,11 @@ module _ {X : Type 0} {H : X → Type 0} (shown : Shows X H) (x : Scenario) (bre
       ran_as k le = turned_same x (state_after Calls x k h.state.0) (state_at x (turn + k)) (follows_after shown x t turn n h first on k le).same
 
   -- the last was hit or not
-  pub none_went : (from : ℕ) (t : Timeline X H) → WentPast shown x breakpoints from t None → Went shown x (ran_hit x breakpoints) from t false
+  pub none_went : (from : ℕ) (t : Replay X H) → WentPast shown x breakpoints from t None → Went shown x (ran_hit x breakpoints) from t false
   none_went from t w = record { last = w.last; later = w.later; at = w.at; none = w.none; is = missed breakpoints (turned x (state_at x w.last)) w.is }
 
   module _ (from to : ℕ) where
-    pub one_hit : (t t' : Timeline X H) (hit : ℕ × ℕ) → Passed shown x (ran_hit x breakpoints) from to t → WentPast shown x breakpoints (turns_of t.board) t' (Some hit) → turns_of t'.board ≤ to → CameTo shown x breakpoints from to t' (Some hit)
+    pub one_hit : (t t' : Replay X H) (hit : ℕ × ℕ) → Passed shown x (ran_hit x breakpoints) from to t → WentPast shown x breakpoints (turns_of t.board) t' (Some hit) → turns_of t'.board ≤ to → CameTo shown x breakpoints from to t' (Some hit)
     one_hit t t' hit h w within =
         let ran = ran_at breakpoints (turned x (state_at x w.last)) hit w.is in (
           w.last,

@@ -3,7 +3,7 @@ use Rattle.std.proofs.Common.{◌≡◌, ◌∙◌, ℕ, zero, suc, ◌+◌, ◌
 use Rattle.std.specs.List.{HoldsAt}
 use Rattle.std.proofs.lemmas.Bool.{leb-true, leb-false}
 use Rattle.std.proofs.lemmas.List.{get_or_default}
-use Rattle.debug_core.specs.declared.timeline.Checkpoint.{Checkpoint}
+use Rattle.debug_core.specs.declared.replay.Checkpoint.{Checkpoint}
 use Rattle.debug_core.specs.Times.{later_of}
 use Rattle.debug_core.proofs.Bytes.{no_byte}
 

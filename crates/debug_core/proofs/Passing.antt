@@ -9,7 +9,7 @@ use Rattle.board_model.specs.Run.{ending}
 use Rattle.board_model.specs.Script.{Scenario}
 use Rattle.board_core.specs.Data.{Shows}
 use Rattle.board_core.specs.Stands.{turns_of}
-use Rattle.debug_core.specs.declared.timeline.Timeline.{Timeline}
+use Rattle.debug_core.specs.declared.replay.Replay.{Replay}
 use Rattle.debug_core.specs.Runs.{state_at}
 use Rattle.debug_core.specs.Times.{IsAt}
 use Rattle.debug_core.proofs.Ahead.{ends_at, further}
@@ -18,7 +18,7 @@ use Rattle.region_check.proofs.FirstBad.{find_range_none, find_range_some}
 
 module _ {X : Type 0} {H : X → Type 0} (shown : Shows X H) (x : Scenario) (p : ℕ → Bool) where
   -- some turns on from one: it holds of none before the last, and whether of that
-  pub record Went (from : ℕ) (t : Timeline X H) (holds : Bool) : Type 0 where
+  pub record Went (from : ℕ) (t : Replay X H) (holds : Bool) : Type 0 where
     pub last : ℕ
     pub later : from ≤ last
     pub at : IsAt shown x t (last + 1)
@@ -27,13 +27,13 @@ module _ {X : Type 0} {H : X → Type 0} (shown : Shows X H) (x : Scenario) (p :
 
   module _ (from to : ℕ) where
     -- it stands at a turn from the first one on, and of none before it holds
-    pub record Passed (t : Timeline X H) : Type 0 where
+    pub record Passed (t : Replay X H) : Type 0 where
       pub at : IsAt shown x t (turns_of t.board)
       pub later : from ≤ turns_of t.board
       pub within : turns_of t.board ≤ to
       pub none : (turn : ℕ) → from ≤ turn → turn < turns_of t.board → p turn ≡ false
 
-    pub passed_first : (t : Timeline X H) → IsAt shown x t from → from ≤ to → Passed t
+    pub passed_first : (t : Replay X H) → IsAt shown x t from → from ≤ to → Passed t
     passed_first t h le =
         let is = turns_at shown x t from h in
         record {
@@ -43,11 +43,11 @@ module _ {X : Type 0} {H : X → Type 0} (shown : Shows X H) (x : Scenario) (p :
           none = λ turn a b. absurd (omega (arith, a, b));
         }
 
-    none_before : (t t' : Timeline X H) (holds : Bool) → Passed t → (w : Went (turns_of t.board) t' holds) → (turn : ℕ) → from ≤ turn → turn < w.last → p turn ≡ false
+    none_before : (t t' : Replay X H) (holds : Bool) → Passed t → (w : Went (turns_of t.board) t' holds) → (turn : ℕ) → from ≤ turn → turn < w.last → p turn ≡ false
     none_before t t' holds h w turn a b = elim (cases_lt turn (turns_of t.board)) [ inl before ↦ h.none turn a before | inr after ↦ w.none turn after b ]
 
     -- more turns of none of which it holds
-    pub passed_more : (t t' : Timeline X H) → Passed t → Went (turns_of t.board) t' false → turns_of t'.board ≤ to → Passed t'
+    pub passed_more : (t t' : Replay X H) → Passed t → Went (turns_of t.board) t' false → turns_of t'.board ≤ to → Passed t'
     passed_more t t' h w within =
         let is = turns_at shown x t' (w.last + 1) w.at in
         record {
@@ -61,7 +61,7 @@ module _ {X : Type 0} {H : X → Type 0} (shown : Shows X H) (x : Scenario) (p :
         }
 
     -- where the run ends it held of none
-    pub none_passed : (t : Timeline X H) (o : Option End) → Passed t → is_some o ≡ true → o ≡ ending x (to - turns_of t.board) (state_at x (turns_of t.board)) →
+    pub none_passed : (t : Replay X H) (o : Option End) → Passed t → is_some o ≡ true → o ≡ ending x (to - turns_of t.board) (state_at x (turns_of t.board)) →
         IsAt shown x t (state_at x to).turn × (find p (range_with_len from ((state_at x to).turn - from)) ≡ None)
     none_passed t None h some is = absurd (cc)
     none_passed t (Some e) h some is =
@@ -73,7 +73,7 @@ module _ {X : Type 0} {H : X → Type 0} (shown : Shows X H) (x : Scenario) (p :
         )
 
     -- the first of which it holds
-    pub first_passed : (t t' : Timeline X H) → Passed t → (w : Went (turns_of t.board) t' true) → turns_of t'.board ≤ to → find p (range_with_len from ((state_at x to).turn - from)) ≡ Some w.last
+    pub first_passed : (t t' : Replay X H) → Passed t → (w : Went (turns_of t.board) t' true) → turns_of t'.board ≤ to → find p (range_with_len from ((state_at x to).turn - from)) ≡ Some w.last
     first_passed t t' h w within =
         let is = turns_at shown x t' (w.last + 1) w.at in
         let inside = further x h.at.start (w.last + 1) to w.at.reached (omega arith) in

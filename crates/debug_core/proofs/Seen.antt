@@ -114,8 +114,8 @@ unowned s number (Some l) e = absurd (no_pair (told_owner l) e)
 
 all_lines : {X : Type 0} {H : X → Type 0} (shown : Shows X H) (x : Scenario) (b : Board X H) (s : State) → Stands shown x b s → length s.lines ≡ 64
 all_lines shown x b s st =
-    let rest = rest_held shown b.machine.loaded x.setup b.machine.reach b.machine.glider.runner.processor _ st.holds.machine in
-    ap (λ (ls : List Line). length ls) (rest.rest.lines ∙ sym rest.holds.lines) ∙ b.machine.reach.kernel.all_lines
+    let rest = rest_held shown b.machine.loaded x.setup b.machine.space b.machine.glider.runner.processor _ st.holds.machine in
+    ap (λ (ls : List Line). length ls) (rest.rest.lines ∙ sym rest.holds.lines) ∙ b.machine.space.kernel.all_lines
 
 -- there are 64 lines
 pub no_line : {X : Type 0} {H : X → Type 0} (shown : Shows X H) (x : Scenario) (b : Board X H) (s : State) (number : ℕ) → Stands shown x b s → number < 64 → None ≡ option_map told_line (slice_get s.lines number) → ⊥

@@ -21,10 +21,10 @@ use Rattle.snapshot.specs.Loaded.{sites}
 use Rattle.snapshot.specs.Saved.{SpellsState, expected_of}
 use Rattle.snapshot.specs.Waits.{state_fault}
 use Rattle.snapshot.proofs.Fixed.{fixed_run}
-use Rattle.snapshot.proofs.Stood.{as_long}
+use Rattle.snapshot.proofs.StandsForSome.{as_long}
 use Rattle.board_model.proofs.SameTurn.{first_turn, same_turn}
-use Rattle.debug_core.specs.declared.timeline.Checkpoint.{Checkpoint}
-use Rattle.debug_core.specs.declared.timeline.Timeline.{Timeline}
+use Rattle.debug_core.specs.declared.replay.Checkpoint.{Checkpoint}
+use Rattle.debug_core.specs.declared.replay.Replay.{Replay}
 use Rattle.debug_core.specs.Runs.{most_turns, state_at}
 use Rattle.debug_core.specs.Times.{IsAt, IsFree, IsKept, IsSaved}
 use Rattle.debug_core.proofs.Ahead.{Follows, ahead, ends_at, run_on, sane_at, stays, turns_ahead, turns_made}
@@ -47,20 +47,20 @@ kinds_in (d ∷ ds) = ap (λ (ks : List Kind). d.kind ∷ ks) (kinds_in ds)
 module _ {X : Type 0} {H : X → Type 0} (shown : Shows X H) (x : Scenario) where
   -- ---- where it stands
 
-  pub turns_at : (t : Timeline X H) (turn : ℕ) → IsAt shown x t turn → turns_of t.board ≡ turn
+  pub turns_at : (t : Replay X H) (turn : ℕ) → IsAt shown x t turn → turns_of t.board ≡ turn
   turns_at t turn h = h.state.1.holds.turns ∙ same_turn h.state.0 (state_at x turn) h.state.2 ∙ h.reached
 
-  pub follows : (t : Timeline X H) (turn : ℕ) → (h : IsAt shown x t turn) → Follows x turn h.state.0
+  pub follows : (t : Replay X H) (turn : ℕ) → (h : IsAt shown x t turn) → Follows x turn h.state.0
   follows t turn h = record { sane = h.state.1.sane; same = h.state.2; reached = h.reached }
 
   -- with another board that stands for a state that follows the run
-  with_board : (t : Timeline X H) (turn : ℕ) (b : Board X H) (to : ℕ) (u : State) → IsAt shown x t turn → Stands shown x b u → Follows x to u → to ≤ most_turns → IsAt shown x record t { board = b } to
+  with_board : (t : Replay X H) (turn : ℕ) (b : Board X H) (to : ℕ) (u : State) → IsAt shown x t turn → Stands shown x b u → Follows x to u → to ≤ most_turns → IsAt shown x record t { board = b } to
   with_board t turn b to u h st f most = record { state = (u, st, f.same); reached = f.reached; most = most; start = h.start; count = h.count; kept = h.kept; first = h.first }
 
   -- ---- on
 
   -- turns on end, before none of which the run ends
-  pub went : (t : Timeline X H) (turn n : ℕ) (b : Board X H) → (h : IsAt shown x t turn) → ending x 1 h.state.0 ≡ None → ((k : ℕ) → k < n → ending x 1 (turn_after Calls x k h.state.0).state ≡ None) → Stands shown x b (turn_after Calls x n h.state.0).state → turn + n < most_turns → IsAt shown x record t { board = b } (turn + n + 1)
+  pub went : (t : Replay X H) (turn n : ℕ) (b : Board X H) → (h : IsAt shown x t turn) → ending x 1 h.state.0 ≡ None → ((k : ℕ) → k < n → ending x 1 (turn_after Calls x k h.state.0).state ≡ None) → Stands shown x b (turn_after Calls x n h.state.0).state → turn + n < most_turns → IsAt shown x record t { board = b } (turn + n + 1)
   unfolding state_after
   went t turn n b h first on st few =
       let f = turns_ahead x h.start (suc n) turn h.state.0 (follows t turn h) (turns_made x n h.state.0 first on) in
@@ -68,11 +68,11 @@ module _ {X : Type 0} {H : X → Type 0} (shown : Shows X H) (x : Scenario) wher
       with_board t turn b (turn + n + 1) (turn_after Calls x n h.state.0).state h st (subst (λ m. Follows x m (turn_after Calls x n h.state.0).state) same f) (omega arith)
 
   -- and so does each of them
-  pub follows_after : (t : Timeline X H) (turn n : ℕ) → (h : IsAt shown x t turn) → ending x 1 h.state.0 ≡ None → ((k : ℕ) → k < n → ending x 1 (turn_after Calls x k h.state.0).state ≡ None) → (k : ℕ) → k ≤ n → Follows x (turn + k) (state_after Calls x k h.state.0)
+  pub follows_after : (t : Replay X H) (turn n : ℕ) → (h : IsAt shown x t turn) → ending x 1 h.state.0 ≡ None → ((k : ℕ) → k < n → ending x 1 (turn_after Calls x k h.state.0).state ≡ None) → (k : ℕ) → k ≤ n → Follows x (turn + k) (state_after Calls x k h.state.0)
   follows_after t turn n h first on k le = turns_ahead x h.start k turn h.state.0 (follows t turn h) (λ j lt. turns_made x n h.state.0 first on j (omega (arith, lt, le)))
 
   -- a board that stands where a run to turn `to` comes to
-  pub played : (t : Timeline X H) (turn : ℕ) (b : Board X H) (to : ℕ) → (h : IsAt shown x t turn) → turn ≤ to → to ≤ most_turns →
+  pub played : (t : Replay X H) (turn : ℕ) (b : Board X H) (to : ℕ) → (h : IsAt shown x t turn) → turn ≤ to → to ≤ most_turns →
       Stands shown x b (run_on x (to - h.state.0.turn) h.state.0) → Stands shown x b (run_on x (turns_of b - h.state.0.turn) h.state.0) → turns_of b ≤ to → IsAt shown x record t { board = b } (state_at x to).turn
   played t turn b to h le few last midway within = subst (λ n. IsAt shown x record t { board = b } n) end (by (turns_of b - turn) refl)
     where
@@ -103,17 +103,17 @@ module _ {X : Type 0} {H : X → Type 0} (shown : Shows X H) (x : Scenario) wher
           with_board t turn b (turns_of b) v h now (record { sane = now.sane; same = on; reached = there }) (omega arith)
 
   -- it stands at a turn until another one
-  pub record IsUntil (to : ℕ) (t : Timeline X H) : Type 0 where
+  pub record IsUntil (to : ℕ) (t : Replay X H) : Type 0 where
     pub at : IsAt shown x t (turns_of t.board)
     pub within : turns_of t.board ≤ to
 
-  pub until_first : (t : Timeline X H) (turn to : ℕ) → IsAt shown x t turn → turn ≤ to → IsUntil to t
+  pub until_first : (t : Replay X H) (turn to : ℕ) → IsAt shown x t turn → turn ≤ to → IsUntil to t
   until_first t turn to h le =
       let is = turns_at t turn h in
       record { at = subst (λ n. IsAt shown x t n) (sym is) h; within = omega arith }
 
   -- where it ended it is where the run comes to until that
-  pub until_end : (t : Timeline X H) (to : ℕ) (o : Option End) → IsUntil to t → is_some o ≡ true → o ≡ ending x (to - turns_of t.board) (state_at x (turns_of t.board)) → IsAt shown x t (state_at x to).turn
+  pub until_end : (t : Replay X H) (to : ℕ) (o : Option End) → IsUntil to t → is_some o ≡ true → o ≡ ending x (to - turns_of t.board) (state_at x (turns_of t.board)) → IsAt shown x t (state_at x to).turn
   until_end t to None h some is = absurd (cc)
   until_end t to (Some e) h some is =
       let ended : state_at x to ≡ state_at x (turns_of t.board) = ends_at x h.at.start (turns_of t.board) to e h.at.reached h.within (sym is) in
@@ -122,7 +122,7 @@ module _ {X : Type 0} {H : X → Type 0} (shown : Shows X H) (x : Scenario) wher
   -- ---- checkpoints
 
   -- what a board that stands at a turn is saved as is a checkpoint of it
-  is_saved : (t : Timeline X H) (turn : ℕ) (bytes : List ℕ) → IsAt shown x t turn → ((s : State) → Stands shown x t.board s → SpellsState x.setup (reduced s) bytes) → IsSaved x turn bytes
+  is_saved : (t : Replay X H) (turn : ℕ) (bytes : List ℕ) → IsAt shown x t turn → ((s : State) → Stands shown x t.board s → SpellsState x.setup (reduced s) bytes) → IsSaved x turn bytes
   is_saved t turn bytes h spells =
       let u = h.state.0 in
       record {
@@ -132,14 +132,14 @@ module _ {X : Type 0} {H : X → Type 0} (shown : Shows X H) (x : Scenario) wher
         most = h.most;
       }
 
-  pub is_kept : (t : Timeline X H) (turn : ℕ) (c : Checkpoint) → IsAt shown x t turn → c.turn ≡ Some (turns_of t.board) → ((s : State) → Stands shown x t.board s → SpellsState x.setup (reduced s) c.bytes.items) → IsKept x c
+  pub is_kept : (t : Replay X H) (turn : ℕ) (c : Checkpoint) → IsAt shown x t turn → c.turn ≡ Some (turns_of t.board) → ((s : State) → Stands shown x t.board s → SpellsState x.setup (reduced s) c.bytes.items) → IsKept x c
   is_kept t turn c h is spells =
       λ n e.
       let same : n ≡ turn = some_same n (turns_of t.board) (sym e ∙ is) ∙ turns_at t turn h in
       subst (λ k. IsSaved x k c.bytes.items) (sym same) (is_saved t turn c.bytes.items h spells)
 
   -- with one of the checkpoints but the first made anew
-  pub with_checkpoint : (t : Timeline X H) (turn place : ℕ) (kept : Vec Checkpoint Global) (c : Checkpoint) → IsAt shown x t turn → 0 < place → kept.items ≡ set t.kept.items place c → IsKept x c → IsAt shown x record t { kept = kept } turn
+  pub with_checkpoint : (t : Replay X H) (turn place : ℕ) (kept : Vec Checkpoint Global) (c : Checkpoint) → IsAt shown x t turn → 0 < place → kept.items ≡ set t.kept.items place c → IsKept x c → IsAt shown x record t { kept = kept } turn
   with_checkpoint t turn place kept c h behind is good =
       let other : 0 ≢ place = omega arith in
       record {
@@ -154,7 +154,7 @@ module _ {X : Type 0} {H : X → Type 0} (shown : Shows X H) (x : Scenario) wher
 
   -- ---- back
 
-  pub saved_at : (t : Timeline X H) (turn place from : ℕ) (d : Checkpoint) → IsAt shown x t turn → place < length t.kept.items → HoldsAt (λ c. c.turn ≡ Some from) t.kept.items place → IsSaved x from (get_or t.kept.items place d).bytes.items
+  pub saved_at : (t : Replay X H) (turn place from : ℕ) (d : Checkpoint) → IsAt shown x t turn → place < length t.kept.items → HoldsAt (λ c. c.turn ≡ Some from) t.kept.items place → IsSaved x from (get_or t.kept.items place d).bytes.items
   saved_at t turn place from d h inside is = (All-get_or (IsKept x) t.kept.items place d inside h.kept) from (is d)
 
   -- a run keeps which devices stand where
@@ -169,7 +169,7 @@ module _ {X : Type 0} {H : X → Type 0} (shown : Shows X H) (x : Scenario) wher
 
   -- no cause is found in the bytes of a checkpoint
   pub loadable : ((g : Setup) (s : State) (bytes : List ℕ) → Sane g s → IsCounted s → s.turn ≤ 1000000000 → length g.tasks ≤ 1024 → SpellsState g s bytes → state_fault (expected_of g s.devices) bytes ≡ None) →
-      (t : Timeline X H) (turn from : ℕ) (bytes : List ℕ) → (h : IsAt shown x t turn) → IsSaved x from bytes → state_fault (expected_of x.setup h.state.0.devices) bytes ≡ None
+      (t : Replay X H) (turn from : ℕ) (bytes : List ℕ) → (h : IsAt shown x t turn) → IsSaved x from bytes → state_fault (expected_of x.setup h.state.0.devices) bytes ≡ None
   loadable accepted t turn from bytes h saved =
       let u = h.state.0 in
       let s = reduced (state_at x from) in
@@ -179,7 +179,7 @@ module _ {X : Type 0} {H : X → Type 0} (shown : Shows X H) (x : Scenario) wher
       subst (λ (ks : List Kind). state_fault record (expected_of x.setup s.devices) { kinds = ks } bytes ≡ None) (kinds_in s.devices ∙ kinds ∙ sym (kinds_in u.devices)) none
 
   -- and the board stands at its turn then
-  pub loaded : (t : Timeline X H) (turn from : ℕ) (bytes : List ℕ) (b : Board X H) → IsAt shown x t turn → IsSaved x from bytes →
+  pub loaded : (t : Replay X H) (turn from : ℕ) (bytes : List ℕ) (b : Board X H) → IsAt shown x t turn → IsSaved x from bytes →
       ((u s : State) → Stands shown x t.board u → SpellsState x.setup s bytes → Sane x.setup s → IsCounted s → sites s.devices ≡ sites u.devices → Stands shown x b s) → IsAt shown x record t { board = b } from
   loaded t turn from bytes b h saved goes =
       let s = reduced (state_at x from) in

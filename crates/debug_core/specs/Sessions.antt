@@ -8,5 +8,5 @@ use Rattle.debug_core.specs.Times.{IsAt}
 
 -- its run stands at the cursor, and the breakpoints are those of the session
 pub record IsSession {X : Type 0} {H : X → Type 0} (shown : Shows X H) (x : Scenario) (d : Debugger X H) (s : Session) : Type 0 where
-  pub at : IsAt shown x d.timeline s.cursor
+  pub at : IsAt shown x d.replay s.cursor
   pub breakpoints : d.breakpoints.items ≡ s.breakpoints

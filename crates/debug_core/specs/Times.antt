@@ -8,8 +8,8 @@ use Rattle.board_model.specs.Script.{Scenario, start_of}
 use Rattle.board_core.specs.Data.{Shows}
 use Rattle.board_core.specs.Stands.{Stands}
 use Rattle.snapshot.specs.Saved.{SpellsState}
-use Rattle.debug_core.specs.declared.timeline.Checkpoint.{Checkpoint}
-use Rattle.debug_core.specs.declared.timeline.Timeline.{Timeline}
+use Rattle.debug_core.specs.declared.replay.Checkpoint.{Checkpoint}
+use Rattle.debug_core.specs.declared.replay.Replay.{Replay}
 use Rattle.debug_core.specs.Runs.{most_turns, state_at}
 
 -- bytes are what a board that stands at a turn of the run is saved as
@@ -33,7 +33,7 @@ IsKept x c = (turn : ℕ) → c.turn ≡ Some turn → IsSaved x turn c.bytes.it
 
 -- the board stands at a turn that the run reaches, for a state that is equal to the one there with births modulo 64; and the first
 -- checkpoint is of the start
-pub record IsAt {X : Type 0} {H : X → Type 0} (shown : Shows X H) (x : Scenario) (t : Timeline X H) (turn : ℕ) : Type 0 where
+pub record IsAt {X : Type 0} {H : X → Type 0} (shown : Shows X H) (x : Scenario) (t : Replay X H) (turn : ℕ) : Type 0 where
   pub state : (u : State) × Stands shown x t.board u × (reduced u ≡ reduced (state_at x turn))
   pub reached : (state_at x turn).turn ≡ turn
   pub most : turn ≤ most_turns

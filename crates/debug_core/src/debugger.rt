@@ -22,7 +22,7 @@ use crate::breakpoints::{Breakpoints, clear, set};
 use crate::command::{Command, Sought};
 use crate::commands::Commands;
 use crate::text::push_answer;
-use crate::timeline::Timeline;
+use crate::replay::Replay;
 use arrayvec::ArrayVec;
 use board_core::Board;
 use board_run::push_notes;
@@ -42,34 +42,34 @@ fn earlier(turn: u32, turns: u32) -> u32
 }
 
 /// Where the cursor is.
-fn here(timeline: &Timeline) -> Answer
-    requires { (x : Scenario) × (turn : ℕ) × IsAt (boxed shown) x timeline.now turn }
-    ensures { (x : Scenario) (turn : ℕ) → IsAt (boxed shown) x timeline.now turn → result ≡ at_turn x turn }
+fn here(replay: &Replay) -> Answer
+    requires { (x : Scenario) × (turn : ℕ) × IsAt (boxed shown) x replay.now turn }
+    ensures { (x : Scenario) (turn : ℕ) → IsAt (boxed shown) x replay.now turn → result ≡ at_turn x turn }
 {
     Answer::At {
-        turn: timeline.board.turns(),
-        now: timeline.board.now(),
-        end: timeline.ending(TURNS),
+        turn: replay.board.turns(),
+        now: replay.board.now(),
+        end: replay.ending(TURNS),
     }
 }
 
 /// To a turn, forwards or back, or to the end of the run before it.
-fn to_turn(timeline: &mut Timeline, turn: u32)
-    requires from { (x : Scenario) × (cursor : ℕ) × IsAt (boxed shown) x timeline.old cursor }
+fn to_turn(replay: &mut Replay, turn: u32)
+    requires from { (x : Scenario) × (cursor : ℕ) × IsAt (boxed shown) x replay.old cursor }
     requires few { turn ≤ 1000000000 }
-    ensures { (x : Scenario) (cursor : ℕ) → IsAt (boxed shown) x timeline.old cursor → IsAt (boxed shown) x timeline.new (forward x 0 turn) }
+    ensures { (x : Scenario) (cursor : ℕ) → IsAt (boxed shown) x replay.old cursor → IsAt (boxed shown) x replay.new (forward x 0 turn) }
 {
-    if turn < timeline.board.turns() {
-        timeline.back_to(turn);
+    if turn < replay.board.turns() {
+        replay.back_to(turn);
     } else {
-        timeline.go_to(turn);
+        replay.go_to(turn);
     }
 }
 
-fn registers(timeline: &Timeline, task: u16) -> Answer
-    ensures { (x : Scenario) (turn : ℕ) → IsAt (boxed shown) x timeline.now turn → result ≡ registers_of (state_at x turn) task }
+fn registers(replay: &Replay, task: u16) -> Answer
+    ensures { (x : Scenario) (turn : ℕ) → IsAt (boxed shown) x replay.now turn → result ≡ registers_of (state_at x turn) task }
 {
-    match timeline.board.task(usize::from(task)) {
+    match replay.board.task(usize::from(task)) {
         None => Answer::Absent,
         Some(view) => {
             let words = view.regs;
@@ -81,10 +81,10 @@ fn registers(timeline: &Timeline, task: u16) -> Answer
     }
 }
 
-fn task(timeline: &Timeline, task: u16) -> Answer
-    ensures { (x : Scenario) (turn : ℕ) → IsAt (boxed shown) x timeline.now turn → result ≡ task_of (state_at x turn) task }
+fn task(replay: &Replay, task: u16) -> Answer
+    ensures { (x : Scenario) (turn : ℕ) → IsAt (boxed shown) x replay.now turn → result ≡ task_of (state_at x turn) task }
 {
-    match timeline.board.task(usize::from(task)) {
+    match replay.board.task(usize::from(task)) {
         None => Answer::Absent,
         Some(view) => Answer::Task { task, view },
     }
@@ -161,7 +161,7 @@ fn bytes(board: &Board, at: u32, len: u8) -> Answer
 /// (docs/FORMATS.md, Commands). Where it has been it keeps states, from which it goes on when it goes back; no answer shows them.
 #[derive(Drop)]
 pub struct Debugger {
-    timeline: Timeline,
+    replay: Replay,
     breakpoints: Breakpoints,
 }
 
@@ -176,7 +176,7 @@ impl Debugger {
         ensures { (x : Scenario) → Stands (boxed shown) x board (start_of x) → IfOk result (λ d. IsSession (boxed shown) x d opened) }
     {
         Ok(Debugger {
-            timeline: Timeline::open(alloc, board)?,
+            replay: Replay::open(alloc, board)?,
             breakpoints: ArrayVec::new(),
         })
     }
@@ -186,7 +186,7 @@ impl Debugger {
         ensures limit { (x : Scenario) (s : Session) → IsSession (boxed shown) x self.now s → result ≡ min (s.cursor + turns) 1000000000 }
         ensures few { result ≤ 1000000000 }
     {
-        self.timeline.board.turns().saturating_add(turns).min(TURNS)
+        self.replay.board.turns().saturating_add(turns).min(TURNS)
     }
 
     fn step(&mut self, turns: u32) -> Answer
@@ -195,8 +195,8 @@ impl Debugger {
         ensures session { (x : Scenario) (s : Session) → IsSession (boxed shown) x self.old s → IsSession (boxed shown) x self.new (after x s (Command.Step turns)) }
     {
         let to = self.limit(turns);
-        self.timeline.go_to(to);
-        here(&self.timeline)
+        self.replay.go_to(to);
+        here(&self.replay)
     }
 
     fn back(&mut self, turns: u32) -> Answer
@@ -204,9 +204,9 @@ impl Debugger {
         ensures answer { (x : Scenario) (s : Session) → IsSession (boxed shown) x self.old s → result ≡ answer x s (Command.Back turns) }
         ensures session { (x : Scenario) (s : Session) → IsSession (boxed shown) x self.old s → IsSession (boxed shown) x self.new (after x s (Command.Back turns)) }
     {
-        let to = earlier(self.timeline.board.turns(), turns);
-        self.timeline.back_to(to);
-        here(&self.timeline)
+        let to = earlier(self.replay.board.turns(), turns);
+        self.replay.back_to(to);
+        here(&self.replay)
     }
 
     fn go(&mut self, turns: u32) -> Answer
@@ -215,10 +215,10 @@ impl Debugger {
         ensures session { (x : Scenario) (s : Session) → IsSession (boxed shown) x self.old s → IsSession (boxed shown) x self.new (after x s (Command.Go turns)) }
     {
         let to = self.limit(turns);
-        match self.timeline.go_to_hit(self.breakpoints.as_slice(), to) {
-            None => here(&self.timeline),
+        match self.replay.go_to_hit(self.breakpoints.as_slice(), to) {
+            None => here(&self.replay),
             Some((task, at)) => Answer::Hit {
-                turn: self.timeline.board.turns(),
+                turn: self.replay.board.turns(),
                 task,
                 at,
             },
@@ -231,8 +231,8 @@ impl Debugger {
         ensures answer { (x : Scenario) (s : Session) → IsSession (boxed shown) x self.old s → result ≡ answer x s (Command.At turn) }
         ensures session { (x : Scenario) (s : Session) → IsSession (boxed shown) x self.old s → IsSession (boxed shown) x self.new (after x s (Command.At turn)) }
     {
-        to_turn(&mut self.timeline, turn);
-        here(&self.timeline)
+        to_turn(&mut self.replay, turn);
+        here(&self.replay)
     }
 
     fn go_for(&mut self, turns: u32, sought: &Sought) -> Answer
@@ -240,12 +240,12 @@ impl Debugger {
         ensures answer { (x : Scenario) (s : Session) → IsSession (boxed shown) x self.old s → result ≡ answer x s (Command.GoFor turns sought.now) }
         ensures session { (x : Scenario) (s : Session) → IsSession (boxed shown) x self.old s → IsSession (boxed shown) x self.new (after x s (Command.GoFor turns sought.now)) }
     {
-        if !self.timeline.can_find(sought) {
+        if !self.replay.can_find(sought) {
             return Answer::Absent;
         }
         let to = self.limit(turns);
-        match self.timeline.go_for(sought, to) {
-            None => here(&self.timeline),
+        match self.replay.go_for(sought, to) {
+            None => here(&self.replay),
             Some(answer) => answer,
         }
     }
@@ -255,12 +255,12 @@ impl Debugger {
         ensures answer { (x : Scenario) (s : Session) → IsSession (boxed shown) x self.old s → result ≡ answer x s (Command.BackFor turns sought.now) }
         ensures session { (x : Scenario) (s : Session) → IsSession (boxed shown) x self.old s → IsSession (boxed shown) x self.new (after x s (Command.BackFor turns sought.now)) }
     {
-        if !self.timeline.can_find(sought) {
+        if !self.replay.can_find(sought) {
             return Answer::Absent;
         }
-        let to = earlier(self.timeline.board.turns(), turns);
-        match self.timeline.back_for(sought, to) {
-            None => here(&self.timeline),
+        let to = earlier(self.replay.board.turns(), turns);
+        match self.replay.back_for(sought, to) {
+            None => here(&self.replay),
             Some(answer) => answer,
         }
     }
@@ -282,11 +282,11 @@ impl Debugger {
             Command::GoFor { turns, sought } => self.go_for(*turns, sought),
             Command::BackFor { turns, sought } => self.back_for(*turns, sought),
             Command::Notes => Answer::Absent,
-            Command::Regs { task } => registers(&self.timeline, *task),
-            Command::Task { task: i } => task(&self.timeline, *i),
-            Command::Irq { line } => irq(&self.timeline.board, *line),
-            Command::Device { device: k } => device(&self.timeline.board, *k),
-            Command::Mem { at, len } => bytes(&self.timeline.board, *at, *len),
+            Command::Regs { task } => registers(&self.replay, *task),
+            Command::Task { task: i } => task(&self.replay, *i),
+            Command::Irq { line } => irq(&self.replay.board, *line),
+            Command::Device { device: k } => device(&self.replay.board, *k),
+            Command::Mem { at, len } => bytes(&self.replay.board, *at, *len),
         }
     }
 
@@ -297,13 +297,13 @@ impl Debugger {
         ensures session { (x : Scenario) (s : Session) → IsSession (boxed shown) x self.old s → IsSession (boxed shown) x self.new s }
         ensures cause { HasCause (S.seen out.old).faults (S.seen out.new).faults result }
     {
-        match self.timeline.board.turns().checked_sub(1) {
+        match self.replay.board.turns().checked_sub(1) {
             None => push_answer(&Answer::Absent, out),
             Some(turn) => {
-                self.timeline.back_to(turn);
-                self.timeline.make_turn();
+                self.replay.back_to(turn);
+                self.replay.make_turn();
                 let mut lines = TurnLines::new(turn);
-                push_notes(turn, self.timeline.board.notes(), &mut lines, out)
+                push_notes(turn, self.replay.board.notes(), &mut lines, out)
             }
         }
     }

@@ -11,7 +11,7 @@ mod line;
 mod live;
 mod searching;
 mod text;
-mod timeline;
+mod replay;
 
 pub use answer::Answer;
 pub use command::{Command, CommandFault, NoteKind, Sought};

@@ -14,7 +14,7 @@ ghost use Rattle.debug_core.specs.Times.{IsAt};
 
 use crate::answer::Answer;
 use crate::command::{NoteKind, Sought};
-use crate::timeline::{Timeline, stop_before};
+use crate::replay::{Replay, stop_before};
 use board_core::Level;
 use kernel_abi::Note;
 
@@ -93,7 +93,7 @@ fn first_sought(kind: NoteKind, number: Option<u32>, notes: &[Note]) -> Option<N
         .find(|note| is_sought(kind, number, note))
 }
 
-impl Timeline {
+impl Replay {
     /// There can be such a turn.
     pub(crate) fn can_find(&self, sought: &Sought) -> bool
         ensures { (x : Scenario) (turn : ℕ) → IsAt (boxed shown) x self.now turn → result ≡ can_be sought.now (state_at x turn).memory }

@@ -5,7 +5,7 @@
 ghost use Rattle.std.specs.Prelude.{◌≡◌, ◌<◌, IfSome};
 ghost use Rattle.task_table.specs.model.State.{Setup, Turn};
 ghost use Rattle.task_table.specs.model.Reading.{chosen, best_sender};
-ghost use Rattle.task_table.specs.kept.Holds.{Holds, Stands, Stood, task_count};
+ghost use Rattle.task_table.specs.kept.Holds.{Holds, Stands, StandsForSome, task_count};
 
 use task_table::{Kernel, first_around};
 
@@ -21,7 +21,7 @@ pub fn choose(k: &Kernel) -> Option<usize>
 /// of those that do and have the lowest priority number (Hubris Reference, on RECV) the first after the
 /// receiver, cyclically (this project's profile).
 pub fn best_sender(k: &Kernel, receiver: usize) -> Option<usize>
-    requires stood { Stood k.now }
+    requires stood { StandsForSome k.now }
     requires there { receiver < task_count k.now }
     ensures best { (g : Setup) (t : Turn) → Stands g k.now t → result ≡ best_sender g t.state receiver }
     ensures inside { IfSome result (λ i. i < task_count k.now) }

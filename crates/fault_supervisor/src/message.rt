@@ -6,7 +6,7 @@ ghost use Rattle.mem_banks.specs.Memory.{IsWithinRam};
 ghost use Rattle.task_table.specs.model.State.{Setup, Turn};
 ghost use Rattle.task_table.specs.model.Reading.{is_faulted};
 ghost use Rattle.task_table.specs.model.Requests.{request_of, word_bytes, status_bytes, injected, first_faulted, fault_found, served, requested};
-ghost use Rattle.task_table.specs.kept.Holds.{Holds, Stands, Stood, task_count, note_count, memory_of};
+ghost use Rattle.task_table.specs.kept.Holds.{Holds, Stands, StandsForSome, task_count, note_count, memory_of};
 ghost use Rattle.task_table.specs.kept.Limits.{syscall_notes, turn_notes};
 ghost use Rattle.task_table.specs.kept.Frames.{AddsNotes, AddsAtMost};
 ghost use Rattle.task_table.specs.kept.Calls.{MayCall, Performs};
@@ -218,7 +218,7 @@ fn serve(k: &mut Kernel, caller: usize, args: &SendArgs, request: Request)
 fn hear_request(k: &mut Kernel, caller: usize, args: &SendArgs)
     requires there { caller < task_count k.old }
     requires room { note_count k.old + syscall_notes ≤ turn_notes }
-    requires stood { Stood k.old }
+    requires stood { StandsForSome k.old }
     ensures holds { (g : Setup) (t : Turn) → Stands g k.old t → Holds g k.new (heard g caller args.now t) }
     ensures frame { AddsAtMost k.old syscall_notes k.new }
 {
@@ -246,10 +246,10 @@ fn hear_request(k: &mut Kernel, caller: usize, args: &SendArgs)
 }
 
 /// A kernel message to a kernel that stands.
-fn take_request(k: &mut Kernel, caller: usize)
+fn kernel_message_rows(k: &mut Kernel, caller: usize)
     requires there { caller < task_count k.old }
     requires room { note_count k.old + syscall_notes ≤ turn_notes }
-    requires stood { Stood k.old }
+    requires stood { StandsForSome k.old }
     ensures holds { (g : Setup) (t : Turn) → Stands g k.old t → Holds g k.new (requested g caller t) }
     ensures frame { AddsAtMost k.old syscall_notes k.new }
 {
@@ -274,5 +274,5 @@ pub fn kernel_message(k: &mut Kernel, caller: usize)
     requires { MayCall k.old caller }
     ensures { Performs requested k.old caller k.new }
 {
-    take_request(k, caller);
+    kernel_message_rows(k, caller);
 }

@@ -5,7 +5,7 @@ use Rattle.std.proofs.lemmas.Bool.{cases_Bool, eqb-true, ne_eqb}
 use Rattle.app_toml.specs.Accepted.{IsAccepted}
 use Rattle.app_toml.specs.Apps.{AppData, InterruptData}
 use Rattle.app_toml.specs.Relations.{Relations}
-use Rattle.image_format.specs.Picture.{LinePicture, line_record}
+use Rattle.image_format.specs.ImageData.{ImageLine, line_record}
 use Rattle.image_format.specs.Steps.{line_fault, lines_from}
 use Rattle.image_format.specs.declared.records.ImageForm.TheVariants.{Second}
 use Rattle.image_build.specs.Building.{IsOwned}
@@ -17,8 +17,8 @@ use Rattle.image_build.proofs.Walking.{Each, IsOf, Pairs, both, line_none}
 
 -- ---- interrupts
 
-abbrev AtMost : ℕ → ℕ → List LinePicture → Type 0
-AtMost line tasks ls = (ls ≡ []) ⊎ ((l : LinePicture) × (ls ≡ l ∷ []) × IsOf line tasks l)
+abbrev AtMost : ℕ → ℕ → List ImageLine → Type 0
+AtMost line tasks ls = (ls ≡ []) ⊎ ((l : ImageLine) × (ls ≡ l ∷ []) × IsOf line tasks l)
 
 no_more : (line : ℕ) (x : InterruptData) (xs : List InterruptData) → x.line ≡ line → Each (λ j. x.line ≢ j.line) xs → filter (λ i. i.line == line) xs ≡ []
 no_more line x [] is other = refl
@@ -40,30 +40,30 @@ one_line app line (x ∷ xs) apart known = elim (cases_Bool (x.line == line)) [
   | inr miss ↦ rw miss (one_line app line xs apart.1 known.1)
 ]
 
-pub lines_none : (at : ℕ → List LinePicture) (tasks : ℕ) → ((line : ℕ) → AtMost line tasks (at line)) → (n line least place : ℕ) → least ≤ line → line + n ≤ 64
+pub lines_none : (at : ℕ → List ImageLine) (tasks : ℕ) → ((line : ℕ) → AtMost line tasks (at line)) → (n line least place : ℕ) → least ≤ line → line + n ≤ 64
     → lines_from Second least tasks place (map line_record (flat_map at (range_with_len line n))) ≡ None
 lines_none at tasks most zero line least place low high = refl
 lines_none at tasks most (suc n) line least place low high =
     step (most line) (lines_none at tasks most n (line + 1) least place (omega (arith, low)) (omega (arith, high)))
     (lines_none at tasks most n (line + 1) (line + 1) (place + 8) (omega arith) (omega (arith, high)))
   where
-    rest : List LinePicture
+    rest : List ImageLine
     rest = flat_map at (range_with_len (line + 1) n)
 
     step : AtMost line tasks (at line) → lines_from Second least tasks place (map line_record rest) ≡ None → lines_from Second (line + 1) tasks (place + 8) (map line_record rest) ≡ None
         → lines_from Second least tasks place (map line_record (at line ++ rest)) ≡ None
-    step (inl none) skipped next = subst (λ (ls : List LinePicture). lines_from Second least tasks place (map line_record (ls ++ rest)) ≡ None) (sym none) skipped
+    step (inl none) skipped next = subst (λ (ls : List ImageLine). lines_from Second least tasks place (map line_record (ls ++ rest)) ≡ None) (sym none) skipped
     step (inr (l, is, g)) skipped next =
-        subst (λ (ls : List LinePicture). lines_from Second least tasks place (map line_record (ls ++ rest)) ≡ None) (sym is)
+        subst (λ (ls : List ImageLine). lines_from Second least tasks place (map line_record (ls ++ rest)) ≡ None) (sym is)
         (both (line_fault Second least tasks (line_record l) place) (lines_from Second (l.line + 1) tasks (place + 8) (map line_record rest))
         (line_none least tasks line l place low (omega (arith, high)) g)
         (subst (λ (k : ℕ). lines_from Second (k + 1) tasks (place + 8) (map line_record rest) ≡ None) (sym g.is) next))
 
-pub few_lines : (at : ℕ → List LinePicture) (tasks : ℕ) → ((line : ℕ) → AtMost line tasks (at line)) → (n line : ℕ) → length (flat_map at (range_with_len line n)) ≤ n
+pub few_lines : (at : ℕ → List ImageLine) (tasks : ℕ) → ((line : ℕ) → AtMost line tasks (at line)) → (n line : ℕ) → length (flat_map at (range_with_len line n)) ≤ n
 few_lines at tasks most zero line = omega arith
 few_lines at tasks most (suc n) line = omega (arith, length-append (at line) (flat_map at (range_with_len (line + 1) n)), one (at line) (most line), few_lines at tasks most n (line + 1))
   where
-    one : (ls : List LinePicture) → AtMost line tasks ls → length ls ≤ 1
+    one : (ls : List ImageLine) → AtMost line tasks ls → length ls ≤ 1
     one ls (inl none) = omega (arith, ap length none)
     one ls (inr (l, is, g)) = omega (arith, ap length is)
 

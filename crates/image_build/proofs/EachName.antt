@@ -10,7 +10,7 @@ use Rattle.app_toml.specs.Places.{Text}
 use Rattle.app_toml.specs.Relations.{Relations}
 use Rattle.app_toml.specs.Sites.{task_of}
 use Rattle.app_toml.specs.declared.parts.TaskSpec.{TaskSpec}
-use Rattle.image_format.specs.Picture.{TaskPicture, all_names, name_bytes, names_bytes}
+use Rattle.image_format.specs.ImageData.{ImageTask, all_names, name_bytes, names_bytes}
 use Rattle.image_format.proofs.Named.{AreNames}
 use Rattle.image_build.specs.Built.{tasks_from}
 use Rattle.image_build.specs.Layout.{no_task, task_at}
@@ -53,7 +53,7 @@ names_size : (names : List Text) → Each IsName names → length (names_bytes n
 names_size [] h = omega arith
 names_size (n ∷ ns) h = omega (arith, length-append (name_bytes n) (names_bytes ns), short n h.0, names_size ns h.1)
 
-all_size : (ts : List TaskPicture) → Each (λ t. length (names_bytes t.names) ≤ 800) ts → length (all_names ts) ≤ 800 * length ts
+all_size : (ts : List ImageTask) → Each (λ t. length (names_bytes t.names) ≤ 800) ts → length (all_names ts) ≤ 800 * length ts
 all_size [] h = omega arith
 all_size (t ∷ ts) h = omega (arith, length-append (names_bytes t.names) (all_names ts), h.0, all_size ts h.1)
 

@@ -4,7 +4,7 @@ use Rattle.std.proofs.lemmas.Bool.{and_from, le-leb, lt-ltb, ne_eqb, or_left}
 use Rattle.app_toml.specs.Accepted.{IsAccepted}
 use Rattle.app_toml.specs.Apps.{AppData}
 use Rattle.app_toml.specs.Relations.{HasDevices, Relations}
-use Rattle.image_format.specs.Picture.{region_record}
+use Rattle.image_format.specs.ImageData.{region_record}
 use Rattle.image_format.specs.Regions.{meets, runs_at}
 use Rattle.image_format.specs.declared.records.RegionRecord.{RegionRecord}
 use Rattle.mem_plan.specs.Sizes.{rounded}

@@ -4,7 +4,7 @@ use Rattle.std.proofs.lemmas.List.{length-map}
 use Rattle.app_toml.specs.Accepted.{IsAccepted}
 use Rattle.app_toml.specs.Apps.{AppData, TaskData}
 use Rattle.app_toml.specs.Relations.{Relations}
-use Rattle.image_format.specs.Picture.{TaskPicture, bit, task_record}
+use Rattle.image_format.specs.ImageData.{ImageTask, bit, task_record}
 use Rattle.image_build.specs.Building.{IsLaid}
 use Rattle.image_build.specs.Built.{task_built, tasks_from}
 use Rattle.image_build.specs.Layout.{flash_base, named, no_task, ram_base, task_at, task_regions}
@@ -20,7 +20,7 @@ at_zero P i h = let e : i ≡ 0 + i = omega arith in subst P e h
 
 -- ---- the tasks that are built
 
-pub each_built : (app : AppData) (P : TaskPicture → Type 0) (k : ℕ) (ts : List TaskData) → ((i : ℕ) → i < length ts → P (task_built app (k + i) (get_or ts i no_task)))
+pub each_built : (app : AppData) (P : ImageTask → Type 0) (k : ℕ) (ts : List TaskData) → ((i : ℕ) → i < length ts → P (task_built app (k + i) (get_or ts i no_task)))
     → Each P (tasks_from app k ts)
 each_built app P k [] h = tt
 each_built app P k (t ∷ ts) h =

@@ -12,7 +12,7 @@ use Rattle.app_toml.specs.Sites.{interrupt_of, region_of, task_of}
 use Rattle.app_toml.specs.declared.parts.LineSpec.{LineSpec}
 use Rattle.app_toml.specs.declared.parts.RegionSpec.{RegionSpec}
 use Rattle.app_toml.specs.declared.parts.TaskSpec.{TaskSpec}
-use Rattle.image_format.specs.Picture.{LinePicture, bit, line_record, task_record}
+use Rattle.image_format.specs.ImageData.{ImageLine, bit, line_record, task_record}
 use Rattle.image_format.specs.declared.records.LineRecord.{LineRecord}
 use Rattle.image_format.specs.declared.records.TaskRecord.{TaskRecord}
 use Rattle.thumb_asm.specs.Meaning.{Names}
@@ -132,19 +132,19 @@ region_more app names more all rs k v item lt at_k at is before =
     subst (λ (xs : List RegionSpec). names ++ region_symbols app k (map region_of xs) ≡ all) split before in
     ap (λ (ns : Names). ns ++ rest) (is ∙ ap (λ (n : ℕ). names ++ (name, n) ∷ []) at) ∙ append_assoc names ((name, region_base app k) ∷ []) rest ∙ here
 
-pub lines_more : (at : ℕ → List LinePicture) (out more all : List LineRecord) (line : ℕ) → line < 64 → more ≡ out ++ map line_record (at line)
+pub lines_more : (at : ℕ → List ImageLine) (out more all : List LineRecord) (line : ℕ) → line < 64 → more ≡ out ++ map line_record (at line)
     → out ++ map line_record (flat_map at (range_with_len line (64 - line))) ≡ all
     → more ++ map line_record (flat_map at (range_with_len (line + 1) (64 - (line + 1)))) ≡ all
 lines_more at out more all line lt is before =
     let m = 64 - (line + 1) in
-    let rest : List LinePicture = flat_map at (range_with_len (line + 1) m) in
+    let rest : List ImageLine = flat_map at (range_with_len (line + 1) m) in
     let e : 64 - line ≡ suc m = omega (arith, lt) in
     let here : out ++ map line_record (at line ++ rest) ≡ all =
     subst (λ (n : ℕ). out ++ map line_record (flat_map at (range_with_len line n)) ≡ all) e before in
     ap (λ (o : List LineRecord). o ++ map line_record rest) is ∙ append_assoc out (map line_record (at line)) (map line_record rest)
     ∙ ap (λ (x : List LineRecord). out ++ x) (sym (map-append line_record (at line) rest)) ∙ here
 
-pub lines_end : (at : ℕ → List LinePicture) (out all : List LineRecord) (line : ℕ) → 64 ≤ line
+pub lines_end : (at : ℕ → List ImageLine) (out all : List LineRecord) (line : ℕ) → 64 ≤ line
     → out ++ map line_record (flat_map at (range_with_len line (64 - line))) ≡ all → out ≡ all
 lines_end at out all line le before =
     let e : 64 - line ≡ 0 = omega (arith, le) in

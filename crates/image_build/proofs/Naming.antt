@@ -11,7 +11,7 @@ use Rattle.app_toml.specs.Apps.{AppData, DeviceData, RegionData, TaskData}
 use Rattle.app_toml.specs.Crossed.{has_device, has_region}
 use Rattle.app_toml.specs.Places.{Text}
 use Rattle.app_toml.specs.Relations.{AreApart, HasOwnNames}
-use Rattle.image_format.specs.Picture.{region_record}
+use Rattle.image_format.specs.ImageData.{region_record}
 use Rattle.image_format.specs.declared.records.RegionRecord.{RegionRecord}
 use Rattle.mem_plan.specs.Sizes.{rounded}
 use Rattle.image_build.specs.Building.{IsKnown}

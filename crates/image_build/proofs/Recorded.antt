@@ -11,7 +11,7 @@ use Rattle.app_toml.specs.Places.{Text}
 use Rattle.app_toml.specs.Sites.{device_of, region_of}
 use Rattle.app_toml.specs.declared.parts.DeviceSpec.{DeviceSpec}
 use Rattle.app_toml.specs.declared.parts.RegionSpec.{RegionSpec}
-use Rattle.image_format.specs.Picture.{all_regions, region_record, rights_number}
+use Rattle.image_format.specs.ImageData.{all_regions, region_record, rights_number}
 use Rattle.image_format.specs.declared.records.RegionRecord.{RegionRecord}
 use Rattle.mem_plan.specs.Sizes.{rounded}
 use Rattle.region_check.specs.declared.Region.{Region}

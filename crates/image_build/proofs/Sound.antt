@@ -5,7 +5,7 @@ use Rattle.app_toml.specs.Accepted.{IsAccepted}
 use Rattle.app_toml.specs.Apps.{AppData}
 use Rattle.app_toml.specs.Relations.{Relations}
 use Rattle.image_format.specs.Names.{names_fault}
-use Rattle.image_format.specs.Picture.{Picture, Sound, TaskPicture, all_names, all_regions, header_of, line_record, records_of, region_record, task_record}
+use Rattle.image_format.specs.ImageData.{ImageData, Sound, ImageTask, all_names, all_regions, header_of, line_record, records_of, region_record, task_record}
 use Rattle.image_format.specs.Records.{records_fault}
 use Rattle.image_format.specs.Regions.{entries_fault, regions_fault}
 use Rattle.image_format.specs.Steps.{count_fault, field_fault, lines_fault, lines_from, lines_place, tasks_fault}
@@ -16,7 +16,7 @@ use Rattle.image_format.specs.declared.records.LineRecord.{LineRecord}
 use Rattle.image_format.specs.declared.records.RegionRecord.{RegionRecord}
 use Rattle.image_format.specs.declared.records.TaskRecord.{TaskRecord}
 use Rattle.image_build.specs.Building.{Holds, IsLaid}
-use Rattle.image_build.specs.Built.{Built, lines_at, lines_built, picture_built, task_built, tasks_from}
+use Rattle.image_build.specs.Built.{Built, lines_at, lines_built, image_data_built, task_built, tasks_from}
 use Rattle.image_build.specs.Layout.{flash_needed, task_at, task_regions}
 use Rattle.image_build.specs.declared.layout.Layout.{Layout}
 use Rattle.image_build.proofs.Known.{few_regions, few_tasks, some_task}
@@ -31,7 +31,7 @@ use Rattle.image_build.proofs.EachTask.{at_zero, built_at, built_count, each_bui
 
 -- ---- how many regions
 
-counts : (ts : List TaskPicture) → Each (λ t. (1 ≤ length t.regions) × (length t.regions ≤ 8)) ts
+counts : (ts : List ImageTask) → Each (λ t. (1 ≤ length t.regions) × (length t.regions ≤ 8)) ts
     → (length ts ≤ length (all_regions ts)) × (length (all_regions ts) ≤ 8 * length ts)
 counts [] each = (omega arith, omega arith)
 counts (t ∷ ts) each =
@@ -73,21 +73,21 @@ are_few app a r =
 -- ---- the whole
 
 header_none : (app : AppData) (layout : Layout) → IsLaid app layout → IsAccepted app → Relations app → (flash : List ℕ) → length flash ≡ flash_needed app
-    → field_fault (header_of Second (picture_built app flash)) ≡ None
+    → field_fault (header_of Second (image_data_built app flash)) ≡ None
 unfolding field_fault
 header_none app layout l a r flash whole =
     let n = built_count app 0 app.tasks in
     let c = region_counts app a in
     let first_task = some_task app a in
     let code : 1 ≤ flash_needed app = omega (arith, flash_end app layout 0 l first_task, l.flash.low 0 (omega (arith, first_task, flash_count app)), some_size (task_at app 0).flash) in
-    fields_none (header_of Second (picture_built app flash)) (omega (arith, n, first_task)) (omega (arith, n, few_tasks app a))
+    fields_none (header_of Second (image_data_built app flash)) (omega (arith, n, first_task)) (omega (arith, n, few_tasks app a))
     (few_lines (lines_at app) (length app.tasks) (at_most app a r) 64 0) c.0 c.1 refl
     (omega (arith, whole, code)) (omega (arith, whole, flash_most app layout l a)) (ram_most app layout l a) (pow_pos _) (are_few app a r).names
 
 records_none : (app : AppData) (layout : Layout) → IsLaid app layout → IsAccepted app → Relations app → (flash : List ℕ) → length flash ≡ flash_needed app
-    → records_fault (records_of Second (picture_built app flash)) ≡ None
+    → records_fault (records_of Second (image_data_built app flash)) ≡ None
 records_none app layout l a r flash whole =
-    let p = picture_built app flash in
+    let p = image_data_built app flash in
     let h = header_of Second p in
     let ts = tasks_from app 0 app.tasks in
     let all = map region_record (all_regions ts) in
@@ -108,7 +108,7 @@ records_none app layout l a r flash whole =
     both _ _ tasks (both _ _ count (both _ _ regions (both _ _ entries (both _ _ lines names))))
 
 pub sound_built : (app : AppData) (layout : Layout) → IsLaid app layout → IsAccepted app → Relations app → (flash : List ℕ) → length flash ≡ flash_needed app
-    → Sound (picture_built app flash)
+    → Sound (image_data_built app flash)
 sound_built app layout l a r flash whole = record {
   tasks = length-map (tasks_from app 0 app.tasks) task_record;
   regions = length-map (all_regions (tasks_from app 0 app.tasks)) region_record;
@@ -122,12 +122,12 @@ sound_built app layout l a r flash whole = record {
 -- ---- the records that are made
 
 pub records_made : (app : AppData) (flash : List ℕ) (h : Header) (ts : List TaskRecord) (rs : List RegionRecord) (ls : List LineRecord) (ns : List ℕ)
-    → h ≡ header_of Second (picture_built app flash) → ts ≡ map task_record (tasks_from app 0 app.tasks) → rs ≡ map region_record (all_regions (tasks_from app 0 app.tasks))
+    → h ≡ header_of Second (image_data_built app flash) → ts ≡ map task_record (tasks_from app 0 app.tasks) → rs ≡ map region_record (all_regions (tasks_from app 0 app.tasks))
     → ls ≡ map line_record (lines_built app) → ns ≡ all_names (tasks_from app 0 app.tasks)
-    → records_of Second (picture_built app flash) ≡ record { header = h; tasks = ts; regions = rs; lines = ls; names = ns; flash = flash }
+    → records_of Second (image_data_built app flash) ≡ record { header = h; tasks = ts; regions = rs; lines = ls; names = ns; flash = flash }
 records_made app flash h ts rs ls ns a b c d e = rw (a, b, c, d, e) refl
 
-pub built_as : (app : AppData) (sources : List (List ℕ)) (flash : List ℕ) (p : Picture) → p ≡ picture_built app flash → length app.tasks ≡ length sources → Holds app sources flash
+pub built_as : (app : AppData) (sources : List (List ℕ)) (flash : List ℕ) (p : ImageData) → p ≡ image_data_built app flash → length app.tasks ≡ length sources → Holds app sources flash
     → Built app sources p
 built_as app sources flash p is count h =
     subst (Built app sources) (sym is)

@@ -5,7 +5,7 @@ use Rattle.std.specs.Prelude.{⊤, All}
 use Rattle.std.proofs.lemmas.Bool.{and_left, and_right, cases_eq, eq-eqb, le-ltb, lt-leb, ne_eqb, or_from, not_from_true}
 use Rattle.std.proofs.lemmas.List.Folds.{list_any-append}
 use Rattle.std.proofs.lemmas.List.Sums.{sum_by-cons}
-use Rattle.image_format.specs.Picture.{LinePicture, TaskPicture, all_regions, line_record, region_record, task_record}
+use Rattle.image_format.specs.ImageData.{ImageLine, ImageTask, all_regions, line_record, region_record, task_record}
 use Rattle.image_format.specs.Regions.{clashes, cuts, entries_from, entry_fault, has_area, has_rights, has_shape, meets, own_fault, region_fault, regions_from, runs_at}
 use Rattle.image_format.specs.Steps.{Refusal, count_fault, counted, line_fault, or_else, second_field_fault, task_fault, tasks_from}
 use Rattle.image_format.specs.declared.records.ImageForm.TheVariants.{Second}
@@ -118,7 +118,7 @@ tasks_none index place (t ∷ ts) each =
 
 -- ---- the number of regions
 
-pub counted_all : (ts : List TaskPicture) → counted (map task_record ts) ≡ length (all_regions ts)
+pub counted_all : (ts : List ImageTask) → counted (map task_record ts) ≡ length (all_regions ts)
 counted_all [] = refl
 counted_all (t ∷ ts) =
     omega (arith, sum_by-cons (λ (r : TaskRecord). r.regions) (task_record t) (map task_record ts), counted_all ts, length-append t.regions (all_regions ts))
@@ -161,12 +161,12 @@ nothing_met [] = tt
 nothing_met (r ∷ rs) = (refl, nothing_met rs)
 
 -- a task's regions: each is one of those, and no two meet
-pub record HasOwn (L : RegionRecord → Type 0) (t : TaskPicture) : Type 0 where
+pub record HasOwn (L : RegionRecord → Type 0) (t : ImageTask) : Type 0 where
   pub each : Each L (map region_record t.regions)
   pub apart : Pairs (λ r e. meets e r ≡ false) (map region_record t.regions)
 
 pub regions_none : (h : Header) (L : RegionRecord → Type 0) → ((r : RegionRecord) → L r → IsFine h r) → ((r e : RegionRecord) → L r → L e → cuts r e ≡ false)
-    → (others : List RegionRecord) → Each L others → (place : ℕ) (ts : List TaskPicture) → Each (HasOwn L) ts
+    → (others : List RegionRecord) → Each L others → (place : ℕ) (ts : List ImageTask) → Each (HasOwn L) ts
     → regions_from h others place (map task_record ts) (map region_record (all_regions ts)) ≡ None
 regions_none h L fine whole others known place [] each = refl
 regions_none h L fine whole others known place (t ∷ ts) each =
@@ -186,14 +186,14 @@ regions_none h L fine whole others known place (t ∷ ts) each =
 
 -- ---- entries
 
-pub record Runs (t : TaskPicture) : Type 0 where
+pub record Runs (t : ImageTask) : Type 0 where
   pub odd : (t.entry % 2 == 0) ≡ false
   pub inside : list_any (runs_at t.entry) (map region_record t.regions) ≡ true
 
 entry_none : (own : List RegionRecord) (t : TaskRecord) (place : ℕ) → (t.entry % 2 == 0) ≡ false → list_any (runs_at t.entry) own ≡ true → entry_fault own t place ≡ None
 entry_none own t place odd inside = rw (odd, inside) refl
 
-pub entries_none : (place : ℕ) (ts : List TaskPicture) → Each Runs ts → entries_from place (map task_record ts) (map region_record (all_regions ts)) ≡ None
+pub entries_none : (place : ℕ) (ts : List ImageTask) → Each Runs ts → entries_from place (map task_record ts) (map region_record (all_regions ts)) ≡ None
 entries_none place [] each = refl
 entries_none place (t ∷ ts) each =
     let rest = all_regions ts in
@@ -206,12 +206,12 @@ entries_none place (t ∷ ts) each =
 
 -- ---- interrupts
 
-pub record IsOf (line tasks : ℕ) (l : LinePicture) : Type 0 where
+pub record IsOf (line tasks : ℕ) (l : ImageLine) : Type 0 where
   pub is : l.line ≡ line
   pub owner : l.task < tasks
   pub bits : 0 < l.bits
 
-pub line_none : (least tasks line : ℕ) (l : LinePicture) (place : ℕ) → least ≤ line → line < 64 → IsOf line tasks l → line_fault Second least tasks (line_record l) place ≡ None
+pub line_none : (least tasks line : ℕ) (l : ImageLine) (place : ℕ) → least ≤ line → line < 64 → IsOf line tasks l → line_fault Second least tasks (line_record l) place ≡ None
 line_none least tasks line l place low high g =
     let line_high = le-ltb 63 l.line (omega (arith, g.is, high)) in
     let line_low = le-ltb l.line least (omega (arith, g.is, low)) in

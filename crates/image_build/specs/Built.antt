@@ -4,7 +4,7 @@ use Rattle.std.specs.List.{flat_map, range_with_len}
 use Rattle.app_toml.specs.Apps.{AppData, InterruptData, TaskData}
 use Rattle.app_toml.specs.Crossed.{notifications_of}
 use Rattle.app_toml.specs.Places.{Text}
-use Rattle.image_format.specs.Picture.{LinePicture, Picture, TaskPicture}
+use Rattle.image_format.specs.ImageData.{ImageLine, ImageData, ImageTask}
 use Rattle.mem_plan.specs.Sizes.{rounded}
 use Rattle.text_lines.specs.Text.{lines_of}
 use Rattle.thumb_asm.specs.Chars.{entry_at}
@@ -18,7 +18,7 @@ abbrev pub bit_of : Text → List Text → ℕ
 bit_of name notifications = 2 ^ index_of name notifications
 
 -- the stack is at the bottom of the task's RAM and grows down from its end
-abbrev pub task_built : AppData → ℕ → TaskData → TaskPicture
+abbrev pub task_built : AppData → ℕ → TaskData → ImageTask
 task_built app i t = record {
   priority = t.priority;
   started = t.start;
@@ -28,11 +28,11 @@ task_built app i t = record {
   names = t.notifications;
 }
 
-abbrev pub tasks_from : AppData → ℕ → List TaskData → List TaskPicture
+abbrev pub tasks_from : AppData → ℕ → List TaskData → List ImageTask
 tasks_from app i [] = []
 tasks_from app i (t ∷ ts) = task_built app i t ∷ tasks_from app (i + 1) ts
 
-abbrev pub line_built : AppData → InterruptData → LinePicture
+abbrev pub line_built : AppData → InterruptData → ImageLine
 line_built app i = record {
   line = i.line;
   task = index_of i.task (map (λ t. t.name) app.tasks);
@@ -40,16 +40,16 @@ line_built app i = record {
 }
 
 -- the interrupts of one line, of which there is at most one
-abbrev pub lines_at : AppData → ℕ → List LinePicture
+abbrev pub lines_at : AppData → ℕ → List ImageLine
 lines_at app line = map (line_built app) (filter (λ i. i.line == line) app.interrupts)
 
 -- the interrupts, ascending by line
-abbrev pub lines_built : AppData → List LinePicture
+abbrev pub lines_built : AppData → List ImageLine
 lines_built app = flat_map (lines_at app) (range_with_len 0 64)
 
 -- the image, but for what its flash holds
-abbrev pub picture_built : AppData → List ℕ → Picture
-picture_built app flash = record {
+abbrev pub image_data_built : AppData → List ℕ → ImageData
+image_data_built app flash = record {
   fault_bits = bit_of app.fault (task_at app 0).notifications;
   ram = ram_needed app;
   tasks = tasks_from app 0 app.tasks;
@@ -77,7 +77,7 @@ pub record HasProgram (app : AppData) (i : ℕ) (source flash : List ℕ) : Type
 abbrev pub source_at : List (List ℕ) → ℕ → List ℕ
 source_at sources i = slice_index_or sources i []
 
-pub record Built (app : AppData) (sources : List (List ℕ)) (image : Picture) : Type 0 where
-  pub parts : image ≡ picture_built app image.flash
+pub record Built (app : AppData) (sources : List (List ℕ)) (image : ImageData) : Type 0 where
+  pub parts : image ≡ image_data_built app image.flash
   pub length_of_flash : length image.flash ≡ flash_needed app
   pub programs : (i : ℕ) → i < length app.tasks → HasProgram app i (source_at sources i) image.flash

@@ -2,11 +2,11 @@
 
 ghost use Rattle.std.specs.Prelude.{◌≡◌, ◌<◌, ℕ, List, length, map, IfOk, IfErr};
 ghost use Rattle.app_toml.specs.Held.{app_of};
-ghost use Rattle.image_format.specs.Images.{picture};
+ghost use Rattle.image_format.specs.Images.{image_data};
 ghost use Rattle.image_format.specs.declared.records.ImageForm.TheVariants.{Second};
-ghost use Rattle.image_format.specs.Picture.{Sound, all_names, all_regions, header_of, line_record, region_record, task_record};
+ghost use Rattle.image_format.specs.ImageData.{Sound, all_names, all_regions, header_of, line_record, region_record, task_record};
 ghost use Rattle.image_build.specs.Building.{IsAccepted, IsLaid, Refuses};
-ghost use Rattle.image_build.specs.Built.{Built, bit_of, lines_built, picture_built, tasks_from};
+ghost use Rattle.image_build.specs.Built.{Built, bit_of, lines_built, image_data_built, tasks_from};
 ghost use Rattle.image_build.specs.Layout.{flash_needed, task_at};
 ghost use Rattle.image_build.specs.Accepted.{HasAccepted, described, next_task};
 
@@ -44,7 +44,7 @@ fn header_of(
     requires regions { regions.now ≡ map region_record (all_regions (tasks_from (app_of app.now) 0 (app_of app.now).tasks)) }
     requires lines { lines.now ≡ map line_record (lines_built (app_of app.now)) }
     requires names { names.now ≡ all_names (tasks_from (app_of app.now) 0 (app_of app.now).tasks) }
-    ensures { (flash : List ℕ) → length flash ≡ flash_needed (app_of app.now) → result ≡ header_of Second (picture_built (app_of app.now) flash) }
+    ensures { (flash : List ℕ) → length flash ≡ flash_needed (app_of app.now) → result ≡ header_of Second (image_data_built (app_of app.now) flash) }
 {
     app.facts();
     app.relations();
@@ -66,8 +66,8 @@ impl<'a> Builder<'a> {
     /// builder is gone.
     pub fn finish(self) -> Result<Image, BuildFault>
         requires { next_task self ≡ length (described self).tasks }
-        ensures built { IfOk result (λ i. (sources : List (List ℕ)) → HasAccepted sources self.entry → Built (described self.entry) sources (picture i)) }
-        ensures sound { IfOk result (λ i. Sound (picture i)) }
+        ensures built { IfOk result (λ i. (sources : List (List ℕ)) → HasAccepted sources self.entry → Built (described self.entry) sources (image_data i)) }
+        ensures sound { IfOk result (λ i. Sound (image_data i)) }
         ensures memory { IfErr result (λ e. e ≡ BuildFault.Memory) }
     {
         let app = self.app;
@@ -98,8 +98,8 @@ impl<'a> Builder<'a> {
 /// Those of `Builder`; `Memory` may come in place of any.
 pub fn build(alloc: Global, app: &App, sources: &[Vec<u8>]) -> Result<Image, BuildFault>
     requires { length sources.now ≡ length (app_of app.now).tasks }
-    ensures built { IfOk result (λ i. Built (app_of app.now) (map (λ v. v.items) sources.now) (picture i)) }
-    ensures sound { IfOk result (λ i. Sound (picture i)) }
+    ensures built { IfOk result (λ i. Built (app_of app.now) (map (λ v. v.items) sources.now) (image_data i)) }
+    ensures sound { IfOk result (λ i. Sound (image_data i)) }
     ensures accepted { IfOk result (λ i. IsAccepted (app_of app.now) (map (λ v. v.items) sources.now)) }
     ensures refused { IfErr result (Refuses (app_of app.now) (map (λ v. v.items) sources.now)) }
 {

@@ -3,7 +3,7 @@
 ghost use Rattle.std.specs.Prelude.{◌≡◌, ◌++◌, ◌==◌, All, filter, map, IfOk, OnOk};
 ghost use Rattle.app_toml.specs.Held.{app_of};
 ghost use Rattle.app_toml.specs.Sites.{interrupt_of};
-ghost use Rattle.image_format.specs.Picture.{line_record};
+ghost use Rattle.image_format.specs.ImageData.{line_record};
 ghost use Rattle.image_build.specs.Building.{IsOwned};
 ghost use Rattle.image_build.specs.Built.{line_built, lines_built};
 

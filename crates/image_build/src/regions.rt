@@ -2,7 +2,7 @@
 
 ghost use Rattle.std.specs.Prelude.{◌≡◌, ◌<◌, ◌++◌, length, map, string_bytes, All, OnOk};
 ghost use Rattle.app_toml.specs.Held.{app_of};
-ghost use Rattle.image_format.specs.Picture.{region_record};
+ghost use Rattle.image_format.specs.ImageData.{region_record};
 ghost use Rattle.image_build.specs.Building.{IsKnown, IsLaid};
 ghost use Rattle.image_build.specs.Layout.{named, task_at, task_regions};
 

@@ -2,7 +2,7 @@
 
 ghost use Rattle.std.specs.Prelude.{◌≡◌, ◌≤◌, ◌++◌, All, length, map, string_bytes, IfOk, OnOk};
 ghost use Rattle.app_toml.specs.Held.{app_of};
-ghost use Rattle.image_format.specs.Picture.{all_names, name_bytes, names_bytes};
+ghost use Rattle.image_format.specs.ImageData.{all_names, name_bytes, names_bytes};
 ghost use Rattle.image_build.specs.Built.{tasks_from};
 
 use app_toml::App;

@@ -2,7 +2,7 @@
 
 ghost use Rattle.std.specs.Prelude.{◌≡◌, ◌<◌, length, map, IfOk};
 ghost use Rattle.app_toml.specs.Held.{app_of};
-ghost use Rattle.image_format.specs.Picture.{all_regions, region_record, task_record};
+ghost use Rattle.image_format.specs.ImageData.{all_regions, region_record, task_record};
 ghost use Rattle.image_build.specs.Building.{IsLaid};
 ghost use Rattle.image_build.specs.Built.{task_built, tasks_from};
 ghost use Rattle.image_build.specs.Layout.{task_at};

@@ -17,7 +17,7 @@ use Rattle.region_check.specs.declared.Right.TheVariants.{Execute}
 use Rattle.region_check.specs.Rights.{gives, may_use, SameOrApart}
 use Rattle.image_format.specs.Accepted.{Accepted}
 use Rattle.image_format.specs.Facts.{Facts, HasLines, HasNames, HasRegions, HasSizes, HasTasks, IsInFlash, IsInRam}
-use Rattle.image_format.specs.Picture.{LinePicture, Picture, TaskPicture, line_of, names_in, no_line, no_task, picture_of, region_of, regions_in, rights_of, task_of, tasks_of}
+use Rattle.image_format.specs.ImageData.{ImageLine, ImageData, ImageTask, line_of, names_in, no_line, no_task, image_data_of, region_of, regions_in, rights_of, task_of, tasks_of}
 use Rattle.image_format.specs.Names.{after_names, names_from, task_names_fault}
 use Rattle.image_format.specs.Records.{Records}
 use Rattle.image_format.specs.Regions.{clashes, cuts, entries_from, entry_fault, has_area, lies_in, meets, own_fault, region_fault, regions_from, runs_at}
@@ -41,7 +41,7 @@ lies r base end e =
     (leb-true base r.base b.0, leb-true (r.base + r.size) end b.1)
 
 -- what a region is, of an image with so much flash and RAM
-record IsPlaced (p : Picture) (r : Region) : Type 0 where
+record IsPlaced (p : ImageData) (r : Region) : Type 0 where
   readable : r.rights.read ≡ true
   no_code : r.rights.device ≡ true → r.rights.execute ≡ false
   within : r.rights.device ≡ false → IsInFlash p r ⊎ IsInRam p r
@@ -54,7 +54,7 @@ no e = cc
 yes : {A : Type 0} → true ≡ false → A
 yes e = cc
 
-either_area : (h : Header) (p : Picture) (r : RegionRecord) → length p.flash ≡ h.flash → p.ram ≡ h.ram
+either_area : (h : Header) (p : ImageData) (r : RegionRecord) → length p.flash ≡ h.flash → p.ram ≡ h.ram
     → (lies_in r 0x08000000 (0x08000000 + h.flash) || lies_in r 0x20000000 (0x20000000 + h.ram)) ≡ true
     → IsInFlash p (region_of r) ⊎ IsInRam p (region_of r)
 either_area h p r f m e =
@@ -63,10 +63,10 @@ either_area h p r f m e =
       | inr a ↦ let l = lies r 0x20000000 (0x20000000 + h.ram) a in inr (l.0, omega (arith, l.1, m))
     ]
 
-ram_area : (h : Header) (p : Picture) (r : RegionRecord) → p.ram ≡ h.ram → lies_in r 0x20000000 (0x20000000 + h.ram) ≡ true → IsInRam p (region_of r)
+ram_area : (h : Header) (p : ImageData) (r : RegionRecord) → p.ram ≡ h.ram → lies_in r 0x20000000 (0x20000000 + h.ram) ≡ true → IsInRam p (region_of r)
 ram_area h p r m e = let l = lies r 0x20000000 (0x20000000 + h.ram) e in (l.0, omega (arith, l.1, m))
 
-placed : (h : Header) (p : Picture) (r : RegionRecord) → length p.flash ≡ h.flash → p.ram ≡ h.ram → IsRegion h r → IsPlaced p (region_of r)
+placed : (h : Header) (p : ImageData) (r : RegionRecord) → length p.flash ≡ h.flash → p.ram ≡ h.ram → IsRegion h r → IsPlaced p (region_of r)
 placed h p r f m g =
     rights_cases (λ n. has_area h (record r { rights = n }) ≡ true → IsPlaced p (region_of (record r { rights = n })))
     (λ e. record { readable = refl; no_code = λ d. no d; within = λ d. either_area h p (record r { rights = 1 }) f m e; writable = λ d w. no w; devices = λ d. no d })
@@ -194,11 +194,11 @@ pairs before (r ∷ rs) x y a (inr h) (inr k) = pairs (before ++ r ∷ []) rs x 
 
 -- ---- regions of the picture
 
-has_regions : (r : Records) → Accepted r → HasRegions (picture_of r)
+has_regions : (r : Records) → Accepted r → HasRegions (image_data_of r)
 has_regions r a =
     let s = passed_steps r a.records in
     let n = counts r a in
-    let p = picture_of r in
+    let p = image_data_of r in
     let place = regions_place r.header in
     let every = every_region r.header [] place r.tasks r.regions n s.regions in
     let apart = regions_apart r.header [] place r.tasks r.regions n s.regions in
@@ -216,10 +216,10 @@ has_regions r a =
           subst (λ (z : Region). SameOrApart z e) q.2 (subst (λ (z : Region). SameOrApart (region_of q.0) z) o.2 (pairs [] r.regions q.0 o.0 apart q.1 o.1));
     }
   where
-    each : Every (IsRegion r.header) r.regions → (i : ℕ) (g : Region) → Contains (regions_in (picture_of r) i) g → IsPlaced (picture_of r) g
+    each : Every (IsRegion r.header) r.regions → (i : ℕ) (g : Region) → Contains (regions_in (image_data_of r) i) g → IsPlaced (image_data_of r) g
     each every i g c =
         let q = region_source r.tasks r.regions r.names i g c in
-        subst (IsPlaced (picture_of r)) q.2 (placed r.header (picture_of r) q.0 a.flash refl (every_in (IsRegion r.header) r.regions q.0 every q.1))
+        subst (IsPlaced (image_data_of r)) q.2 (placed r.header (image_data_of r) q.0 a.flash refl (every_in (IsRegion r.header) r.regions q.0 every q.1))
 
 -- ---- tasks
 
@@ -299,26 +299,26 @@ task_there r a i lt =
     let same : 0 + i ≡ i = omega arith in
     subst (λ (k : ℕ). IsTask r.header.form k (get_or r.tasks i blank)) same (task_steps r.header.form 0 (header_size r.header.form) r.tasks i lt (passed_steps r a.records).tasks)
 
-has_tasks : (r : Records) → Accepted r → HasTasks (picture_of r)
+has_tasks : (r : Records) → Accepted r → HasTasks (image_data_of r)
 has_tasks r a =
     let l = limits r.header a.fields in
     let some : 0 < length r.tasks = omega (arith, a.tasks, l.some_task) in
     record {
-      supervisor = ap (λ (t : TaskPicture). t.priority) (look 0 some) ∙ (each 0 some).supervisor refl;
-      supervisor_started = ap (λ (t : TaskPicture). t.started) (look 0 some) ∙ ap (λ (n : ℕ). n == 1) ((each 0 some).started refl);
-      priorities = λ i above below. let lt = within i below in subst (λ (t : TaskPicture). 0 < t.priority) (sym (look i lt)) ((each i lt).others above);
+      supervisor = ap (λ (t : ImageTask). t.priority) (look 0 some) ∙ (each 0 some).supervisor refl;
+      supervisor_started = ap (λ (t : ImageTask). t.started) (look 0 some) ∙ ap (λ (n : ℕ). n == 1) ((each 0 some).started refl);
+      priorities = λ i above below. let lt = within i below in subst (λ (t : ImageTask). 0 < t.priority) (sym (look i lt)) ((each i lt).others above);
       stacks = λ i. elim (cases_lt i (length r.tasks)) [
-        | inl lt ↦ ap (λ (t : TaskPicture). t.sp % 4) (look i lt) ∙ (each i lt).stack
-        | inr le ↦ ap (λ (t : TaskPicture). t.sp % 4) (past_end r.tasks r.regions r.names i le)
+        | inl lt ↦ ap (λ (t : ImageTask). t.sp % 4) (look i lt) ∙ (each i lt).stack
+        | inr le ↦ ap (λ (t : ImageTask). t.sp % 4) (past_end r.tasks r.regions r.names i le)
       ];
       some_region = λ i below. let lt = within i below in omega (arith, long i lt, (each i lt).some_region);
       most_regions = λ i. elim (cases_lt i (length r.tasks)) [
         | inl lt ↦ omega (arith, long i lt, (each i lt).most_regions)
-        | inr le ↦ let e = ap (λ (t : TaskPicture). length t.regions) (past_end r.tasks r.regions r.names i le) in omega (arith, e)
+        | inr le ↦ let e = ap (λ (t : ImageTask). length t.regions) (past_end r.tasks r.regions r.names i le) in omega (arith, e)
       ];
-      odd_entries = λ i below. let lt = within i below in ap (λ (t : TaskPicture). t.entry % 2) (look i lt) ∙ (enter i lt).odd;
+      odd_entries = λ i below. let lt = within i below in ap (λ (t : ImageTask). t.entry % 2) (look i lt) ∙ (enter i lt).odd;
       entries = λ i below. let lt = within i below in
-          ap (λ (t : TaskPicture). may_use t.regions Execute (t.entry - 1)) (look i lt)
+          ap (λ (t : ImageTask). may_use t.regions Execute (t.entry - 1)) (look i lt)
           ∙ some_gives (get_or r.tasks i blank).entry (own_at r.tasks r.regions i) (enter i lt).runs;
     }
   where
@@ -334,7 +334,7 @@ has_tasks r a =
     enter : (i : ℕ) → i < length r.tasks → Enters (own_at r.tasks r.regions i) (get_or r.tasks i blank)
     enter i lt = entry_steps (header_size r.header.form) r.tasks r.regions i lt (passed_steps r a.records).entries
 
-    long : (i : ℕ) → i < length r.tasks → length (regions_in (picture_of r) i) ≡ (get_or r.tasks i blank).regions
+    long : (i : ℕ) → i < length r.tasks → length (regions_in (image_data_of r) i) ≡ (get_or r.tasks i blank).regions
     long i lt = ap length (regions_looked r.tasks r.regions r.names i) ∙ length-map (own_at r.tasks r.regions i) region_of ∙ own_length r.tasks r.regions i lt (counts r a)
 
 -- ---- interrupts
@@ -367,17 +367,17 @@ line_63 : (form : ImageForm) → highest_line form < 64
 line_63 First = omega arith
 line_63 Second = omega arith
 
-has_lines : (r : Records) → Accepted r → HasLines (picture_of r)
+has_lines : (r : Records) → Accepted r → HasLines (image_data_of r)
 has_lines r a = record {
   ascending = λ k m lt below. let n = within m below in
-      omega (arith, ap (λ (l : LinePicture). l.line) (look k (omega (arith, lt, n))), ap (λ (l : LinePicture). l.line) (look m n), line_order r.header.form 0 r.header.tasks (lines_place r.header) r.lines k m lt n step);
+      omega (arith, ap (λ (l : ImageLine). l.line) (look k (omega (arith, lt, n))), ap (λ (l : ImageLine). l.line) (look m n), line_order r.header.form 0 r.header.tasks (lines_place r.header) r.lines k m lt n step);
   below = λ k. elim (cases_lt k (length r.lines)) [
-    | inl lt ↦ omega (arith, ap (λ (l : LinePicture). l.line) (look k lt), (each k lt).most, line_63 r.header.form)
-    | inr le ↦ omega (arith, ap (λ (l : LinePicture). l.line) (get_or_past (map line_of r.lines) k no_line (omega (arith, le, length-map r.lines line_of))))
+    | inl lt ↦ omega (arith, ap (λ (l : ImageLine). l.line) (look k lt), (each k lt).most, line_63 r.header.form)
+    | inr le ↦ omega (arith, ap (λ (l : ImageLine). l.line) (get_or_past (map line_of r.lines) k no_line (omega (arith, le, length-map r.lines line_of))))
   ];
   owners = λ k below. let n = within k below in
-      omega (arith, ap (λ (l : LinePicture). l.task) (look k n), (each k n).owner, a.tasks, tasks_length r.tasks r.regions r.names);
-  bits = λ k below. let n = within k below in omega (arith, ap (λ (l : LinePicture). l.bits) (look k n), (each k n).bits);
+      omega (arith, ap (λ (l : ImageLine). l.task) (look k n), (each k n).owner, a.tasks, tasks_length r.tasks r.regions r.names);
+  bits = λ k below. let n = within k below in omega (arith, ap (λ (l : ImageLine). l.bits) (look k n), (each k n).bits);
 }
   where
     step : lines_from r.header.form 0 r.header.tasks (lines_place r.header) r.lines ≡ None
@@ -408,28 +408,28 @@ names_count [] ns i lt = absurd (omega (arith, lt))
 names_count (t ∷ ts) ns zero lt = names_length t.names ns
 names_count (t ∷ ts) ns (suc i) lt = names_count ts (after_names t.names ns) i (omega (arith, lt))
 
-all_new : (r : Records) → Accepted r → (i : ℕ) → AreNew [] (names_in (picture_of r) i)
+all_new : (r : Records) → Accepted r → (i : ℕ) → AreNew [] (names_in (image_data_of r) i)
 all_new r a i = subst (AreNew []) (sym (names_looked r.tasks r.regions r.names i)) (names_new (names_place r.header + length r.names) r.tasks r.names i (passed_steps r a.records).names)
 
-pub all_named : (r : Records) → Accepted r → (i : ℕ) → All (λ name. is_name name ≡ true) (names_in (picture_of r) i)
-all_named r a i k d lt = new_named [] (names_in (picture_of r) i) (all_new r a i) k d lt
+pub all_named : (r : Records) → Accepted r → (i : ℕ) → All (λ name. is_name name ≡ true) (names_in (image_data_of r) i)
+all_named r a i k d lt = new_named [] (names_in (image_data_of r) i) (all_new r a i) k d lt
 
-has_names : (r : Records) → Accepted r → HasNames (picture_of r)
+has_names : (r : Records) → Accepted r → HasNames (image_data_of r)
 has_names r a = record {
   few = λ i. elim (cases_lt i (length r.tasks)) [
     | inl lt ↦ omega (arith, ap length (look i), names_count r.tasks r.names i lt, (task_there r a i lt).most_names, most_32 r.header.form)
-    | inr le ↦ let e = ap (λ (t : TaskPicture). length t.names) (past_end r.tasks r.regions r.names i le) in omega (arith, e)
+    | inr le ↦ let e = ap (λ (t : ImageTask). length t.names) (past_end r.tasks r.regions r.names i le) in omega (arith, e)
   ];
-  named = λ i name c. subst (λ (n : List ℕ). is_name n ≡ true) c.2 (new_named [] (names_in (picture_of r) i) (all_new r a i) c.0 name c.1);
-  different = λ i k m lt below. new_apart [] (names_in (picture_of r) i) (all_new r a i) k m (omega (arith, lt)) below;
+  named = λ i name c. subst (λ (n : List ℕ). is_name n ≡ true) c.2 (new_named [] (names_in (image_data_of r) i) (all_new r a i) c.0 name c.1);
+  different = λ i k m lt below. new_apart [] (names_in (image_data_of r) i) (all_new r a i) k m (omega (arith, lt)) below;
 }
   where
-    look : (i : ℕ) → names_in (picture_of r) i ≡ names_at r.tasks r.names i
+    look : (i : ℕ) → names_in (image_data_of r) i ≡ names_at r.tasks r.names i
     look i = names_looked r.tasks r.regions r.names i
 
 -- ---- the whole
 
-has_sizes : (r : Records) → Accepted r → HasSizes (picture_of r)
+has_sizes : (r : Records) → Accepted r → HasSizes (image_data_of r)
 has_sizes r a =
     let l = limits r.header a.fields in
     let tasks = tasks_length r.tasks r.regions r.names in
@@ -443,5 +443,5 @@ has_sizes r a =
       fault_bits = l.bits;
     }
 
-pub facts : (r : Records) → Accepted r → Facts (picture_of r)
+pub facts : (r : Records) → Accepted r → Facts (image_data_of r)
 facts r a = record { sizes = has_sizes r a; tasks = has_tasks r a; regions = has_regions r a; lines = has_lines r a; names = has_names r a }

@@ -8,7 +8,7 @@ use Rattle.image_format.specs.declared.records.TaskRecord.{TaskRecord}
 use Rattle.image_format.specs.declared.records.RegionRecord.{RegionRecord}
 use Rattle.region_check.specs.declared.Region.{Region}
 use Rattle.image_format.specs.Names.{after_name, after_names, names_of}
-use Rattle.image_format.specs.Picture.{no_task, region_of, task_of, tasks_of}
+use Rattle.image_format.specs.ImageData.{no_task, region_of, task_of, tasks_of}
 use Rattle.image_format.specs.Steps.{counted}
 use Rattle.image_format.proofs.Chunks.{blank}
 

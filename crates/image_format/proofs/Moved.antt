@@ -10,7 +10,7 @@ use Rattle.image_format.specs.declared.records.TaskRecord.{TaskRecord}
 use Rattle.image_format.specs.declared.records.RegionRecord.{RegionRecord}
 use Rattle.image_format.specs.declared.records.LineRecord.{LineRecord}
 use Rattle.image_format.specs.Accepted.{Accepted}
-use Rattle.image_format.specs.Picture.{LinePicture, Picture, Sound, SpellsFirst, TaskPicture, line_record, records_of, task_record}
+use Rattle.image_format.specs.ImageData.{ImageLine, ImageData, Sound, SpellsFirst, ImageTask, line_record, records_of, task_record}
 use Rattle.image_format.specs.Records.{Records}
 use Rattle.image_format.specs.Regions.{clashes, entries_from, entry_fault, has_area, has_rights, has_shape, own_fault, region_fault, regions_from, runs_at}
 use Rattle.image_format.specs.Steps.{Refusal, count_place, counted, header_size, highest_line, line_fault, lines_from, lines_place, most_names, names_place, regions_place, task_fault, tasks_from}
@@ -68,7 +68,7 @@ few_second f index place (t ∷ ts) e =
     (more_names f t.names n.0, few_second f (index + 1) (place + 12) ts a.1)
 
 -- tasks without names keep the limit of the first form
-few_first : (ts : List TaskPicture) → ((t : TaskPicture) → Contains ts t → t.names ≡ []) → AreFew First (map task_record ts)
+few_first : (ts : List ImageTask) → ((t : ImageTask) → Contains ts t → t.names ≡ []) → AreFew First (map task_record ts)
 few_first [] h = tt
 few_first (t ∷ ts) h =
     let none = h t (0, omega arith, refl) in
@@ -173,7 +173,7 @@ low_second f least tasks place (l ∷ ls) e =
     let a = both_none (line_fault f least tasks l place) (lines_from f (l.line + 1) tasks (place + 8) ls) e in
     (higher f l.line (line_rows f least tasks l place a.0).0, low_second f (l.line + 1) tasks (place + 8) ls a.1)
 
-low_first : (ls : List LinePicture) → ((l : LinePicture) → Contains ls l → l.line ≤ highest_line First) → AreLow First (map line_record ls)
+low_first : (ls : List ImageLine) → ((l : ImageLine) → Contains ls l → l.line ≤ highest_line First) → AreLow First (map line_record ls)
 low_first [] h = tt
 low_first (l ∷ ls) h = (le-ltb 31 l.line (h l (0, omega arith, refl)), low_first ls (λ m is. h m (suc is.0, omega (arith, is.1), is.2)))
 
@@ -223,7 +223,7 @@ second_accepted r a plain =
     }) (few_second h.form 0 (header_size h.form) r.tasks s.tasks) (low_second h.form 0 h.tasks (lines_place h) r.lines s.lines) a
 
 -- a sound image that the first form can hold is accepted in it
-pub first_accepted : (p : Picture) (bytes : List ℕ) → SpellsFirst p bytes → Sound p → Accepted (records_of First p)
+pub first_accepted : (p : ImageData) (bytes : List ℕ) → SpellsFirst p bytes → Sound p → Accepted (records_of First p)
 first_accepted p bytes f a =
     let r = records_of Second p in
     let l = limits r.header a.fields in

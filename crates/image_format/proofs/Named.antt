@@ -11,7 +11,7 @@ use Rattle.image_format.specs.declared.records.ImageForm.TheVariants.{First, Sec
 use Rattle.image_format.specs.declared.records.RegionRecord.{RegionRecord}
 use Rattle.image_format.specs.declared.records.TaskRecord.{TaskRecord}
 use Rattle.image_format.specs.Names.{after_name, after_names, first_name, is_spelled, left_fault, name_fault, names_fault, names_from, names_of, same_name, task_names_fault}
-use Rattle.image_format.specs.Picture.{Picture, TaskPicture, all_names, header_of, name_bytes, names_bytes, task_record, tasks_of}
+use Rattle.image_format.specs.ImageData.{ImageData, ImageTask, all_names, header_of, name_bytes, names_bytes, task_record, tasks_of}
 use Rattle.image_format.specs.Steps.{Refusal, names_place, or_else, task_fault, tasks_from}
 use Rattle.image_format.proofs.Chunks.{blank, none_found}
 use Rattle.image_format.proofs.Limits.{row_none, row_pass}
@@ -267,7 +267,7 @@ names_taken (n ∷ names) earlier rest place h =
     (ap₂ (λ (x r : List ℕ). task_names_fault (length names) (earlier ++ x ∷ []) r (place + 1 + length x)) first (after_of_bytes n names rest)
     ∙ names_taken names (earlier ++ n ∷ []) rest (place + 1 + length n) h.2)
 
-tasks_taken : (end : ℕ) (ts : List TaskPicture) → All (λ t. AreNames t.names) ts → names_from end (map task_record ts) (all_names ts) ≡ None
+tasks_taken : (end : ℕ) (ts : List ImageTask) → All (λ t. AreNames t.names) ts → names_from end (map task_record ts) (all_names ts) ≡ None
 tasks_taken end [] h = refl
 tasks_taken end (t ∷ ts) h =
     let own = h 0 t (omega arith) in
@@ -277,7 +277,7 @@ tasks_taken end (t ∷ ts) h =
     (ap (names_from end (map task_record ts)) (names_after t.names (all_names ts)) ∙ tasks_taken end ts (λ k d lt. h (suc k) d (omega (arith, lt))))
 
 -- where the names of each task are such, the step of names refuses nothing
-pub names_pass : (p : Picture) → All (λ t. AreNames t.names) p.tasks → names_fault (header_of Second p) (map task_record p.tasks) (all_names p.tasks) ≡ None
+pub names_pass : (p : ImageData) → All (λ t. AreNames t.names) p.tasks → names_fault (header_of Second p) (map task_record p.tasks) (all_names p.tasks) ≡ None
 names_pass p h = tasks_taken (names_place (header_of Second p) + length (all_names p.tasks)) p.tasks h
 
 -- ---- at another place

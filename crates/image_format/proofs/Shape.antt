@@ -15,7 +15,7 @@ use Rattle.image_format.specs.declared.records.LineRecord.{LineRecord}
 use Rattle.region_check.specs.declared.Region.{Region}
 use Rattle.region_check.specs.declared.Rights.{Rights}
 use Rattle.image_format.specs.Accepted.{Accepted}
-use Rattle.image_format.specs.Picture.{LinePicture, Picture, Sound, TaskPicture, all_names, all_regions, bit, line_of, line_record, picture_of, records_of, region_of, region_record, rights_number, rights_of, task_of, task_record, tasks_of}
+use Rattle.image_format.specs.ImageData.{ImageLine, ImageData, Sound, ImageTask, all_names, all_regions, bit, line_of, line_record, image_data_of, records_of, region_of, region_record, rights_number, rights_of, task_of, task_record, tasks_of}
 use Rattle.image_format.specs.Names.{after_name, after_names, names_of}
 use Rattle.image_format.specs.Records.{Records}
 use Rattle.image_format.specs.Regions.{clashes, has_area, has_rights, has_shape, own_fault, region_fault, regions_from}
@@ -248,7 +248,7 @@ same_records r t l g z f n ts rs ls ns a b c d e h x y u v = rw (a, b, c, d, e, 
 pub counts : (r : Records) → Accepted r → counted r.tasks ≡ length r.regions
 counts r a = all_counted r.header r.tasks (passed_steps r a.records).count ∙ sym a.regions
 
-pub shape_again : (r : Records) → Accepted r → r.header.zero ≡ 0 → records_of r.header.form (picture_of r) ≡ r
+pub shape_again : (r : Records) → Accepted r → r.header.zero ≡ 0 → records_of r.header.form (image_data_of r) ≡ r
 shape_again r a nothing =
     let h = r.header in
     let s = passed_steps r a.records in
@@ -263,13 +263,13 @@ shape_again r a nothing =
     names
 
 -- records of the second form are those of their picture
-pub second_again : (r : Records) → r.header.form ≡ Second → Accepted r → records_of Second (picture_of r) ≡ r
+pub second_again : (r : Records) → r.header.form ≡ Second → Accepted r → records_of Second (image_data_of r) ≡ r
 second_again r is a =
     let nothing = ((limits r.header a.fields).second is).0 in
-    ap (λ (f : ImageForm). records_of f (picture_of r)) (sym is) ∙ shape_again r a nothing
+    ap (λ (f : ImageForm). records_of f (image_data_of r)) (sym is) ∙ shape_again r a nothing
 
-pub sound_picture : (r : Records) → r.header.form ≡ Second → Accepted r → Sound (picture_of r)
-sound_picture r is a = subst Accepted (sym (second_again r is a)) a
+pub sound_image_data : (r : Records) → r.header.form ≡ Second → Accepted r → Sound (image_data_of r)
+sound_image_data r is a = subst Accepted (sym (second_again r is a)) a
 
 -- ---- and the other way round, for each picture
 
@@ -300,9 +300,9 @@ regions_back [] = refl
 regions_back (r ∷ rs) =
     ap₂ (λ x xs. x ∷ xs) (ap (λ (t : Rights). record r { rights = t }) (all_rights r.rights.read r.rights.write r.rights.execute r.rights.device)) (regions_back rs)
 
-lines_back : (ls : List LinePicture) → map line_of (map line_record ls) ≡ ls
+lines_back : (ls : List ImageLine) → map line_of (map line_record ls) ≡ ls
 lines_back [] = refl
-lines_back (l ∷ ls) = ap (λ (xs : List LinePicture). l ∷ xs) (lines_back ls)
+lines_back (l ∷ ls) = ap (λ (xs : List ImageLine). l ∷ xs) (lines_back ls)
 
 -- the front of a list's image, as long as that list, and what follows it
 pub front : (xs ys : List Region) → take (length xs) (map region_record (xs ++ ys)) ≡ map region_record xs
@@ -313,17 +313,17 @@ pub behind : (xs ys : List Region) → drop (length xs) (map region_record (xs +
 behind xs ys = ap (drop (length xs)) (map-append region_record xs ys) ∙ ap (λ (n : ℕ). drop n (map region_record xs ++ map region_record ys)) (sym (length-map xs region_record))
     ∙ drop-append_seam (map region_record xs) (map region_record ys)
 
-same_picture : (t : TaskPicture) (b : Bool) (rs : List Region) (ns : List (List ℕ)) → b ≡ t.started → rs ≡ t.regions → ns ≡ t.names → ◌≡◌ {A = TaskPicture} (record t { started = b; regions = rs; names = ns }) t
-same_picture t b rs ns d e f = rw (d, e, f) refl
+same_image_data : (t : ImageTask) (b : Bool) (rs : List Region) (ns : List (List ℕ)) → b ≡ t.started → rs ≡ t.regions → ns ≡ t.names → ◌≡◌ {A = ImageTask} (record t { started = b; regions = rs; names = ns }) t
+same_image_data t b rs ns d e f = rw (d, e, f) refl
 
-tasks_back : (ts : List TaskPicture) → tasks_of (map task_record ts) (map region_record (all_regions ts)) (all_names ts) ≡ ts
+tasks_back : (ts : List ImageTask) → tasks_of (map task_record ts) (map region_record (all_regions ts)) (all_names ts) ≡ ts
 tasks_back [] = refl
 tasks_back (t ∷ ts) =
-    ap₂ (λ x xs. x ∷ xs) (same_picture t _ _ _ (bit_again t.started) (ap (map region_of) (front t.regions (all_regions ts)) ∙ regions_back t.regions) (names_back t.names (all_names ts)))
+    ap₂ (λ x xs. x ∷ xs) (same_image_data t _ _ _ (bit_again t.started) (ap (map region_of) (front t.regions (all_regions ts)) ∙ regions_back t.regions) (names_back t.names (all_names ts)))
     (ap₂ (tasks_of (map task_record ts)) (behind t.regions (all_regions ts)) (names_after t.names (all_names ts)) ∙ tasks_back ts)
 
-pub picture_again : (form : ImageForm) (p : Picture) → picture_of (records_of form p) ≡ p
-picture_again form p = same_parts (tasks_back p.tasks) (lines_back p.lines)
+pub image_data_again : (form : ImageForm) (p : ImageData) → image_data_of (records_of form p) ≡ p
+image_data_again form p = same_parts (tasks_back p.tasks) (lines_back p.lines)
   where
-    same_parts : {ts : List TaskPicture} {ls : List LinePicture} → ts ≡ p.tasks → ls ≡ p.lines → ◌≡◌ {A = Picture} (record p { tasks = ts; lines = ls }) p
+    same_parts : {ts : List ImageTask} {ls : List ImageLine} → ts ≡ p.tasks → ls ≡ p.lines → ◌≡◌ {A = ImageData} (record p { tasks = ts; lines = ls }) p
     same_parts d e = rw (d, e) refl

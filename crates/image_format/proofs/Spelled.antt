@@ -7,7 +7,7 @@ use Rattle.image_format.specs.declared.records.ImageForm.{ImageForm}
 use Rattle.image_format.specs.declared.records.ImageForm.TheVariants.{First, Second}
 use Rattle.image_format.specs.declared.records.Header.{Header}
 use Rattle.image_format.specs.Accepted.{Accepted}
-use Rattle.image_format.specs.Picture.{AreBytes}
+use Rattle.image_format.specs.ImageData.{AreBytes}
 use Rattle.image_format.specs.Records.{Records, bytes_of, flash_place, followed, form_at, half, half_bytes, header_at, header_bytes, header_bytes_in, header_in, header_or_fault, letters, line_at, line_bytes, lines_at, num, num_bytes, records_at, records_fault, records_or_fault, region_at, region_bytes, regions_at, sized, task_at, task_bytes, tasks_at, total, unless}
 use Rattle.image_format.specs.Steps.{Refusal, field_fault, header_size, lines_place, names_place, regions_place}
 use Rattle.image_format.proofs.Again.{IsPlain}

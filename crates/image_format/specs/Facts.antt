@@ -4,16 +4,16 @@ use Rattle.region_check.specs.declared.Region.{Region}
 use Rattle.region_check.specs.declared.Right.TheVariants.{Execute}
 use Rattle.region_check.specs.Rights.{may_use, SameOrApart}
 use Rattle.text_lines.specs.Names.{is_name}
-use Rattle.image_format.specs.Picture.{Picture, line_in, names_in, regions_in, task_in}
+use Rattle.image_format.specs.ImageData.{ImageData, line_in, names_in, regions_in, task_in}
 
 -- the bytes from a base on, so many, lie in the flash; in the RAM
-abbrev pub IsInFlash : Picture → Region → Type 0
+abbrev pub IsInFlash : ImageData → Region → Type 0
 IsInFlash p r = (0x08000000 ≤ r.base) × (r.base + r.size ≤ 0x08000000 + length p.flash)
 
-abbrev pub IsInRam : Picture → Region → Type 0
+abbrev pub IsInRam : ImageData → Region → Type 0
 IsInRam p r = (0x20000000 ≤ r.base) × (r.base + r.size ≤ 0x20000000 + p.ram)
 
-pub record HasSizes (p : Picture) : Type 0 where
+pub record HasSizes (p : ImageData) : Type 0 where
   pub some_task : 1 ≤ length p.tasks
   pub most_tasks : length p.tasks ≤ 512
   pub most_lines : length p.lines ≤ 64
@@ -22,7 +22,7 @@ pub record HasSizes (p : Picture) : Type 0 where
   pub most_ram : p.ram ≤ 262144
   pub fault_bits : 0 < p.fault_bits
 
-pub record HasTasks (p : Picture) : Type 0 where
+pub record HasTasks (p : ImageData) : Type 0 where
   pub supervisor : (task_in p 0).priority ≡ 0
   pub supervisor_started : (task_in p 0).started ≡ true
   pub priorities : (i : ℕ) → 0 < i → i < length p.tasks → 0 < (task_in p i).priority
@@ -34,7 +34,7 @@ pub record HasTasks (p : Picture) : Type 0 where
       → may_use (regions_in p i) Execute ((task_in p i).entry - 1) ≡ true
 
 -- each region r of a task i
-pub record HasRegions (p : Picture) : Type 0 where
+pub record HasRegions (p : ImageData) : Type 0 where
   pub readable : (i : ℕ) (r : Region) → Contains (regions_in p i) r → r.rights.read ≡ true
   pub no_code : (i : ℕ) (r : Region) → Contains (regions_in p i) r
       → r.rights.device ≡ true → r.rights.execute ≡ false
@@ -50,20 +50,20 @@ pub record HasRegions (p : Picture) : Type 0 where
       → Contains (regions_in p j) e → SameOrApart r e
 
 -- each interrupt k
-pub record HasLines (p : Picture) : Type 0 where
+pub record HasLines (p : ImageData) : Type 0 where
   pub ascending : (k m : ℕ) → k < m → m < length p.lines → (line_in p k).line < (line_in p m).line
   pub below : (k : ℕ) → (line_in p k).line < 64
   pub owners : (k : ℕ) → k < length p.lines → (line_in p k).task < length p.tasks
   pub bits : (k : ℕ) → k < length p.lines → 0 < (line_in p k).bits
 
 -- the names of the notifications of each task i
-pub record HasNames (p : Picture) : Type 0 where
+pub record HasNames (p : ImageData) : Type 0 where
   pub few : (i : ℕ) → length (names_in p i) ≤ 32
   pub named : (i : ℕ) (name : List ℕ) → Contains (names_in p i) name → is_name name ≡ true
   pub different : (i k m : ℕ) → k < m → m < length (names_in p i)
       → slice_index_or (names_in p i) k [] ≢ slice_index_or (names_in p i) m []
 
-pub record Facts (p : Picture) : Type 0 where
+pub record Facts (p : ImageData) : Type 0 where
   pub sizes : HasSizes p
   pub tasks : HasTasks p
   pub regions : HasRegions p

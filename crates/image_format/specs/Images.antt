@@ -3,7 +3,7 @@ use Rattle.std.specs.Prelude.{Option, Some, None}
 use Rattle.image_format.specs.declared.image.Image.{Image}
 use Rattle.image_format.specs.declared.records.ImageFault.{ImageFault}
 use Rattle.image_format.specs.declared.records.ImageFault.TheVariants as fault
-use Rattle.image_format.specs.Picture.{Picture, picture_of}
+use Rattle.image_format.specs.ImageData.{ImageData, image_data_of}
 use Rattle.image_format.specs.Records.{Records}
 use Rattle.image_format.specs.Steps.{Refusal}
 
@@ -19,8 +19,8 @@ records_in i = record {
 }
 
 -- the image that it is
-abbrev pub picture : Image → Picture
-picture i = picture_of (records_in i)
+abbrev pub image_data : Image → ImageData
+image_data i = image_data_of (records_in i)
 
 -- the cause and the place that it states; none for want of memory
 abbrev pub stated : ImageFault → Option Refusal

@@ -3,7 +3,7 @@ pub mod Facts
 pub mod Images
 pub mod Loners
 pub mod Names
-pub mod Picture
+pub mod ImageData
 pub mod Records
 pub mod Regions
 pub mod Steps

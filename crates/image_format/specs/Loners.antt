@@ -3,10 +3,10 @@ use Rattle.std.specs.Prelude.{ℕ, Bool, List, [], length, map, filter, slice_in
 use Rattle.std.specs.List.{list_all, range_with_len}
 use Rattle.region_check.specs.declared.Region.{Region}
 use Rattle.region_check.specs.Rights.{is_alone}
-use Rattle.image_format.specs.Picture.{Picture}
+use Rattle.image_format.specs.ImageData.{ImageData}
 
 -- the regions of each task, in the order of the tasks
-abbrev pub regions_by_task : Picture → List (List Region)
+abbrev pub regions_by_task : ImageData → List (List Region)
 regions_by_task p = map (λ t. t.regions) p.tasks
 
 abbrev pub own_regions : List (List Region) → ℕ → List Region
@@ -21,5 +21,5 @@ abbrev pub is_loner : List (List Region) → ℕ → Bool
 is_loner tasks i = list_all (λ j. is_alone (own_regions tasks i) (regions_beside tasks i j)) (range_with_len 0 (length tasks))
 
 -- the tasks that share nothing, ascending
-abbrev pub loners : Picture → List ℕ
+abbrev pub loners : ImageData → List ℕ
 loners p = filter (is_loner (regions_by_task p)) (range_with_len 0 (length p.tasks))

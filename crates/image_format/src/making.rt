@@ -3,8 +3,8 @@
 ghost use Rattle.std.specs.Prelude.{◌≡◌};
 ghost use Rattle.image_format.specs.declared.records.ImageForm.TheVariants.{Second};
 ghost use Rattle.image_format.specs.Accepted.{Accepted};
-ghost use Rattle.image_format.specs.Images.{picture};
-ghost use Rattle.image_format.specs.Picture.{Picture, records_of};
+ghost use Rattle.image_format.specs.Images.{image_data};
+ghost use Rattle.image_format.specs.ImageData.{ImageData, records_of};
 
 use crate::image::Image;
 use crate::records::{Header, LineRecord, RegionRecord, TaskRecord};
@@ -29,14 +29,14 @@ impl Image {
           names = names.items;
           flash = flash.items;
         }) }
-        ensures { (p : Picture) → records_of Second p ≡ record {
+        ensures { (p : ImageData) → records_of Second p ≡ record {
           header = header;
           tasks = tasks.items;
           regions = regions.items;
           lines = lines.items;
           names = names.items;
           flash = flash.items;
-        } → picture result ≡ p }
+        } → image_data result ≡ p }
     {
         Image {
             header,

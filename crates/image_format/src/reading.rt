@@ -4,8 +4,8 @@ ghost use Rattle.std.specs.Prelude.{◌≡◌, ◌≤◌, length, IfOk, IfErr, I
 ghost use Rattle.image_format.specs.declared.records.ImageForm.TheVariants.{First, Second};
 ghost use Rattle.image_format.specs.Accepted.{Accepted};
 ghost use Rattle.image_format.specs.Records.{form_at, header_at, header_in, header_or_fault, records_fault, records_or_fault, sized, total};
-ghost use Rattle.image_format.specs.Images.{picture, records_in, stated};
-ghost use Rattle.image_format.specs.Picture.{Picture, Sound, Spells, image_or_fault};
+ghost use Rattle.image_format.specs.Images.{image_data, records_in, stated};
+ghost use Rattle.image_format.specs.ImageData.{ImageData, Sound, Spells, image_or_fault};
 ghost use Rattle.image_format.specs.Steps.{field_fault, header_size};
 
 use crate::checks::{check_count, check_fields, check_lines, check_tasks};
@@ -212,12 +212,12 @@ impl Image {
     /// The image that the bytes spell in either form, or the first cause by which they are refused with its place,
     /// in the order of docs/FORMATS.md, Image; `Memory` where memory ran out.
     pub fn read(alloc: Global, bytes: &[u8]) -> Result<Image, ImageFault>
-        ensures ok { IfOk result (λ i. image_or_fault bytes.now ≡ Ok (picture i)) }
+        ensures ok { IfOk result (λ i. image_or_fault bytes.now ≡ Ok (image_data i)) }
         ensures refused { IfErr result (λ e.
             IfSome (stated e) (λ t. image_or_fault bytes.now ≡ Err t)) }
-        ensures spelled { IfOk result (λ i. Spells (picture i) bytes.now) }
-        ensures sound { IfOk result (λ i. Sound (picture i)) }
-        ensures only { (p : Picture) → Spells p bytes.now → Sound p
+        ensures spelled { IfOk result (λ i. Spells (image_data i) bytes.now) }
+        ensures sound { IfOk result (λ i. Sound (image_data i)) }
+        ensures only { (p : ImageData) → Spells p bytes.now → Sound p
             → image_or_fault bytes.now ≡ Ok p }
     {
         match read_parts(alloc, bytes) {

@@ -3,10 +3,10 @@
 ghost use Rattle.std.specs.Prelude.{◌≡◌, ◌==◌, ◌≤◌, ◌+◌, ◌<◌, All, length, map, string_bytes, take, true, IfOk};
 ghost use Rattle.std.specs.List.{sum_by};
 ghost use Rattle.image_format.specs.Facts.{Facts};
-ghost use Rattle.image_format.specs.Images.{picture};
+ghost use Rattle.image_format.specs.Images.{image_data};
 ghost use Rattle.text_lines.specs.Names.{is_name};
 ghost use Rattle.image_format.specs.Names.{names_of};
-ghost use Rattle.image_format.specs.Picture.{Sound, line_in, names_in, region_of, regions_in, rights_of, task_in};
+ghost use Rattle.image_format.specs.ImageData.{Sound, line_in, names_in, region_of, regions_in, rights_of, task_in};
 ghost use Rattle.image_format.specs.Steps.{counted};
 
 use crate::image::Image;
@@ -52,11 +52,11 @@ fn counted(tasks: &[TaskRecord], n: usize) -> usize
 /// The i-th task's record.
 #[tactic(auto, using(crate::proofs::Shape::tasks_length))]
 fn task_at(image: &Image, i: usize) -> TaskRecord
-    requires { i < length (picture image.now).tasks }
-    ensures priority { result.priority ≡ (task_in (picture image.now) i).priority }
-    ensures started { (result.flags == 1) ≡ (task_in (picture image.now) i).started }
-    ensures entry { result.entry ≡ (task_in (picture image.now) i).entry }
-    ensures sp { result.sp ≡ (task_in (picture image.now) i).sp }
+    requires { i < length (image_data image.now).tasks }
+    ensures priority { result.priority ≡ (task_in (image_data image.now) i).priority }
+    ensures started { (result.flags == 1) ≡ (task_in (image_data image.now) i).started }
+    ensures entry { result.entry ≡ (task_in (image_data image.now) i).entry }
+    ensures sp { result.sp ≡ (task_in (image_data image.now) i).sp }
 {
     image.tasks[i]
 }
@@ -64,8 +64,8 @@ fn task_at(image: &Image, i: usize) -> TaskRecord
 /// The i-th task's regions.
 #[tactic(auto, using(crate::proofs::Shape::tasks_length))]
 fn own_regions(image: &Image, i: usize) -> &[RegionRecord]
-    requires { i < length (picture image.now).tasks }
-    ensures { map region_of result.now ≡ regions_in (picture image.now) i }
+    requires { i < length (image_data image.now).tasks }
+    ensures { map region_of result.now ≡ regions_in (image_data image.now) i }
 {
     let tasks = image.tasks.as_slice();
     let regions = image.regions.as_slice();
@@ -126,54 +126,54 @@ fn texts_of(alloc: Global, n: usize, bytes: &[u8]) -> Result<Vec<String>, AllocE
 impl Image {
     /// What is known of each image.
     pub fn facts(&self)
-        ensures sound { Sound (picture self.now) }
-        ensures facts { Facts (picture self.now) }
+        ensures sound { Sound (image_data self.now) }
+        ensures facts { Facts (image_data self.now) }
     {}
 
     /// How many tasks, 1 to 512.
     #[tactic(auto, using(crate::proofs::Shape::tasks_length))]
     pub fn task_count(&self) -> usize
-        ensures { result ≡ length (picture self.now).tasks }
+        ensures { result ≡ length (image_data self.now).tasks }
     {
         self.tasks.len()
     }
 
     /// The i-th task's priority, of which 0 is the highest.
     pub fn priority(&self, i: usize) -> u8
-        requires { i < length (picture self.now).tasks }
-        ensures { result ≡ (task_in (picture self.now) i).priority }
+        requires { i < length (image_data self.now).tasks }
+        ensures { result ≡ (task_in (image_data self.now) i).priority }
     {
         task_at(self, i).priority
     }
 
     /// Whether the i-th task runs at the start.
     pub fn is_started(&self, i: usize) -> bool
-        requires { i < length (picture self.now).tasks }
-        ensures { result ≡ (task_in (picture self.now) i).started }
+        requires { i < length (image_data self.now).tasks }
+        ensures { result ≡ (task_in (image_data self.now) i).started }
     {
         task_at(self, i).flags == 1
     }
 
     /// Where the i-th task begins, with bit 0 set.
     pub fn entry(&self, i: usize) -> u32
-        requires { i < length (picture self.now).tasks }
-        ensures { result ≡ (task_in (picture self.now) i).entry }
+        requires { i < length (image_data self.now).tasks }
+        ensures { result ≡ (task_in (image_data self.now) i).entry }
     {
         task_at(self, i).entry
     }
 
     /// The i-th task's first stack pointer.
     pub fn sp(&self, i: usize) -> u32
-        requires { i < length (picture self.now).tasks }
-        ensures { result ≡ (task_in (picture self.now) i).sp }
+        requires { i < length (image_data self.now).tasks }
+        ensures { result ≡ (task_in (image_data self.now) i).sp }
     {
         task_at(self, i).sp
     }
 
     /// The i-th task's regions, in order.
     pub fn regions(&self, alloc: Global, i: usize) -> Result<Vec<Region>, AllocError>
-        requires { i < length (picture self.now).tasks }
-        ensures { IfOk result (λ v. v.items ≡ regions_in (picture self.now) i) }
+        requires { i < length (image_data self.now).tasks }
+        ensures { IfOk result (λ v. v.items ≡ regions_in (image_data self.now) i) }
     {
         regions_of(alloc, own_regions(self, i))
     }
@@ -181,8 +181,8 @@ impl Image {
     /// The names of the i-th task's notifications, of which the k-th is bit k.
     #[tactic(auto, using(crate::proofs::Shape::tasks_length))]
     pub fn notifications(&self, alloc: Global, i: usize) -> Result<Vec<String>, AllocError>
-        requires { i < length (picture self.now).tasks }
-        ensures { IfOk result (λ v. map string_bytes v.items ≡ names_in (picture self.now) i) }
+        requires { i < length (image_data self.now).tasks }
+        ensures { IfOk result (λ v. map string_bytes v.items ≡ names_in (image_data self.now) i) }
     {
         let tasks = self.tasks.as_slice();
         let own = skip_names(named(tasks, i), self.names.as_slice());
@@ -191,52 +191,52 @@ impl Image {
 
     /// How many interrupts, at most 64.
     pub fn line_count(&self) -> usize
-        ensures { result ≡ length (picture self.now).lines }
+        ensures { result ≡ length (image_data self.now).lines }
     {
         self.lines.len()
     }
 
     /// The k-th interrupt's line, below 64.
     pub fn line(&self, k: usize) -> u8
-        requires { k < length (picture self.now).lines }
-        ensures { result ≡ (line_in (picture self.now) k).line }
+        requires { k < length (image_data self.now).lines }
+        ensures { result ≡ (line_in (image_data self.now) k).line }
     {
         self.lines[k].line
     }
 
     /// The task that owns the k-th interrupt.
     pub fn line_task(&self, k: usize) -> u16
-        requires { k < length (picture self.now).lines }
-        ensures { result ≡ (line_in (picture self.now) k).task }
+        requires { k < length (image_data self.now).lines }
+        ensures { result ≡ (line_in (image_data self.now) k).task }
     {
         self.lines[k].task
     }
 
     /// The notification bits that the k-th interrupt posts.
     pub fn line_bits(&self, k: usize) -> u32
-        requires { k < length (picture self.now).lines }
-        ensures { result ≡ (line_in (picture self.now) k).bits }
+        requires { k < length (image_data self.now).lines }
+        ensures { result ≡ (line_in (image_data self.now) k).bits }
     {
         self.lines[k].bits
     }
 
     /// The notification bits that a fault posts to task 0.
     pub fn fault_bits(&self) -> u32
-        ensures { result ≡ (picture self.now).fault_bits }
+        ensures { result ≡ (image_data self.now).fault_bits }
     {
         self.header.bits
     }
 
     /// How many bytes of RAM, at most 262144.
     pub fn ram(&self) -> u32
-        ensures { result ≡ (picture self.now).ram }
+        ensures { result ≡ (image_data self.now).ram }
     {
         self.header.ram
     }
 
     /// The bytes of flash, from 0x08000000 on, 1 to 1048576.
     pub fn flash(&self) -> &[u8]
-        ensures { result.now ≡ (picture self.now).flash }
+        ensures { result.now ≡ (image_data self.now).flash }
     {
         self.flash.as_slice()
     }

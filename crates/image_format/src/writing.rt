@@ -5,8 +5,8 @@ ghost use Rattle.std.specs.Result.{OnOk};
 ghost use Rattle.std.specs.List.{flat_map};
 ghost use Rattle.image_format.specs.declared.records.ImageForm.TheVariants.{Second};
 ghost use Rattle.image_format.specs.Records.{bytes_of, half_bytes, header_bytes_in, line_bytes, num_bytes, region_bytes, task_bytes};
-ghost use Rattle.image_format.specs.Images.{picture, records_in};
-ghost use Rattle.image_format.specs.Picture.{Spells, image_or_fault, spelling};
+ghost use Rattle.image_format.specs.Images.{image_data, records_in};
+ghost use Rattle.image_format.specs.ImageData.{Spells, image_or_fault, spelling};
 
 use crate::image::Image;
 use crate::records::{Header, LineRecord, RegionRecord, TaskRecord};
@@ -132,9 +132,9 @@ fn bytes_of(image: &Image) -> Result<Vec<u8>, AllocError>
 impl Image {
     /// The one spelling of the image in the second form, as docs/FORMATS.md, Image, has it; read again it is the same image.
     pub fn write(&self) -> Result<Vec<u8>, AllocError>
-        ensures exact { IfOk result (λ v. v.items ≡ spelling (picture self.now)) }
-        ensures spells { IfOk result (λ v. Spells (picture self.now) v.items) }
-        ensures reads_back { IfOk result (λ v. image_or_fault v.items ≡ Ok (picture self.now)) }
+        ensures exact { IfOk result (λ v. v.items ≡ spelling (image_data self.now)) }
+        ensures spells { IfOk result (λ v. Spells (image_data self.now) v.items) }
+        ensures reads_back { IfOk result (λ v. image_or_fault v.items ≡ Ok (image_data self.now)) }
     {
         bytes_of(self)
     }

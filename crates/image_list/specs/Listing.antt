@@ -4,7 +4,7 @@ use Rattle.serde_json.specs.Data.{Data, Items, number, unsigned, string, array, 
 use Rattle.serde_json.specs.View.{items_of}
 use Rattle.region_check.specs.declared.Region.{Region}
 use Rattle.image_format.specs.Loners.{loners}
-use Rattle.image_format.specs.Picture.{Picture, TaskPicture, LinePicture, bit, rights_number}
+use Rattle.image_format.specs.ImageData.{ImageData, ImageTask, ImageLine, bit, rights_number}
 
 -- a whole number, from 0 on
 abbrev pub whole : ℕ → Data
@@ -23,7 +23,7 @@ abbrev pub names_data : List (List ℕ) → Items
 names_data names = items_of (map string names)
 
 -- notifications are the names of bits 0, 1, ..; start is 1 for a task that runs at the start, else 0
-abbrev pub task_data : TaskPicture → Data
+abbrev pub task_data : ImageTask → Data
 task_data t = object (member (codes "entry") (whole t.entry)
     (member (codes "notifications") (array (names_data t.names))
     (member (codes "priority") (whole t.priority)
@@ -31,24 +31,24 @@ task_data t = object (member (codes "entry") (whole t.entry)
     (member (codes "sp") (whole t.sp)
     (member (codes "start") (whole (bit t.started 1)) no_members))))))
 
-abbrev pub tasks_data : List TaskPicture → Items
+abbrev pub tasks_data : List ImageTask → Items
 tasks_data ts = items_of (map task_data ts)
 
-abbrev pub line_data : LinePicture → Data
+abbrev pub line_data : ImageLine → Data
 line_data l = object (member (codes "bits") (whole l.bits)
     (member (codes "line") (whole l.line)
     (member (codes "task") (whole l.task) no_members)))
 
-abbrev pub lines_data : List LinePicture → Items
+abbrev pub lines_data : List ImageLine → Items
 lines_data ls = items_of (map line_data ls)
 
 -- the indices of the tasks that share nothing with another one, ascending
-abbrev pub loners_data : Picture → Items
+abbrev pub loners_data : ImageData → Items
 loners_data p = items_of (map whole (loners p))
 
 -- flash and ram are numbers of bytes; supervisor has the bits posted to task 0 at a fault
-abbrev pub image_data : Picture → Data
-image_data p = object (member (codes "flash") (whole (length p.flash))
+abbrev pub listed_object : ImageData → Data
+listed_object p = object (member (codes "flash") (whole (length p.flash))
     (member (codes "interrupts") (array (lines_data p.lines))
     (member (codes "loners") (array (loners_data p))
     (member (codes "ram") (whole p.ram)

@@ -6,11 +6,11 @@ ghost use Rattle.std.specs.List.{range_with_len};
 ghost use Rattle.serde_json.specs.Data.{string};
 ghost use Rattle.serde_json.specs.View.{view};
 ghost use Rattle.serde_json.specs.Written.{compact_text};
-ghost use Rattle.image_format.specs.Images.{picture};
+ghost use Rattle.image_format.specs.Images.{image_data};
 ghost use Rattle.region_check.specs.Rights.{is_alone};
 ghost use Rattle.image_format.specs.Loners.{is_loner, loners, own_regions, regions_beside, regions_by_task};
-ghost use Rattle.image_format.specs.Picture.{bit, line_in, rights_number, task_in};
-ghost use Rattle.image_list.specs.Listing.{image_data, line_data, region_data, task_data, whole};
+ghost use Rattle.image_format.specs.ImageData.{bit, line_in, rights_number, task_in};
+ghost use Rattle.image_list.specs.Listing.{listed_object, line_data, region_data, task_data, whole};
 
 use image_format::Image;
 use region_check::{Region, Rights, alone};
@@ -49,8 +49,8 @@ fn region_values(alloc: Global, regions: &[Region]) -> Result<Vec<Value>, AllocE
 }
 
 fn regions_of(alloc: Global, image: &Image, i: usize) -> Result<Vec<Value>, AllocError>
-    requires { i < length (picture image.now).tasks }
-    ensures { IfOk result (λ v. map view v.items ≡ map region_data (task_in (picture image.now) i).regions) }
+    requires { i < length (image_data image.now).tasks }
+    ensures { IfOk result (λ v. map view v.items ≡ map region_data (task_in (image_data image.now) i).regions) }
 {
     let regions = image.regions(alloc, i)?;
     region_values(alloc, regions.as_slice())
@@ -75,8 +75,8 @@ fn name_values(alloc: Global, names: &[String]) -> Result<Vec<Value>, AllocError
 
 /// The names of the i-th task's notifications.
 fn names_of(alloc: Global, image: &Image, i: usize) -> Result<Vec<Value>, AllocError>
-    requires { i < length (picture image.now).tasks }
-    ensures { IfOk result (λ v. map view v.items ≡ map string (task_in (picture image.now) i).names) }
+    requires { i < length (image_data image.now).tasks }
+    ensures { IfOk result (λ v. map view v.items ≡ map string (task_in (image_data image.now) i).names) }
 {
     let names = image.notifications(alloc, i)?;
     name_values(alloc, names.as_slice())
@@ -84,15 +84,15 @@ fn names_of(alloc: Global, image: &Image, i: usize) -> Result<Vec<Value>, AllocE
 
 /// 1 for a task that runs at the start, else 0.
 fn start_of(image: &Image, i: usize) -> u8
-    requires { i < length (picture image.now).tasks }
-    ensures { result ≡ bit (task_in (picture image.now) i).started 1 }
+    requires { i < length (image_data image.now).tasks }
+    ensures { result ≡ bit (task_in (image_data image.now) i).started 1 }
 {
     bit(image.is_started(i), 1)
 }
 
 fn task_value(alloc: Global, image: &Image, i: usize) -> Result<Value, AllocError>
-    requires { i < length (picture image.now).tasks }
-    ensures { IfOk result (λ v. view v ≡ task_data (task_in (picture image.now) i)) }
+    requires { i < length (image_data image.now).tasks }
+    ensures { IfOk result (λ v. view v ≡ task_data (task_in (image_data image.now) i)) }
 {
     let start = start_of(image, i);
     let names = names_of(alloc, image, i)?;
@@ -108,7 +108,7 @@ fn task_value(alloc: Global, image: &Image, i: usize) -> Result<Value, AllocErro
 }
 
 fn task_values(alloc: Global, image: &Image) -> Result<Vec<Value>, AllocError>
-    ensures { IfOk result (λ v. map view v.items ≡ map task_data (picture image.now).tasks) }
+    ensures { IfOk result (λ v. map view v.items ≡ map task_data (image_data image.now).tasks) }
 {
     let mut values = Vec::new(alloc);
     for i in 0..image.task_count() {
@@ -118,8 +118,8 @@ fn task_values(alloc: Global, image: &Image) -> Result<Vec<Value>, AllocError>
 }
 
 fn line_value(alloc: Global, image: &Image, k: usize) -> Result<Value, AllocError>
-    requires { k < length (picture image.now).lines }
-    ensures { IfOk result (λ v. view v ≡ line_data (line_in (picture image.now) k)) }
+    requires { k < length (image_data image.now).lines }
+    ensures { IfOk result (λ v. view v ≡ line_data (line_in (image_data image.now) k)) }
 {
     json!(in alloc; {
         "bits": image.line_bits(k),
@@ -129,7 +129,7 @@ fn line_value(alloc: Global, image: &Image, k: usize) -> Result<Value, AllocErro
 }
 
 fn line_values(alloc: Global, image: &Image) -> Result<Vec<Value>, AllocError>
-    ensures { IfOk result (λ v. map view v.items ≡ map line_data (picture image.now).lines) }
+    ensures { IfOk result (λ v. map view v.items ≡ map line_data (image_data image.now).lines) }
 {
     let mut values = Vec::new(alloc);
     for k in 0..image.line_count() {
@@ -140,7 +140,7 @@ fn line_values(alloc: Global, image: &Image) -> Result<Vec<Value>, AllocError>
 
 /// The regions of each task, in the order of the tasks.
 fn regions_by_task(alloc: Global, image: &Image) -> Result<Vec<Vec<Region>>, AllocError>
-    ensures { IfOk result (λ v. map vec_items v.items ≡ regions_by_task (picture image.now)) }
+    ensures { IfOk result (λ v. map vec_items v.items ≡ regions_by_task (image_data image.now)) }
 {
     let mut tasks = Vec::new(alloc);
     for i in 0..image.task_count() {
@@ -200,7 +200,7 @@ fn number_values(alloc: Global, numbers: &[usize]) -> Result<Vec<Value>, AllocEr
 }
 
 fn loner_values(alloc: Global, image: &Image) -> Result<Vec<Value>, AllocError>
-    ensures { IfOk result (λ v. map view v.items ≡ map whole (loners (picture image.now))) }
+    ensures { IfOk result (λ v. map view v.items ≡ map whole (loners (image_data image.now))) }
 {
     let tasks = regions_by_task(alloc, image)?;
     let loners = loners_among(alloc, tasks.as_slice())?;
@@ -208,7 +208,7 @@ fn loner_values(alloc: Global, image: &Image) -> Result<Vec<Value>, AllocError>
 }
 
 fn image_value(alloc: Global, image: &Image) -> Result<Value, AllocError>
-    ensures { IfOk result (λ v. view v ≡ image_data (picture image.now)) }
+    ensures { IfOk result (λ v. view v ≡ listed_object (image_data image.now)) }
 {
     let tasks = task_values(alloc, image)?;
     let lines = line_values(alloc, image)?;
@@ -232,7 +232,7 @@ fn image_value(alloc: Global, image: &Image) -> Result<Value, AllocError>
 ///
 /// `AllocError` where memory ran out.
 pub fn list(alloc: Global, image: &Image) -> Result<String, AllocError>
-    ensures { IfOk result (λ s. string_bytes s ≡ compact_text (image_data (picture image.now))) }
+    ensures { IfOk result (λ s. string_bytes s ≡ compact_text (listed_object (image_data image.now))) }
 {
     image_value(alloc, image)?.to_string(alloc)
 }

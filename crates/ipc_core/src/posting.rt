@@ -12,7 +12,7 @@ use kernel_abi::{IdArgs, Usage, dead_code};
 use task_table::{Found, Kernel};
 
 /// POST, of any caller.
-fn post_bits(k: &mut Kernel, caller: usize)
+fn post_rows(k: &mut Kernel, caller: usize)
     requires there { caller < task_count k.old }
     requires room { note_count k.old + syscall_notes ≤ turn_notes }
     ensures holds { (g : Setup) (t : Turn) → Holds g k.old t → Holds g k.new (post_made g caller t) }
@@ -35,11 +35,11 @@ pub fn post_call(k: &mut Kernel, caller: usize)
     requires { MayCall k.old caller }
     ensures { Performs post_made k.old caller k.new }
 {
-    post_bits(k, caller);
+    post_rows(k, caller);
 }
 
 /// REFRESH_TASK_ID, of any caller.
-fn answer_present_id(k: &mut Kernel, caller: usize)
+fn refresh_rows(k: &mut Kernel, caller: usize)
     requires there { caller < task_count k.old }
     requires room { note_count k.old + syscall_notes ≤ turn_notes }
     ensures holds { (g : Setup) (t : Turn) → Holds g k.old t → Holds g k.new (refreshed g caller t) }
@@ -60,5 +60,5 @@ pub fn refresh(k: &mut Kernel, caller: usize)
     requires { MayCall k.old caller }
     ensures { Performs refreshed k.old caller k.new }
 {
-    answer_present_id(k, caller);
+    refresh_rows(k, caller);
 }

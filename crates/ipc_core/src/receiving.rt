@@ -4,7 +4,7 @@ ghost use Rattle.std.specs.Prelude.{◌≡◌, ◌+◌, ◌<◌, ◌≤◌, true
 ghost use Rattle.task_table.specs.model.State.{Setup, Turn};
 ghost use Rattle.task_table.specs.model.Reading.{arguments, is_ready, best_sender, offer_by, IsIdle};
 ghost use Rattle.task_table.specs.model.Rows.{asked, receives_or_listens, message_received, input_received, received};
-ghost use Rattle.task_table.specs.kept.Holds.{Holds, Stands, Stood, task_count, note_count};
+ghost use Rattle.task_table.specs.kept.Holds.{Holds, Stands, StandsForSome, task_count, note_count};
 ghost use Rattle.task_table.specs.kept.Limits.{syscall_notes, turn_notes};
 ghost use Rattle.task_table.specs.kept.Frames.{AddsAtMost};
 ghost use Rattle.task_table.specs.kept.Calls.{MayCall};
@@ -107,11 +107,11 @@ fn receive_input(k: &mut Kernel, caller: usize, mask: u32, sender: Sender, best:
 }
 
 /// RECV of a caller that waits for nothing.
-fn receive(k: &mut Kernel, caller: usize, best: Option<usize>)
+fn recv_rows(k: &mut Kernel, caller: usize, best: Option<usize>)
     requires there { caller < task_count k.old }
     requires best { IfSome best (λ i. i < task_count k.old) }
     requires room { note_count k.old + syscall_notes ≤ turn_notes }
-    requires stood { Stood k.old }
+    requires stood { StandsForSome k.old }
     ensures holds { (g : Setup) (t : Turn) → Stands g k.old t → IsIdle t.state caller → Holds g k.new (received g caller best t) }
     ensures frame { AddsAtMost k.old syscall_notes k.new }
 {
@@ -139,5 +139,5 @@ pub fn recv(k: &mut Kernel, caller: usize, best: Option<usize>)
     ensures stands { (g : Setup) (t : Turn) → Stands g k.old t → is_ready t.state caller ≡ true → best ≡ best_sender g t.state caller → Stands g k.new (received g caller best t) }
     ensures frame { AddsAtMost k.old syscall_notes k.new }
 {
-    receive(k, caller, best);
+    recv_rows(k, caller, best);
 }

@@ -5,7 +5,7 @@ ghost use Rattle.kernel_abi.specs.Faults.{reason_number};
 ghost use Rattle.task_table.specs.model.State.{Setup, Turn, Call};
 ghost use Rattle.task_table.specs.model.Reading.{taken_by};
 ghost use Rattle.task_table.specs.model.Sends.{replied_to, replied, reply_faulted_to, reply_faulted};
-ghost use Rattle.task_table.specs.kept.Holds.{Holds, Stands, Stood, kept_call, task_count, note_count};
+ghost use Rattle.task_table.specs.kept.Holds.{Holds, Stands, StandsForSome, kept_call, task_count, note_count};
 ghost use Rattle.task_table.specs.kept.Limits.{syscall_notes, turn_notes};
 ghost use Rattle.task_table.specs.kept.Frames.{AddsAtMost};
 ghost use Rattle.task_table.specs.kept.Calls.{MayCall, Performs};
@@ -42,7 +42,7 @@ fn reply_to_client(k: &mut Kernel, caller: usize, client: usize, args: &ReplyArg
     requires there { caller < task_count k.old }
     requires client { client < task_count k.old }
     requires room { note_count k.old + syscall_notes ≤ turn_notes }
-    requires stood { Stood k.old }
+    requires stood { StandsForSome k.old }
     ensures holds { (g : Setup) (t : Turn) → Stands g k.old t → Holds g k.new (replied_to g caller args.now (taken_by t.state client caller) t) }
     ensures frame { AddsAtMost k.old syscall_notes k.new }
 {
@@ -53,10 +53,10 @@ fn reply_to_client(k: &mut Kernel, caller: usize, client: usize, args: &ReplyArg
 }
 
 /// REPLY, of any caller, to whom its id names.
-fn reply_by_id(k: &mut Kernel, caller: usize)
+fn reply_rows(k: &mut Kernel, caller: usize)
     requires there { caller < task_count k.old }
     requires room { note_count k.old + syscall_notes ≤ turn_notes }
-    requires stood { Stood k.old }
+    requires stood { StandsForSome k.old }
     ensures holds { (g : Setup) (t : Turn) → Stands g k.old t → Holds g k.new (replied g caller t) }
     ensures frame { AddsAtMost k.old syscall_notes k.new }
 {
@@ -76,7 +76,7 @@ pub fn reply(k: &mut Kernel, caller: usize)
     requires { MayCall k.old caller }
     ensures { Performs replied k.old caller k.new }
 {
-    reply_by_id(k, caller);
+    reply_rows(k, caller);
 }
 
 /// The caller faults a client that may await its reply.
@@ -95,7 +95,7 @@ fn fault_client(k: &mut Kernel, caller: usize, client: usize, reason: Reason)
 }
 
 /// REPLY_FAULT, of any caller.
-fn reply_fault_of(k: &mut Kernel, caller: usize)
+fn reply_fault_rows(k: &mut Kernel, caller: usize)
     requires there { caller < task_count k.old }
     requires room { note_count k.old + syscall_notes ≤ turn_notes }
     ensures holds { (g : Setup) (t : Turn) → Stands g k.old t → Holds g k.new (reply_faulted g caller t) }
@@ -117,5 +117,5 @@ pub fn reply_fault(k: &mut Kernel, caller: usize)
     requires { MayCall k.old caller }
     ensures { Performs reply_faulted k.old caller k.new }
 {
-    reply_fault_of(k, caller);
+    reply_fault_rows(k, caller);
 }

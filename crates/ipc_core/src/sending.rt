@@ -81,7 +81,7 @@ fn send_checked(k: &mut Kernel, caller: usize, recipient: Recipient, args: &Send
 }
 
 /// SEND of a caller that waits for nothing.
-fn send_by(k: &mut Kernel, caller: usize)
+fn send_rows(k: &mut Kernel, caller: usize)
     requires there { caller < task_count k.old }
     requires room { note_count k.old + syscall_notes ≤ turn_notes }
     requires number { next_call_of k.old + 1 < 2 ^ 32 }
@@ -106,5 +106,5 @@ pub fn send(k: &mut Kernel, caller: usize)
     requires number { next_call_of k.old + 1 < 2 ^ 32 }
     ensures { Performs sent k.old caller k.new }
 {
-    send_by(k, caller);
+    send_rows(k, caller);
 }

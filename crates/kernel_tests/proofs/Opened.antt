@@ -7,10 +7,10 @@ use Rattle.task_table.specs.model.Start.{start}
 use Rattle.board_core.specs.Data.{Shows}
 use Rattle.board_core.specs.declared.board.Board.{Board}
 use Rattle.board_model.specs.Script.{Scenario, start_of}
-use Rattle.board_core.specs.Stands.{Holds, Stands, Stood}
+use Rattle.board_core.specs.Stands.{Holds, Stands, StandsForSome}
 
 module _ {X : Type 0} {H : X → Type 0} {E : Type 0} (shown : Shows X H) (x : Scenario) where
-  pub some_stands : (s : State) (r : Result (Board X H) E) → IfOk r (λ b. Stands shown x b s) → IfOk r (Stood shown)
+  pub some_stands : (s : State) (r : Result (Board X H) E) → IfOk r (λ b. Stands shown x b s) → IfOk r (StandsForSome shown)
   some_stands s (Ok b) h = (x, s, h)
   some_stands s (Err e) h = tt
 

@@ -3,7 +3,7 @@ ghost use Rattle.mem_banks.specs.Memory.{is_held};
 ghost use Rattle.task_table.specs.model.State.{State};
 ghost use Rattle.board_model.specs.Script.{Scenario};
 ghost use Rattle.board_core.specs.Data.{boxed};
-ghost use Rattle.board_core.specs.Stands.{Holds, Stood, turns_of};
+ghost use Rattle.board_core.specs.Stands.{Holds, StandsForSome, turns_of};
 
 use board_core::{Board, End, Level};
 use image_format::Image;
@@ -27,7 +27,7 @@ fn with_script(
     script: &[u8],
 ) -> Result<Board, AllocError>
     requires small { length script.now < 1000 }
-    ensures stood { IfOk result (λ b. Stood (boxed shown) b) }
+    ensures stood { IfOk result (λ b. StandsForSome (boxed shown) b) }
     ensures turns { IfOk result (λ b. turns_of b ≡ 0) }
     ensures first { IfOk result (λ b. (x : Scenario) × (s : State) × Holds (boxed shown) x b s × (is_held s.memory 0x08000000 ≡ true)) }
 {
@@ -47,7 +47,7 @@ fn with_script(
 type Shown = (u32, u64, bool, usize, Option<End>);
 
 fn shown(board: &Board) -> Shown
-    requires { Stood (boxed shown) board.now }
+    requires { StandsForSome (boxed shown) board.now }
 {
     let notes = board.notes();
     let has_ticked = notes.get(0).copied() == Some(Note::Tick { now: 1 });
@@ -64,8 +64,8 @@ fn shown(board: &Board) -> Shown
 fn advance(board: &mut Board, level: Level, limit: u32)
     requires left { turns_of board.old < limit }
     requires few { limit < 1000 }
-    requires stood { Stood (boxed shown) board.old }
-    ensures stood { Stood (boxed shown) board.new }
+    requires stood { StandsForSome (boxed shown) board.old }
+    ensures stood { StandsForSome (boxed shown) board.new }
     ensures turns { turns_of board.new ≤ limit }
 {
     board.advance(level, limit);

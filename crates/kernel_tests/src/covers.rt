@@ -1,7 +1,7 @@
 //! Covers (docs/FORMATS.md, Cover): the text of short runs of one task.
 ghost use Rattle.std.specs.Prelude.{◌≡◌, ◌≤◌, length, IfOk};
 ghost use Rattle.board_core.specs.Data.{boxed};
-ghost use Rattle.board_core.specs.Stands.{Stood, turns_of};
+ghost use Rattle.board_core.specs.Stands.{StandsForSome, turns_of};
 
 use crate::board::HEAD;
 use board_core::{Board, End};
@@ -27,7 +27,7 @@ pub(crate) fn image_of(rt: &impl Abort, alloc: Global, code: &[u8]) -> Image
 /// The board of that image, where nothing happens from outside.
 fn board_of(rt: &impl Abort, alloc: Global, code: &[u8]) -> Result<Board, AllocError>
     requires { length code.now ≤ 256 }
-    ensures stood { IfOk result (λ b. Stood (boxed shown) b) }
+    ensures stood { IfOk result (λ b. StandsForSome (boxed shown) b) }
     ensures turns { IfOk result (λ b. turns_of b ≡ 0) }
 {
     let image = image_of(rt, alloc, code);

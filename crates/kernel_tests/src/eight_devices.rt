@@ -2,7 +2,7 @@
 //! stores, bytes from outside and loads.
 ghost use Rattle.std.specs.Prelude.{◌+◌, ◌≤◌};
 ghost use Rattle.board_core.specs.Data.{boxed};
-ghost use Rattle.board_core.specs.Stands.{Stood, turns_of};
+ghost use Rattle.board_core.specs.Stands.{StandsForSome, turns_of};
 
 use board_core::{Board, End, Level};
 use devices::{Console, Device, Port};
@@ -35,9 +35,9 @@ fn image(rt: &impl Abort, alloc: Global) -> Image {
 
 /// Whole turns, so many, and what is given out in them: by which device, and which byte.
 fn given_out(alloc: Global, board: &mut Board, turns: u32) -> Result<Vec<(usize, u8)>, AllocError>
-    requires stood { Stood (boxed shown) board.old }
+    requires stood { StandsForSome (boxed shown) board.old }
     requires few { turns_of board.old + turns ≤ 1000 }
-    ensures stood { Stood (boxed shown) board.new }
+    ensures stood { StandsForSome (boxed shown) board.new }
 {
     let mut out = Vec::new(alloc);
     for _ in 0..turns {

@@ -1,6 +1,6 @@
 //! The loop of docs/GUIDE.md, From a crate of one's own: whole turns of a board with a console, up to the end of the run.
 ghost use Rattle.board_core.specs.Data.{boxed};
-ghost use Rattle.board_core.specs.Stands.{Stood};
+ghost use Rattle.board_core.specs.Stands.{StandsForSome};
 
 use board_core::{Board, End, Turned};
 use devices::{Console, Device};
@@ -45,8 +45,8 @@ fn print(notes: &[Note], text: &mut Vec<u8>) -> Result<(), AllocError> {
 
 /// Where the PC was of what ran in each turn, and what the run gives out.
 fn play(alloc: Global, board: &mut Board) -> Result<(Vec<u32>, Vec<u8>), AllocError>
-    requires { Stood (boxed shown) board.old }
-    ensures { Stood (boxed shown) board.new }
+    requires { StandsForSome (boxed shown) board.old }
+    ensures { StandsForSome (boxed shown) board.new }
 {
     let mut ran = Vec::new(alloc);
     let mut text = Vec::new(alloc);

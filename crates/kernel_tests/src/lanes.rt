@@ -1,7 +1,7 @@
 //! Timelines and pictures (docs/FORMATS.md, Timeline, Picture): the texts of a short run of two tasks.
 ghost use Rattle.std.specs.Prelude.{◌≡◌, ◌≤◌, IfOk, length};
 ghost use Rattle.board_core.specs.Data.{boxed};
-ghost use Rattle.board_core.specs.Stands.{Stood, turns_of};
+ghost use Rattle.board_core.specs.Stands.{StandsForSome, turns_of};
 
 use board_core::{Board, End};
 use image_format::Image;
@@ -112,7 +112,7 @@ fn names(alloc: Global) -> Result<Vec<String>, AllocError> {
 /// The board of an image, to which one tick comes.
 fn board_of(rt: &impl Abort, alloc: Global, image: &[u8]) -> Result<Board, AllocError>
     requires { length image.now ≤ 1000 }
-    ensures stood { IfOk result (Stood (boxed shown)) }
+    ensures stood { IfOk result (StandsForSome (boxed shown)) }
     ensures fresh { IfOk result (λ b. turns_of b ≡ 0) }
 {
     let image = Image::read(alloc, image).expect(rt, "the image is sound");
@@ -133,7 +133,7 @@ fn timeline_of(rt: &impl Abort, alloc: Global, image: &[u8]) -> Result<(End, Mem
 }
 
 /// How fifteen turns of an image end, and their picture.
-fn picture_of(rt: &impl Abort, alloc: Global, image: &[u8]) -> Result<(Vec<u8>, End), AllocError>
+fn image_data_of(rt: &impl Abort, alloc: Global, image: &[u8]) -> Result<(Vec<u8>, End), AllocError>
     requires { length image.now ≤ 1000 }
 {
     let names = names(alloc)?;
@@ -153,7 +153,7 @@ fn two_tasks() -> [u8; 604] {
 
 #[test]
 fn a_picture_of_a_call(rt: HostRuntime) -> Result<(), Fail> {
-    let (bytes, end) = picture_of(&rt, rt.alloc(), &two_tasks())?;
+    let (bytes, end) = image_data_of(&rt, rt.alloc(), &two_tasks())?;
     assert!(rt; end == End::Bound);
     assert!(rt; bytes.ends_with(PICTURE));
     Ok(())

@@ -4,7 +4,7 @@ ghost use Rattle.kernel_abi.specs.declared.Note.TheVariants as note;
 ghost use Rattle.task_table.specs.model.State.{Setup, Turn, Call};
 ghost use Rattle.task_table.specs.model.Reading.{arguments, is_valid, is_ready};
 ghost use Rattle.task_table.specs.model.Borrows.{reading, writing, moved, refused, lent, buffered, granted, part_of, borrowed_by, borrowed};
-ghost use Rattle.task_table.specs.kept.Holds.{Holds, Stands, Stood, kept_call, task_count, note_count, memory_of, entries_of};
+ghost use Rattle.task_table.specs.kept.Holds.{Holds, Stands, StandsForSome, kept_call, task_count, note_count, memory_of, entries_of};
 ghost use Rattle.task_table.specs.kept.Messages.{IsLent};
 ghost use Rattle.task_table.specs.kept.Limits.{syscall_notes, turn_notes};
 ghost use Rattle.task_table.specs.kept.Frames.{AddsNotes, AddsAtMost};
@@ -80,7 +80,7 @@ fn lend_bytes(k: &mut Kernel, loan: &Loan, leased: u32, count: u32)
     requires room { note_count k.old + 5 ≤ turn_notes }
     requires some { 0 < count }
     requires valid { leased + count ≤ 2 ^ 32 }
-    requires stood { Stood k.old }
+    requires stood { StandsForSome k.old }
     requires buffer { IsBuffer loan.now.way (memory_of k.old) loan.now.args.buffer_base count }
     ensures holds { let x = loan.now in (g : Setup) (t : Turn) (c : Call) → Holds g k.old t → IsLoanOf x c → Holds g k.new (lent g (way_of x.way) x.borrower x.args c record { base = leased; len = count } t) }
     ensures stay { let x = loan.now in (g : Setup) (t : Turn) → Holds g k.old t → MayLend g x record { base = leased; len = count } → StayKept k.old x leased count k.new }
@@ -101,7 +101,7 @@ fn lend(k: &mut Kernel, loan: &Loan, entry: &LeaseEntry)
     requires room { note_count k.old + 5 ≤ turn_notes }
     requires valid { entry.now.base + entry.now.len ≤ 2 ^ 32 }
     requires inside { loan.now.args.offset ≤ entry.now.len }
-    requires stood { Stood k.old }
+    requires stood { StandsForSome k.old }
     requires buffer { IsBuffer loan.now.way (memory_of k.old) loan.now.args.buffer_base loan.now.args.buffer_length }
     ensures holds { let x = loan.now in (g : Setup) (t : Turn) (c : Call) → Holds g k.old t → IsLoanOf x c → Holds g k.new (lent g (way_of x.way) x.borrower x.args c (part_of x.args entry.now) t) }
     ensures stay { let x = loan.now in let part = part_of x.args entry.now in (g : Setup) (t : Turn) → Holds g k.old t → MayLend g x part → StayKept k.old x part.base part.len k.new }
@@ -123,7 +123,7 @@ fn borrow_into(k: &mut Kernel, loan: &Loan, entry: &LeaseEntry)
     requires room { note_count k.old + 5 ≤ turn_notes }
     requires valid { entry.now.base + entry.now.len ≤ 2 ^ 32 }
     requires inside { loan.now.args.offset ≤ entry.now.len }
-    requires stood { Stood k.old }
+    requires stood { StandsForSome k.old }
     ensures holds { let x = loan.now in (g : Setup) (t : Turn) (c : Call) → Holds g k.old t → IsLoanOf x c → Holds g k.new (buffered g (way_of x.way) x.borrower x.args c entry.now t) }
     ensures stay { let x = loan.now in let part = part_of x.args entry.now in (g : Setup) (t : Turn) → Holds g k.old t → IsGranted g x entry.now → StayKept k.old x part.base part.len k.new }
     ensures frame { AddsAtMost k.old 5 k.new }
@@ -146,7 +146,7 @@ fn borrow_entry(k: &mut Kernel, loan: &Loan, entry: &LeaseEntry)
     requires borrower { loan.now.borrower < task_count k.old }
     requires lender { loan.now.lender < task_count k.old }
     requires room { note_count k.old + 5 ≤ turn_notes }
-    requires stood { Stood k.old }
+    requires stood { StandsForSome k.old }
     ensures holds { let x = loan.now in (g : Setup) (t : Turn) (c : Call) → Holds g k.old t → IsLoanOf x c → Holds g k.new (granted g (way_of x.way) x.borrower x.args c entry.now t) }
     ensures stay { let x = loan.now in let part = part_of x.args entry.now in (g : Setup) (t : Turn) → Holds g k.old t → IsGranted g x entry.now → StayKept k.old x part.base part.len k.new }
     ensures frame { AddsAtMost k.old 5 k.new }
@@ -192,7 +192,7 @@ fn borrow_from(k: &mut Kernel, loan: &Loan, call: &OpenCall)
 fn borrow(k: &mut Kernel, caller: usize, way: Way)
     requires there { caller < task_count k.old }
     requires room { note_count k.old + syscall_notes ≤ turn_notes }
-    requires stood { Stood k.old }
+    requires stood { StandsForSome k.old }
     ensures holds { (g : Setup) (t : Turn) → Stands g k.old t → Holds g k.new (borrowed g (way_of way) caller t) }
     ensures held { (g : Setup) (t : Turn) → Stands g k.old t → KeepsBorrowed g (way_of way) caller t k.new }
     ensures frame { AddsAtMost k.old syscall_notes k.new }

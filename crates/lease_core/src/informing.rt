@@ -4,7 +4,7 @@ ghost use Rattle.kernel_abi.specs.declared.Note.TheVariants as note;
 ghost use Rattle.task_table.specs.model.State.{Setup, Turn, Call};
 ghost use Rattle.task_table.specs.model.Reading.{arguments, is_valid, is_ready};
 ghost use Rattle.task_table.specs.model.Borrows.{moved, uninformed, lent, lease_range, grant_answered, informed_by, informed};
-ghost use Rattle.task_table.specs.kept.Holds.{Holds, Stands, Stood, kept_call, task_count, note_count, entries_of};
+ghost use Rattle.task_table.specs.kept.Holds.{Holds, Stands, StandsForSome, kept_call, task_count, note_count, entries_of};
 ghost use Rattle.task_table.specs.kept.Messages.{IsLent};
 ghost use Rattle.task_table.specs.kept.Limits.{syscall_notes, turn_notes};
 ghost use Rattle.task_table.specs.kept.Frames.{AddsNotes, AddsAtMost};
@@ -80,10 +80,10 @@ fn inform_of(k: &mut Kernel, caller: usize, lender: usize, call: &OpenCall, leas
 }
 
 /// BORROW_INFO of a kernel that stands.
-fn inform(k: &mut Kernel, caller: usize)
+fn borrow_info_rows(k: &mut Kernel, caller: usize)
     requires there { caller < task_count k.old }
     requires room { note_count k.old + syscall_notes ≤ turn_notes }
-    requires stood { Stood k.old }
+    requires stood { StandsForSome k.old }
     ensures holds { (g : Setup) (t : Turn) → Stands g k.old t → Holds g k.new (informed g caller t) }
     ensures held { (g : Setup) (t : Turn) → Stands g k.old t → KeepsInformed g caller t k.new }
     ensures frame { AddsAtMost k.old syscall_notes k.new }
@@ -108,5 +108,5 @@ pub fn borrow_info(k: &mut Kernel, caller: usize)
     ensures performs { Performs informed k.old caller k.new }
     ensures held { (g : Setup) (t : Turn) → Stands g k.old t → is_ready t.state caller ≡ true → KeepsInformed g caller t k.new }
 {
-    inform(k, caller);
+    borrow_info_rows(k, caller);
 }

@@ -6,7 +6,7 @@ ghost use Rattle.run_cover.specs.Counted.{Heard, HeardNote, IsCounted, IsNewlyCo
 
 use crate::places::{PLACES, place_of};
 use crate::ways::{decoded, is_conditional};
-use board_run::Teller;
+use board_run::Observer;
 use kernel_abi::{Fault, Note};
 use outside_io::Failed;
 use std::alloc::{AllocError, Global};
@@ -191,7 +191,7 @@ impl PlaceCounts {
 }
 
 /// Counting never fails.
-impl Teller for PlaceCounts {
+impl Observer for PlaceCounts {
     ghost heard = { Heard };
 
     ghost broke = { λ _ _ _. ⊥ };

@@ -6,7 +6,7 @@ ghost use Rattle.task_table.specs.model.State.{State};
 ghost use Rattle.board_model.specs.declared.outcomes.Level.TheVariants.{All};
 ghost use Rattle.board_model.specs.Script.{Scenario};
 ghost use Rattle.board_model.specs.Run.{run};
-ghost use Rattle.board_core.specs.Stands.{Stands, Stood, turns_of};
+ghost use Rattle.board_core.specs.Stands.{Stands, StandsForSome, turns_of};
 ghost use Rattle.board_core.specs.Data.{boxed};
 ghost use Rattle.run_cover.specs.Counted.{IsNew, IsNewlyCounted, count_of, counts as counted};
 ghost use Rattle.run_cover.specs.Known.{IsKnownOf};
@@ -46,7 +46,7 @@ impl Cover {
 
 /// Turns up to the end of the run, each of which is counted. No memory is taken in them, and counting never fails.
 pub fn count_run(board: &mut Board, limit: u32, counts: &mut PlaceCounts) -> End
-    requires stood { Stood (boxed shown) board.old }
+    requires stood { StandsForSome (boxed shown) board.old }
     requires from { turns_of board.old ≤ limit }
     requires few { limit ≤ 1000000000 }
     requires new { IsNewlyCounted counts.old }
@@ -78,7 +78,7 @@ pub fn write_cover<S: Sink>(
     labels: &[Label],
     out: &mut S,
 ) -> Result<End, Failed>
-    requires stood { Stood (boxed shown) board.old }
+    requires stood { StandsForSome (boxed shown) board.old }
     requires from { turns_of board.old ≤ limit }
     requires few { limit ≤ 1000000000 }
     requires new { IsNew cover.old }

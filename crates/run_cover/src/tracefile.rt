@@ -5,7 +5,7 @@ ghost use Rattle.task_table.specs.model.State.{State};
 ghost use Rattle.board_model.specs.declared.outcomes.Level.TheVariants.{All};
 ghost use Rattle.board_model.specs.Script.{Scenario};
 ghost use Rattle.board_model.specs.Run.{run};
-ghost use Rattle.board_core.specs.Stands.{Stands, Stood, turns_of};
+ghost use Rattle.board_core.specs.Stands.{Stands, StandsForSome, turns_of};
 ghost use Rattle.board_core.specs.Data.{boxed};
 ghost use Rattle.run_cover.specs.Counted.{IsNewlyCounted, count_of};
 ghost use Rattle.run_cover.specs.Tracefile.{branch_text, data_line, head_lines, is_branch, lines_found, run_tracefile, section_of, source_text, source_totals, times_text, tracefile_text, way_line, ways_found, ways_lines};
@@ -214,7 +214,7 @@ pub fn write_tracefile(
     counts: &mut PlaceCounts,
     sources: &[Source<'_>],
 ) -> Result<(String, End), AllocError>
-    requires stood { Stood (boxed shown) board.old }
+    requires stood { StandsForSome (boxed shown) board.old }
     requires from { turns_of board.old ≤ limit }
     requires few { limit ≤ 1000000000 }
     requires new { IsNewlyCounted counts.old }

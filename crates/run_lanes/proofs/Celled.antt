@@ -6,8 +6,8 @@ use Rattle.std.proofs.lemmas.List.Folds.{list_any-append}
 use Rattle.std.proofs.lemmas.List.Sums.{count_by-le-length, sum_by-append, sum_by-cons, sum_by_push}
 use Rattle.kernel_abi.specs.declared.Note.{Note}
 use Rattle.lane_picture.specs.declared.parts.Cell.{Cell}
-use Rattle.run_lanes.specs.declared.word.Word.{Word}
-use Rattle.run_lanes.specs.declared.word.Word.TheVariants as word
+use Rattle.run_lanes.specs.declared.activity.Activity.{Activity}
+use Rattle.run_lanes.specs.declared.activity.Activity.TheVariants as word
 use Rattle.run_lanes.specs.Columns.{cell_of, is_birth_of, is_fault_of, is_noted, turns_with, words}
 use Rattle.run_lanes.specs.Counted.{both, counted, joined, turned}
 use Rattle.run_lanes.specs.Timeline.{word_at}
@@ -38,11 +38,11 @@ cell_joined xs ys i few =
 
 -- ## a turn more
 
-abbrev one_more : (Word → ℕ) → Word → Word → ℕ
+abbrev one_more : (Activity → ℕ) → Activity → Activity → ℕ
 one_more f w v = if is_same w v then both (f v) 1 else f v
 
 -- the one of seven counts
-counted_at : (f : Word → ℕ) (w : Word) → map (one_more f w) words ≡ set (map f words) (word_number w) (both (get_or (map f words) (word_number w) 0) 1)
+counted_at : (f : Activity → ℕ) (w : Activity) → map (one_more f w) words ≡ set (map f words) (word_number w) (both (get_or (map f words) (word_number w) 0) 1)
 counted_at f word.Runs = refl
 counted_at f word.Ready = refl
 counted_at f word.Offers = refl
@@ -75,10 +75,10 @@ cell_turned xs t i few =
 
 -- ## the words of a task sum up to the turns
 
-abbrev hit : Word → Word → ℕ
+abbrev hit : Activity → Activity → ℕ
 hit w v = cond (is_same w v) 1 0
 
-one_word : (w : Word) → hit w word.Runs + hit w word.Ready + hit w word.Offers + hit w word.Awaits + hit w word.Listens + hit w word.Faulted + hit w word.Stopped ≡ 1
+one_word : (w : Activity) → hit w word.Runs + hit w word.Ready + hit w word.Offers + hit w word.Awaits + hit w word.Listens + hit w word.Faulted + hit w word.Stopped ≡ 1
 one_word word.Runs = refl
 one_word word.Ready = refl
 one_word word.Offers = refl
@@ -87,7 +87,7 @@ one_word word.Listens = refl
 one_word word.Faulted = refl
 one_word word.Stopped = refl
 
-with_cons : (i : ℕ) (t : TurnSight) (turns : List TurnSight) (v : Word) → turns_with i (t ∷ turns) v ≡ hit (word_at t.words i) v + turns_with i turns v
+with_cons : (i : ℕ) (t : TurnSight) (turns : List TurnSight) (v : Activity) → turns_with i (t ∷ turns) v ≡ hit (word_at t.words i) v + turns_with i turns v
 with_cons i t turns v = sum_by-cons (λ u. cond (is_same (word_at u.words i) v) 1 0) t turns
 
 seven : (a b c d e f g a' b' c' d' e' f' g' a'' b'' c'' d'' e'' f'' g'' n : ℕ) → a'' ≡ a + a' → b'' ≡ b + b' → c'' ≡ c + c' → d'' ≡ d + d' → e'' ≡ e + e' → f'' ≡ f + f' → g'' ≡ g + g' →

@@ -9,7 +9,7 @@ use Rattle.std.proofs.lemmas.Nat.{mul-add-lt}
 use Rattle.kernel_abi.specs.declared.Note.{Note}
 use Rattle.lane_picture.specs.declared.parts.Cell.{Cell}
 use Rattle.lane_picture.specs.Sizes.{no_cell}
-use Rattle.run_lanes.specs.declared.word.Word.{Word}
+use Rattle.run_lanes.specs.declared.activity.Activity.{Activity}
 use Rattle.run_lanes.specs.Columns.{cell_of, column_turns, is_outside}
 use Rattle.run_lanes.specs.Counted.{CellsOf, Changed, OutsideOf, both, column_by, comes_from_outside, joined, turned}
 use Rattle.run_lanes.specs.Words.{TurnSight}
@@ -20,7 +20,7 @@ use Rattle.run_lanes.proofs.Widths.{width_doubles, width_stays}
 few_in_column : (w : ℕ) (turns : List TurnSight) (k : ℕ) → length (column_by w turns k) ≤ length turns
 few_in_column w turns k = omega (arith, length-take w (drop (k * w) turns), length-drop (k * w) turns)
 
-abbrev sight_of : ℕ → List Word → List Note → TurnSight
+abbrev sight_of : ℕ → List Activity → List Note → TurnSight
 sight_of turn words notes = record { turn = turn; words = words; notes = notes }
 
 -- ## a turn more

@@ -5,8 +5,8 @@ use Rattle.std.specs.List.{flat_map, list_any, range_with_len}
 use Rattle.kernel_abi.specs.declared.Note.{Note}
 use Rattle.kernel_abi.specs.declared.Note.TheVariants as note
 use Rattle.lane_picture.specs.declared.parts.Cell.{Cell}
-use Rattle.run_lanes.specs.declared.word.Word.{Word}
-use Rattle.run_lanes.specs.declared.word.Word.TheVariants as word
+use Rattle.run_lanes.specs.declared.activity.Activity.{Activity}
+use Rattle.run_lanes.specs.declared.activity.Activity.TheVariants as word
 use Rattle.run_lanes.specs.Timeline.{word_at}
 use Rattle.run_lanes.specs.Words.{TurnSight, is_same}
 
@@ -32,11 +32,11 @@ abbrev pub column : List TurnSight → ℕ → List TurnSight
 column turns k = take (column_turns (length turns)) (drop (k * column_turns (length turns)) turns)
 
 -- the words in their order
-abbrev pub words : List Word
+abbrev pub words : List Activity
 words = word.Runs ∷ word.Ready ∷ word.Offers ∷ word.Awaits ∷ word.Listens ∷ word.Faulted ∷ word.Stopped ∷ []
 
 -- in how many of some turns a task has a word
-abbrev pub turns_with : ℕ → List TurnSight → Word → ℕ
+abbrev pub turns_with : ℕ → List TurnSight → Activity → ℕ
 turns_with i turns w = count_by (λ t. is_same (word_at t.words i) w) turns
 
 -- in one of them something like this is noted

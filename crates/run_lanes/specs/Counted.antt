@@ -3,7 +3,7 @@ use Rattle.std.specs.Prelude.{◌≡◌, ◌≤◌, ◌<◌, ℕ, ◌+◌, ◌-�
 use Rattle.std.specs.List.{list_any, range_with_len}
 use Rattle.kernel_abi.specs.declared.Note.{Note}
 use Rattle.lane_picture.specs.declared.parts.Cell.{Cell}
-use Rattle.run_lanes.specs.declared.word.Word.{Word}
+use Rattle.run_lanes.specs.declared.activity.Activity.{Activity}
 use Rattle.run_lanes.specs.Columns.{cell_of, is_birth_of, is_fault_of, is_outside, most_columns}
 use Rattle.run_lanes.specs.Timeline.{word_at}
 use Rattle.run_lanes.specs.Words.{TurnSight, word_number}
@@ -25,7 +25,7 @@ joined a b = record {
 }
 
 -- a turn more, in which a task does this
-abbrev pub counted : Cell → Word → Cell
+abbrev pub counted : Cell → Activity → Cell
 counted c w = record { words = slice_set c.words (word_number w) (both (slice_index_or c.words (word_number w) 0) 1); faulted = c.faulted; born = c.born }
 
 -- with these notes
@@ -33,7 +33,7 @@ abbrev pub marked : List Note → ℕ → Cell → Cell
 marked notes i c = record { words = c.words; faulted = c.faulted || list_any (is_fault_of i) notes; born = c.born || list_any (is_birth_of i) notes }
 
 -- a turn more of the i-th task
-abbrev pub turned : List Word → List Note → ℕ → Cell → Cell
+abbrev pub turned : List Activity → List Note → ℕ → Cell → Cell
 turned words notes i c = marked notes i (counted c (word_at words i))
 
 -- so many cells from one on are made of what they were, and the others stay

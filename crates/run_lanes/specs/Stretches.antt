@@ -1,47 +1,47 @@
 -- The stretches of a list of words, one for each turn: as long as the word stays the same (this project's own).
 use Rattle.std.specs.Prelude.{◌≡◌, ℕ, ◌+◌, ◌-◌, ◌==◌, false, if◌then◌else◌, List, [], ◌∷◌, ◌++◌, map, replicate}
 use Rattle.std.specs.List.{flat_map}
-use Rattle.run_lanes.specs.declared.word.Word.{Word}
+use Rattle.run_lanes.specs.declared.activity.Activity.{Activity}
 use Rattle.run_lanes.specs.declared.lanes.LaneStretch.{LaneStretch}
 use Rattle.run_lanes.specs.Timeline.{renewed, word_at}
 use Rattle.run_lanes.specs.Words.{TurnSight, is_same}
 
 -- what task i does, turn by turn
-abbrev pub words_of : ℕ → List TurnSight → List Word
+abbrev pub words_of : ℕ → List TurnSight → List Activity
 words_of i turns = map (λ t. word_at t.words i) turns
 
 -- a turn more before these stretches
-abbrev pub joined : Word → List (Word × ℕ) → List (Word × ℕ)
+abbrev pub joined : Activity → List (Activity × ℕ) → List (Activity × ℕ)
 joined w [] = (w, 1) ∷ []
 joined w (s ∷ stretches) = if is_same w s.0 then (s.0, s.1 + 1) ∷ stretches else (w, 1) ∷ s ∷ stretches
 
 -- each with its word, and how many turns it has
-unfoldable pub stretches : List Word → List (Word × ℕ)
+unfoldable pub stretches : List Activity → List (Activity × ℕ)
 stretches [] = []
 stretches (w ∷ words) = joined w (stretches words)
 
 -- no two neighbours have the same word
-abbrev pub Alternate : List (Word × ℕ) → Type 0
+abbrev pub Alternate : List (Activity × ℕ) → Type 0
 Alternate [] = Unit {0}
 Alternate (s ∷ []) = Unit {0}
 Alternate (s ∷ t ∷ stretches) = (is_same s.0 t.0 ≡ false) × Alternate (t ∷ stretches)
 
 -- one behind the other, word by word
-abbrev pub laid_out : List (Word × ℕ) → List Word
+abbrev pub laid_out : List (Activity × ℕ) → List Activity
 laid_out ss = flat_map (λ s. replicate s.1 s.0) ss
 
 -- all their turns
-unfoldable pub turns_in : List (Word × ℕ) → ℕ
+unfoldable pub turns_in : List (Activity × ℕ) → ℕ
 turns_in [] = 0
 turns_in (s ∷ stretches) = s.1 + turns_in stretches
 
 -- ## the stretches that a timeline tells of a task
 
 -- one that ends before a turn, unless it has no turn (Timeline's `ended_text`)
-abbrev pub ended : ℕ → LaneStretch → List (Word × ℕ)
+abbrev pub ended : ℕ → LaneStretch → List (Activity × ℕ)
 ended turn s = if s.since == turn then [] else (s.word, turn - s.since) ∷ []
 
 -- those of a task that is in a stretch at a turn and does these words from then on (Timeline's `over_text`, `renewed` and, at the end, `ended_text`)
-unfoldable pub told : ℕ → LaneStretch → List Word → List (Word × ℕ)
+unfoldable pub told : ℕ → LaneStretch → List Activity → List (Activity × ℕ)
 told turn s [] = ended turn s
 told turn s (w ∷ words) = (if is_same s.word w then [] else ended turn s) ++ told (turn + 1) (renewed turn s w) words

@@ -14,8 +14,8 @@ use Rattle.task_table.specs.model.State.{State}
 use Rattle.board_model.specs.Script.{Scenario}
 use Rattle.run_lanes.specs.declared.lanes.Offer.{Offer}
 use Rattle.run_lanes.specs.declared.lanes.LaneStretch.{LaneStretch}
-use Rattle.run_lanes.specs.declared.word.Word.{Word}
-use Rattle.run_lanes.specs.declared.word.Word.TheVariants as word
+use Rattle.run_lanes.specs.declared.activity.Activity.{Activity}
+use Rattle.run_lanes.specs.declared.activity.Activity.TheVariants as word
 use Rattle.run_lanes.specs.Names.{fault_name, syscall_name}
 use Rattle.run_lanes.specs.Words.{TurnSight, is_same, sights}
 
@@ -25,7 +25,7 @@ use Rattle.run_lanes.specs.Words.{TurnSight, is_same, sights}
 unfoldable pub place_text : ℕ → ℕ → List ℕ
 place_text thread turn = codes ",\"tid\":" ++ decimal thread ++ codes ",\"ts\":" ++ decimal turn ++ codes "}"
 
-abbrev pub word_name : Word → List ℕ
+abbrev pub word_name : Activity → List ℕ
 word_name word.Runs = codes "runs"
 word_name word.Ready = codes "ready"
 word_name word.Offers = codes "offers"
@@ -35,7 +35,7 @@ word_name word.Faulted = codes "faulted"
 word_name word.Stopped = codes "stopped"
 
 -- what a task does for so many turns from one on
-unfoldable pub stretch_text : ℕ → Word → ℕ → ℕ → List ℕ
+unfoldable pub stretch_text : ℕ → Activity → ℕ → ℕ → List ℕ
 stretch_text thread w turns from =
     codes ",\n{\"dur\":" ++ decimal turns ++ codes ",\"name\":\"" ++ word_name w ++ codes "\",\"ph\":\"X\",\"pid\":0" ++ place_text thread from
 
@@ -135,7 +135,7 @@ nothing_yet turn = record { word = word.Ready; since = turn }
 abbrev pub stretch_at : List LaneStretch → ℕ → LaneStretch
 stretch_at stretches i = slice_index_or stretches i (nothing_yet 0)
 
-abbrev pub word_at : List Word → ℕ → Word
+abbrev pub word_at : List Activity → ℕ → Activity
 word_at words i = slice_index_or words i word.Ready
 
 -- what is told of a stretch that ends before a turn: nothing where it has no turn
@@ -143,17 +143,17 @@ abbrev pub ended_text : ℕ → ℕ → LaneStretch → List ℕ
 ended_text turn i s = if s.since == turn then [] else stretch_text (thread_of i) s.word (turn - s.since) s.since
 
 -- it ends where the task does something else
-abbrev pub over_text : ℕ → ℕ → LaneStretch → Word → List ℕ
+abbrev pub over_text : ℕ → ℕ → LaneStretch → Activity → List ℕ
 over_text turn i s w = if is_same s.word w then [] else ended_text turn i s
 
 -- and another one begins there
-abbrev pub renewed : ℕ → LaneStretch → Word → LaneStretch
+abbrev pub renewed : ℕ → LaneStretch → Activity → LaneStretch
 renewed turn s w = if is_same s.word w then s else record { word = w; since = turn }
 
-unfoldable pub overs_text : ℕ → List LaneStretch → List Word → List ℕ
+unfoldable pub overs_text : ℕ → List LaneStretch → List Activity → List ℕ
 overs_text turn stretches words = flat_map (λ i. over_text turn i (stretch_at stretches i) (word_at words i)) (range_with_len 0 (length stretches))
 
-unfoldable pub all_renewed : ℕ → List LaneStretch → List Word → List LaneStretch
+unfoldable pub all_renewed : ℕ → List LaneStretch → List Activity → List LaneStretch
 all_renewed turn stretches words = map (λ i. renewed turn (stretch_at stretches i) (word_at words i)) (range_with_len 0 (length stretches))
 
 unfoldable pub rests_text : ℕ → List LaneStretch → List ℕ

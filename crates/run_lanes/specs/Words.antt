@@ -18,25 +18,25 @@ use Rattle.board_model.specs.declared.outcomes.End.{End}
 use Rattle.board_model.specs.Script.{Scenario}
 use Rattle.board_model.specs.Turn.{turn, turned}
 use Rattle.board_model.specs.Run.{ending}
-use Rattle.run_lanes.specs.declared.word.Word.{Word}
-use Rattle.run_lanes.specs.declared.word.Word.TheVariants as word
+use Rattle.run_lanes.specs.declared.activity.Activity.{Activity}
+use Rattle.run_lanes.specs.declared.activity.Activity.TheVariants as word
 
-abbrev pub phase_word : Phase → Word
+abbrev pub phase_word : Phase → Activity
 phase_word Offered = word.Offers
 phase_word Taken = word.Awaits
 
-abbrev pub wait_word : Wait → Word
+abbrev pub wait_word : Wait → Activity
 wait_word wait.Nothing = word.Ready
 wait_word (wait.Call call) = phase_word call.phase
 wait_word (wait.Listen listen) = word.Listens
 
-abbrev pub word_of : Health → Wait → Word
+abbrev pub word_of : Health → Wait → Activity
 word_of health.Well w = wait_word w
 word_of health.Stopped w = word.Stopped
 word_of (health.Faulted fault) w = word.Faulted
 
 -- the words in order, from 0 on
-abbrev pub word_number : Word → ℕ
+abbrev pub word_number : Activity → ℕ
 word_number word.Runs = 0
 word_number word.Ready = 1
 word_number word.Offers = 2
@@ -45,11 +45,11 @@ word_number word.Listens = 4
 word_number word.Faulted = 5
 word_number word.Stopped = 6
 
-abbrev pub is_same : Word → Word → Bool
+abbrev pub is_same : Activity → Activity → Bool
 is_same w v = word_number w == word_number v
 
 -- what a task is in a state
-abbrev pub waiting : State → ℕ → Word
+abbrev pub waiting : State → ℕ → Activity
 waiting s i = word_of (task_at s i).health (wait_of (call_of s i) (listen_of s i))
 
 -- the turn is that task's
@@ -58,16 +58,16 @@ is_of Idle i = false
 is_of (Ran c at) i = c == i
 
 -- what a task does in the turn that follows a state
-abbrev pub word_in : Scenario → State → ℕ → Word
+abbrev pub word_in : Scenario → State → ℕ → Activity
 word_in x s i = if is_of (turned x s) i then word.Runs else waiting s i
 
-unfoldable pub words_in : Scenario → State → List Word
+unfoldable pub words_in : Scenario → State → List Activity
 words_in x s = map (word_in x s) (range_with_len 0 (length s.tasks))
 
 -- what is seen of a turn
 pub record TurnSight : Type 0 where
   pub turn : ℕ
-  pub words : List Word
+  pub words : List Activity
   pub notes : List Note
 
 abbrev pub sight : Scenario → State → TurnSight

@@ -7,7 +7,7 @@ use crate::events::add_events;
 use crate::exchange::Exchange;
 use crate::first::First;
 use crate::watching::Watcher;
-use crate::word::Word;
+use crate::activity::Activity;
 use kernel_abi::Note;
 use outside_io::Failed;
 use std::alloc::{AllocError, Global};
@@ -54,7 +54,7 @@ impl Watcher<()> for Canvas {
     fn see(
         &mut self,
         turn: u32,
-        words: &[Word],
+        words: &[Activity],
         notes: &[Note],
         _out: &mut (),
     ) -> Result<(), Failed> {

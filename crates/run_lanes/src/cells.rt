@@ -8,7 +8,7 @@ ghost use Rattle.run_lanes.specs.Counted.{Changed, both, counted, joined, marked
 ghost use Rattle.run_lanes.specs.Timeline.{word_at};
 
 use crate::lanes::word_at;
-use crate::word::Word;
+use crate::activity::Activity;
 use kernel_abi::Note;
 use lane_picture::Cell;
 
@@ -46,7 +46,7 @@ fn joined(first: &Cell, second: &Cell) -> Cell
 }
 
 // A turn more, in which a task does this.
-fn count(cell: &mut Cell, word: Word)
+fn count(cell: &mut Cell, word: Activity)
     ensures { cell.new ≡ counted cell.old word }
 {
     let w = usize::from(word.number());
@@ -54,7 +54,7 @@ fn count(cell: &mut Cell, word: Word)
 }
 
 // What each task does in a turn more of the column that begins at a cell.
-fn count_words(cells: &mut [Cell], at: usize, tasks: usize, words: &[Word])
+fn count_words(cells: &mut [Cell], at: usize, tasks: usize, words: &[Activity])
     requires room { at + tasks ≤ length cells.old }
     ensures { Changed cells.old cells.new at tasks (λ i c. counted c (word_at words.now i)) }
 {
@@ -96,7 +96,7 @@ fn mark_all(cells: &mut [Cell], at: usize, tasks: usize, notes: &[Note])
 }
 
 /// A turn more in the column that begins at a cell, with what each task does in it and the notes of it.
-pub fn add_turn(cells: &mut [Cell], at: usize, tasks: usize, words: &[Word], notes: &[Note])
+pub fn add_turn(cells: &mut [Cell], at: usize, tasks: usize, words: &[Activity], notes: &[Note])
     requires room { at + tasks ≤ length cells.old }
     ensures { Changed cells.old cells.new at tasks (turned words.now notes.now) }
 {

@@ -3,7 +3,7 @@
 ghost use Rattle.std.specs.Prelude.{◌≡◌, ◌≤◌, ◌<◌, ◌*◌, vec_len};
 
 use crate::cells::{MOST_COLUMNS, NO_CELL, add_turn, comes_from_outside, halve, halve_outside};
-use crate::word::Word;
+use crate::activity::Activity;
 use kernel_abi::Note;
 use lane_picture::Cell;
 use std::alloc::{AllocError, Global};
@@ -71,7 +71,7 @@ impl Columns {
     }
 
     // The cells of a turn more.
-    fn add_cells(&mut self, words: &[Word], notes: &[Note])
+    fn add_cells(&mut self, words: &[Activity], notes: &[Note])
         requires free { self.old.column < 1200 }
         ensures tasks { self.new.tasks ≡ self.old.tasks }
         ensures width { self.new.width ≡ self.old.width }
@@ -126,7 +126,7 @@ impl Columns {
     }
 
     /// A turn more, with what each task does in it and the notes of it.
-    pub fn add(&mut self, words: &[Word], notes: &[Note])
+    pub fn add(&mut self, words: &[Activity], notes: &[Note])
         ensures tasks { self.new.tasks ≡ self.old.tasks }
         ensures added { (turn : ℕ) (turns : List TurnSight) → length turns < 1000000000 → Columned self.old (length turns) turns →
             Columned self.new (length turns + 1) (turns ++ (record { turn = turn; words = words.now; notes = notes.now } ∷ [])) }

@@ -6,7 +6,7 @@ ghost use Rattle.run_lanes.specs.Told.{TurnNote, event_text, is_event, name_of};
 
 use crate::first::First;
 use crate::line::Line;
-use crate::telling::push_fault;
+use crate::names::push_fault;
 use kernel_abi::{Fault, Note};
 use std::alloc::{AllocError, Global};
 use trace_text::push_decimal;

@@ -2,14 +2,14 @@
 ghost use Rattle.std.specs.Prelude.{◌≡◌, IfOk};
 ghost use Rattle.run_lanes.specs.Timeline.{all_renewed, client_from, kept_none, is_of_call, offers_after, renewed, server_in, server_thread_of, word_at};
 
-use crate::word::Word;
+use crate::activity::Activity;
 use kernel_abi::Note;
 use std::alloc::{AllocError, Global};
 
 /// What a task has done since a turn.
 #[derive(Clone, Copy)]
 pub struct LaneStretch {
-    pub word: Word,
+    pub word: Activity,
     pub since: u32,
 }
 
@@ -39,7 +39,7 @@ impl Lanes {
         ensures { IfOk result (λ l. kept_of l ≡ kept_none tasks turn) }
     {
         let nothing_yet = LaneStretch {
-            word: Word::Ready,
+            word: Activity::Ready,
             since: turn,
         };
         let stretches = Vec::from_elem(alloc, nothing_yet, tasks)?;
@@ -50,7 +50,7 @@ impl Lanes {
 
 impl LaneStretch {
     /// What a task has done after a turn in which it did this.
-    pub fn renewed(&self, turn: u32, word: Word) -> LaneStretch
+    pub fn renewed(&self, turn: u32, word: Activity) -> LaneStretch
         ensures { result ≡ renewed turn self.now word }
     {
         if self.word.is_same(word) {
@@ -62,18 +62,18 @@ impl LaneStretch {
 }
 
 /// What a task does, where these are the words of all; past their end it is ready.
-pub fn word_at(words: &[Word], i: usize) -> Word
+pub fn word_at(words: &[Activity], i: usize) -> Activity
     ensures { result ≡ word_at words.now i }
 {
     if i < words.len() {
         words[i]
     } else {
-        Word::Ready
+        Activity::Ready
     }
 }
 
 /// What the tasks have done after a turn in which they did this.
-pub fn renew_all(turn: u32, words: &[Word], stretches: &mut [LaneStretch])
+pub fn renew_all(turn: u32, words: &[Activity], stretches: &mut [LaneStretch])
     ensures { stretches.new ≡ all_renewed turn stretches.old words.now }
 {
     for i in 0..stretches.len() {

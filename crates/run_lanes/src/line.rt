@@ -7,8 +7,8 @@ ghost use Rattle.run_lanes.specs.Names.{fault_name, syscall_name};
 ghost use Rattle.run_lanes.specs.Timeline.{arrow_text, in_name, instant_text, irq_name, note_text, order_text, out_name, place_text, post_name, restart_name, stretch_text, thread_of, tick_name};
 
 use crate::lanes::{Offer, client_thread, server_thread};
-use crate::telling::{push_call, push_fault};
-use crate::word::Word;
+use crate::names::{push_call, push_fault};
+use crate::activity::Activity;
 use arrayvec::ArrayString;
 use kernel_abi::{Fault, Fed, Handled, Note};
 use trace_text::{push_byte, push_decimal, push_spaced_hex};
@@ -30,7 +30,7 @@ fn push_place(thread: u64, turn: u32, out: &mut Line)
 
 /// A task does the same for so many turns from one on.
 #[tactic(auto, unfolding(crate::specs::Timeline::stretch_text))]
-pub fn stretch_line(thread: u64, word: Word, turns: u32, from: u32, out: &mut Line)
+pub fn stretch_line(thread: u64, word: Activity, turns: u32, from: u32, out: &mut Line)
     requires { out.old.bytes ≡ [] }
     ensures { out.new.bytes ≡ stretch_text thread word turns from }
 {

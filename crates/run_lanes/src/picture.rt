@@ -5,7 +5,7 @@ ghost use Rattle.board_model.specs.declared.outcomes.Level.TheVariants.{Calls};
 ghost use Rattle.board_model.specs.Script.{Scenario};
 ghost use Rattle.board_model.specs.Run.{Run, run};
 ghost use Rattle.board_core.specs.Data.{boxed};
-ghost use Rattle.board_core.specs.Stands.{Stands, Stood, count_of, turns_of};
+ghost use Rattle.board_core.specs.Stands.{Stands, StandsForSome, count_of, turns_of};
 ghost use Rattle.lane_picture.specs.Drawing.{drawing_text};
 ghost use Rattle.run_lanes.specs.Painted.{Painted, Paints};
 ghost use Rattle.run_lanes.specs.Pictured.{drawn, picture_text};
@@ -14,15 +14,15 @@ ghost use Rattle.run_lanes.specs.Words.{TurnSight, sights};
 use crate::canvas::Canvas;
 use crate::events::event_texts;
 use crate::watching::watch;
-use crate::word::Word;
+use crate::activity::Activity;
 use board_core::{Board, End};
 use board_run::end_name;
 use lane_picture::{LanePicture, draw};
 use std::alloc::{AllocError, Global};
 
 // Turns up to the end of the run, as a canvas sees them.
-fn watch_all(board: &mut Board, limit: u32, words: &mut [Word], canvas: &mut Canvas) -> End
-    requires stood { Stood (boxed shown) board.old }
+fn watch_all(board: &mut Board, limit: u32, words: &mut [Activity], canvas: &mut Canvas) -> End
+    requires stood { StandsForSome (boxed shown) board.old }
     requires from { turns_of board.old ≤ limit }
     requires few { limit ≤ 1000000000 }
     requires one_each { (x : Scenario) (s : State) → Stands (boxed shown) x board.old s → length words.old ≡ length x.setup.tasks }
@@ -85,7 +85,7 @@ pub fn draw_run(
     title: &str,
     names: &[String],
 ) -> Result<(Vec<u8>, End), AllocError>
-    requires stood { Stood (boxed shown) board.old }
+    requires stood { StandsForSome (boxed shown) board.old }
     requires from { turns_of board.old ≤ limit }
     requires few { limit ≤ 1000000000 }
     requires named { length names.now ≡ count_of board.old }
@@ -98,7 +98,7 @@ pub fn draw_run(
 {
     let tasks = board.task_count();
     let from = board.turns();
-    let mut words = Vec::from_elem(alloc, Word::Ready, tasks)?;
+    let mut words = Vec::from_elem(alloc, Activity::Ready, tasks)?;
     let mut canvas = Canvas::open(alloc, tasks)?;
     let end = watch_all(board, limit, &mut words, &mut canvas);
     let turns = board.turns() - from;

@@ -6,7 +6,7 @@ ghost use Rattle.run_lanes.specs.Timeline.{ended_text, note_text, notes_text, of
 
 use crate::lanes::{LaneStretch, Offer, hear, word_at};
 use crate::line::{Line, note_line, order_line, stretch_line};
-use crate::word::Word;
+use crate::activity::Activity;
 use kernel_abi::Note;
 use outside_io::{Failed, Sink};
 
@@ -30,7 +30,7 @@ fn push_if_over<S: Sink>(
     turn: u32,
     i: usize,
     stretch: LaneStretch,
-    word: Word,
+    word: Activity,
     out: &mut S,
 ) -> Result<(), Failed>
     requires few { i + 1 < 2 ^ 64 }
@@ -47,7 +47,7 @@ fn push_if_over<S: Sink>(
 pub fn push_overs<S: Sink>(
     turn: u32,
     stretches: &[LaneStretch],
-    words: &[Word],
+    words: &[Activity],
     out: &mut S,
 ) -> Result<(), Failed>
     ensures bytes { Pushes (S.seen out.old).written (S.seen out.new).written (overs_text turn stretches.now words.now) result }

@@ -6,7 +6,7 @@ ghost use Rattle.task_table.specs.model.State.{State};
 ghost use Rattle.board_model.specs.declared.outcomes.Level.TheVariants.{Calls};
 ghost use Rattle.board_model.specs.Script.{Scenario};
 ghost use Rattle.board_model.specs.Run.{run};
-ghost use Rattle.board_core.specs.Stands.{Stands, Stood, count_of, turns_of};
+ghost use Rattle.board_core.specs.Stands.{Stands, StandsForSome, count_of, turns_of};
 ghost use Rattle.board_core.specs.Data.{boxed};
 ghost use Rattle.run_lanes.specs.declared.timeline.TimelineFault.TheVariants as fault;
 ghost use Rattle.run_lanes.specs.Kept.{BreaksText, SeesText, kept_of};
@@ -14,10 +14,10 @@ ghost use Rattle.run_lanes.specs.Timeline.{drawn_text, orders_text, outside_text
 ghost use Rattle.run_lanes.specs.Words.{sights};
 
 use crate::lanes::{Lanes, renew_all};
-use crate::naming::name_lines;
+use crate::thread_names::name_lines;
 use crate::pushing::{push_head, push_notes, push_overs, push_rests, push_tail};
 use crate::watching::{Watcher, watch};
-use crate::word::Word;
+use crate::activity::Activity;
 use board_core::{Board, End};
 use kernel_abi::Note;
 use outside_io::{Failed, Sink};
@@ -57,7 +57,7 @@ impl<S: Sink> Watcher<S> for Lanes {
     fn see(
         &mut self,
         turn: u32,
-        words: &[Word],
+        words: &[Activity],
         notes: &[Note],
         out: &mut S,
     ) -> Result<(), Failed> {
@@ -83,11 +83,11 @@ fn push_end<S: Sink>(turn: u32, lanes: &Lanes, out: &mut S) -> Result<(), Failed
 fn draw<S: Sink>(
     board: &mut Board,
     limit: u32,
-    words: &mut [Word],
+    words: &mut [Activity],
     lanes: &mut Lanes,
     out: &mut S,
 ) -> Result<End, Failed>
-    requires stood { Stood (boxed shown) board.old }
+    requires stood { StandsForSome (boxed shown) board.old }
     requires from { turns_of board.old ≤ limit }
     requires few { limit ≤ 1000000000 }
     requires one_each { (x : Scenario) (s : State) → Stands (boxed shown) x board.old s → length words.old ≡ length x.setup.tasks }
@@ -110,11 +110,11 @@ fn draw_whole<S: Sink>(
     board: &mut Board,
     limit: u32,
     lines: &[String],
-    words: &mut [Word],
+    words: &mut [Activity],
     lanes: &mut Lanes,
     out: &mut S,
 ) -> Result<End, Failed>
-    requires stood { Stood (boxed shown) board.old }
+    requires stood { StandsForSome (boxed shown) board.old }
     requires from { turns_of board.old ≤ limit }
     requires few { limit ≤ 1000000000 }
     requires one_each { (x : Scenario) (s : State) → Stands (boxed shown) x board.old s → length words.old ≡ length x.setup.tasks }
@@ -146,7 +146,7 @@ pub fn write_timeline<S: Sink>(
     names: &[String],
     out: &mut S,
 ) -> Result<End, TimelineFault>
-    requires stood { Stood (boxed shown) board.old }
+    requires stood { StandsForSome (boxed shown) board.old }
     requires from { turns_of board.old ≤ limit }
     requires few { limit ≤ 1000000000 }
     requires named { length names.now ≡ count_of board.old }
@@ -167,7 +167,7 @@ pub fn write_timeline<S: Sink>(
 {
     let tasks = board.task_count();
     let lines = name_lines(alloc, names)?;
-    let mut words = Vec::from_elem(alloc, Word::Ready, tasks)?;
+    let mut words = Vec::from_elem(alloc, Activity::Ready, tasks)?;
     let mut lanes = Lanes::open(alloc, tasks, board.turns())?;
     let end = draw_whole(board, limit, &lines, &mut words, &mut lanes, out)?;
     Ok(end)

@@ -5,15 +5,15 @@ ghost use Rattle.task_table.specs.model.State.{State};
 ghost use Rattle.board_model.specs.declared.outcomes.Level.TheVariants.{Calls};
 ghost use Rattle.board_model.specs.Script.{Scenario};
 ghost use Rattle.board_model.specs.Run.{run};
-ghost use Rattle.board_core.specs.Stands.{Stands, Stood, turns_of};
+ghost use Rattle.board_core.specs.Stands.{Stands, StandsForSome, turns_of};
 ghost use Rattle.board_core.specs.Data.{boxed};
 ghost use Rattle.board_core.specs.Views.{IsTask};
-ghost use Rattle.run_lanes.specs.declared.word.Word.{Word as Said};
-ghost use Rattle.run_lanes.specs.declared.word.Word.TheVariants as said;
+ghost use Rattle.run_lanes.specs.declared.activity.Activity.{Activity as Said};
+ghost use Rattle.run_lanes.specs.declared.activity.Activity.TheVariants as said;
 ghost use Rattle.run_lanes.specs.Seen.{BreaksSeeing, Paired};
 ghost use Rattle.run_lanes.specs.Words.{TurnSight, is_of, sights, waiting};
 
-use crate::word::{Word, word_of};
+use crate::activity::{Activity, word_of};
 use board_core::{Board, End, Level, TaskView, Turned};
 use board_run::ending;
 use kernel_abi::Note;
@@ -31,7 +31,7 @@ pub trait Watcher<O> {
     ghost broke: { Self → O → List TurnSight → Self → O → Type 0 };
 
     /// A turn, with what each task does in it and the notes of it.
-    fn see(&mut self, turn: u32, words: &[Word], notes: &[Note], out: &mut O) -> Result<(), Failed>
+    fn see(&mut self, turn: u32, words: &[Activity], notes: &[Note], out: &mut O) -> Result<(), Failed>
         ensures { MatchResult result
             (λ _. saw self.old out.old (record { turn = turn; words = words.now; notes = notes.now } ∷ []) self.new out.new)
             (λ _. broke self.old out.old (record { turn = turn; words = words.now; notes = notes.now } ∷ []) self.new out.new) };
@@ -45,24 +45,24 @@ pub trait Watcher<O> {
 }
 
 /// What a task is between turns.
-fn waiting(task: &TaskView) -> Word
+fn waiting(task: &TaskView) -> Activity
     ensures { (s : State) (i : ℕ) → IsTask s i task.now → result ≡ waiting s i }
 {
     word_of(task.health, task.wait)
 }
 
 // What a task is between turns, by its index.
-fn word_at(board: &Board, i: usize) -> Word
+fn word_at(board: &Board, i: usize) -> Activity
     ensures { (x : Scenario) (s : State) → Stands (boxed shown) x board.now s → i < length s.tasks → result ≡ waiting s i }
 {
     match board.task(i) {
         Some(task) => waiting(&task),
-        None => Word::Stopped,
+        None => Activity::Stopped,
     }
 }
 
 // What each task is between turns, in the place of what stood in a list as long.
-fn look(board: &Board, words: &mut [Word])
+fn look(board: &Board, words: &mut [Activity])
     ensures len { length words.new ≡ length words.old }
     ensures words { (x : Scenario) (s : State) → Stands (boxed shown) x board.now s → length words.old ≡ length s.tasks → words.new ≡ map (waiting s) (range_with_len 0 (length s.tasks)) }
 {
@@ -72,7 +72,7 @@ fn look(board: &Board, words: &mut [Word])
 }
 
 // Whose turn it was.
-fn mark(turned: Turned, words: &mut [Word])
+fn mark(turned: Turned, words: &mut [Activity])
     ensures len { length words.new ≡ length words.old }
     ensures marked { (k : ℕ) (d : Said) → k < length words.old → slice_index_or words.new k d ≡ (if is_of turned k then said.Runs else slice_index_or words.old k d) }
 {
@@ -81,7 +81,7 @@ fn mark(turned: Turned, words: &mut [Word])
         Turned::Ran { task, .. } => {
             let i = usize::from(task);
             if i < words.len() {
-                words[i] = Word::Runs;
+                words[i] = Activity::Runs;
             }
         }
     }
@@ -96,11 +96,11 @@ fn mark(turned: Turned, words: &mut [Word])
 pub fn watch<O, W: Watcher<O>>(
     board: &mut Board,
     limit: u32,
-    words: &mut [Word],
+    words: &mut [Activity],
     watcher: &mut W,
     out: &mut O,
 ) -> Result<End, Failed>
-    requires stood { Stood (boxed shown) board.old }
+    requires stood { StandsForSome (boxed shown) board.old }
     requires from { turns_of board.old ≤ limit }
     requires few { limit ≤ 1000000000 }
     requires one_each { (x : Scenario) (s : State) → Stands (boxed shown) x board.old s → length words.old ≡ length x.setup.tasks }

@@ -21,7 +21,7 @@ use Rattle.board_core.proofs.Loading.{HoldsRest, rest_held, devices_held}
 use Rattle.board_core.proofs.Turning.{rested}
 use Rattle.board_core.proofs.KeptAlike.{stands_alike}
 use Rattle.snapshot.specs.Records.{header_at, task_in, device_in}
-use Rattle.image_format.specs.Picture.{AreBytes}
+use Rattle.image_format.specs.ImageData.{AreBytes}
 use Rattle.snapshot.specs.Accepted.{IsAccepted, IsGoodRecord, IsGoodDevice}
 use Rattle.snapshot.specs.Waits.{state_fault}
 use Rattle.snapshot.specs.Saved.{SpellsState, expected_of}
@@ -35,8 +35,8 @@ use Rattle.snapshot.proofs.Restores as restores
 -- ## what is known of a board that holds a state
 
 module _ {X : Type 0} {H : X → Type 0} (shown : Shows X H) (x : Scenario) (b : Board X H) (u : State) (h : Holds shown x b u) where
-  rest : HoldsRest x.setup b.machine.reach.kernel (rested b.machine u)
-  rest = rest_held shown b.machine.loaded x.setup b.machine.reach b.machine.glider.runner.processor _ h.machine
+  rest : HoldsRest x.setup b.machine.space.kernel (rested b.machine u)
+  rest = rest_held shown b.machine.loaded x.setup b.machine.space b.machine.glider.runner.processor _ h.machine
 
   pub as_many : count_of b ≡ length u.tasks
   as_many = rest.holds.count ∙ sym rest.rest.count
@@ -45,13 +45,13 @@ module _ {X : Type 0} {H : X → Type 0} (shown : Shows X H) (x : Scenario) (b :
   setup_tasks = rest.holds.many ∙ sym rest.holds.count
 
   few_tasks : length x.setup.tasks ≤ 1024
-  few_tasks = let few = b.machine.reach.kernel.few in omega (arith, few, setup_tasks)
+  few_tasks = let few = b.machine.space.kernel.few in omega (arith, few, setup_tasks)
 
   all_lines : x.setup.line_count ≡ 64
-  all_lines = ap (λ (g : Setup). g.line_count) (sym rest.holds.setup) ∙ b.machine.reach.kernel.all_lines
+  all_lines = ap (λ (g : Setup). g.line_count) (sym rest.holds.setup) ∙ b.machine.space.kernel.all_lines
 
   lines_there : length u.lines ≡ 64
-  lines_there = ap length (rest.rest.lines ∙ sym rest.holds.lines) ∙ b.machine.reach.kernel.all_lines
+  lines_there = ap length (rest.rest.lines ∙ sym rest.holds.lines) ∙ b.machine.space.kernel.all_lines
 
   pub as_much : length u.memory.ram ≡ x.setup.ram
   as_much = ap (λ (m : Memory). length m.ram) (rest.rest.memory ∙ sym rest.holds.memory) ∙ ap (λ (g : Setup). g.ram) rest.holds.setup
@@ -98,7 +98,7 @@ same_sites g devices bytes =
 pub accepted_by : {X : Type 0} {H : X → Type 0} (shown : Shows X H) (x y : Scenario) (b : Board X H) (u v : State) (bytes : List ℕ) → Holds shown x b u → Holds shown y b v → state_fault (expected_of y.setup v.devices) bytes ≡ None → IsAccepted (expected_of x.setup u.devices) bytes
 accepted_by shown x y b u v bytes h k none =
     let setup : y.setup ≡ x.setup = sym (rest shown y b v k).holds.setup ∙ (rest shown x b u h).holds.setup in
-    let devices : v.devices ≡ u.devices = sym (devices_held shown b.machine.loaded y.setup b.machine.reach b.machine.glider.runner.processor _ k.machine) ∙ devices_held shown b.machine.loaded x.setup b.machine.reach b.machine.glider.runner.processor _ h.machine in
+    let devices : v.devices ≡ u.devices = sym (devices_held shown b.machine.loaded y.setup b.machine.space b.machine.glider.runner.processor _ k.machine) ∙ devices_held shown b.machine.loaded x.setup b.machine.space b.machine.glider.runner.processor _ h.machine in
     subst (λ (g : Setup). IsAccepted (expected_of g u.devices) bytes) setup
     (subst (λ (ds : List DeviceData). IsAccepted (expected_of y.setup ds) bytes) devices (accepted (expected_of y.setup v.devices) bytes none))
 

@@ -11,7 +11,7 @@ mod Rows
 mod Saves
 mod Single
 mod Splits
-pub mod Stood
+pub mod StandsForSome
 mod Told
 mod Viewed
 mod WaitsRestored

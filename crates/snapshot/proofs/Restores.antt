@@ -17,7 +17,7 @@ use Rattle.task_table.specs.model.State.{Setup, TaskSetup, Birth, Call, Listen, 
 use Rattle.task_table.specs.model.Reading.{task_at, line_at, call_of, listen_of, no_task, no_line}
 use Rattle.task_table.specs.model.Sane.{Sane, IsSaneTask, AreLines, AreAhead, Every, IsCounted, IsOwned}
 use Rattle.board_model.specs.Alike.{reduced, seen, seen_task, seen_call, seen_listen, seen_from}
-use Rattle.image_format.specs.Picture.{AreBytes}
+use Rattle.image_format.specs.ImageData.{AreBytes}
 use Rattle.snapshot.specs.Records as file
 use Rattle.snapshot.specs.Records.{header_at, task_in, device_in, tasks_at, devices_at, parts_at, bytes_of, total, devices_place, ram_place}
 use Rattle.snapshot.specs.Causes.{kind_at}

@@ -22,7 +22,7 @@ use Rattle.snapshot.specs.Saved.{spelling, expected_of}
 use Rattle.snapshot.proofs.Accepts.{none_of}
 use Rattle.snapshot.proofs.Fixed.{fixed_run}
 use Rattle.snapshot.proofs.Saves.{saved_is_accepted}
-use Rattle.snapshot.proofs.Stood.{IsAsLarge, as_long, spells}
+use Rattle.snapshot.proofs.StandsForSome.{IsAsLarge, as_long, spells}
 
 -- ## what does not depend on births
 

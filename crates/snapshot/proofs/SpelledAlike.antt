@@ -38,7 +38,7 @@ use Rattle.snapshot.proofs.Again.{parts_again}
 use Rattle.snapshot.proofs.Boards.{fit}
 use Rattle.snapshot.proofs.Loads.{device_again, line_again, no_device, site, site_at}
 use Rattle.snapshot.proofs.Saves.{are_parts, few_queued, reduced_task}
-use Rattle.snapshot.proofs.Stood.{as_long}
+use Rattle.snapshot.proofs.StandsForSome.{as_long}
 use Rattle.snapshot.proofs.TaskViews.{viewed_again}
 
 -- ## states that the same bytes spell

@@ -1,7 +1,7 @@
 //! A board goes on from a state that bytes spell.
 ghost use Rattle.std.specs.Prelude.{◌≡◌, ◌<◌, ◌≤◌, ◌+◌, ◌*◌, ℕ, None, length, map, drop, vec_items, IfOk, IfErr};
 ghost use Rattle.kernel_abi.specs.Devices.{AreFresh, device_at, with_device};
-ghost use Rattle.image_format.specs.Images.{picture};
+ghost use Rattle.image_format.specs.Images.{image_data};
 ghost use Rattle.run_script.specs.Events.{script_data};
 ghost use Rattle.task_table.specs.model.State.{State};
 ghost use Rattle.task_table.specs.model.Sane.{Sane, IsCounted};
@@ -132,7 +132,7 @@ pub fn load_into(board: &mut Board, bytes: &[u8])
 
 /// The regions of each task.
 fn regions(alloc: Global, image: &Image) -> Result<Vec<Vec<Region>>, AllocError>
-    ensures { IfOk result (λ v. map vec_items v.items ≡ map (λ t. t.regions) (picture image.now).tasks) }
+    ensures { IfOk result (λ v. map vec_items v.items ≡ map (λ t. t.regions) (image_data image.now).tasks) }
 {
     let mut regions = Vec::new(alloc);
     for i in 0..image.task_count() {
@@ -143,7 +143,7 @@ fn regions(alloc: Global, image: &Image) -> Result<Vec<Vec<Region>>, AllocError>
 
 /// The interrupt lines that have an owner.
 fn owned(alloc: Global, image: &Image) -> Result<Vec<u8>, AllocError>
-    ensures { IfOk result (λ v. v.items ≡ map (λ l. l.line) (picture image.now).lines) }
+    ensures { IfOk result (λ v. v.items ≡ map (λ l. l.line) (image_data image.now).lines) }
 {
     let mut lines = Vec::new(alloc);
     for k in 0..image.line_count() {
@@ -178,7 +178,7 @@ fn refusal(
     bytes: &[u8],
 ) -> Result<Option<(u8, u32)>, AllocError>
     requires { length devices.now.items ≤ 8 }
-    ensures { IfOk result (λ found. found ≡ state_fault (expected_of (setup_of_image (picture image.now)) (map shown devices.now.items)) bytes.now) }
+    ensures { IfOk result (λ found. found ≡ state_fault (expected_of (setup_of_image (image_data image.now)) (map shown devices.now.items)) bytes.now) }
 {
     image.facts();
     let regions = regions(alloc, image)?;
@@ -201,13 +201,13 @@ pub fn load(
     devices: Vec<Box<dyn Device>>,
 ) -> Result<Board, StateFault>
     requires fresh { AreFresh (map shown devices.items) }
-    ensures accepted { let x = scenario_of (picture image.now) (script_data script.now) (map shown devices.items) in IfOk result (λ b. state_fault (expected_of x.setup x.devices) bytes.now ≡ None) }
-    ensures start { let x = scenario_of (picture image.now) (script_data script.now) (map shown devices.items) in IfOk result (λ b. Sane x.setup (start_of x)) }
-    ensures stands { let x = scenario_of (picture image.now) (script_data script.now) (map shown devices.items) in IfOk result (λ b. Stands shown x b (state_in x.setup x.devices bytes.now)) }
-    ensures each { let x = scenario_of (picture image.now) (script_data script.now) (map shown devices.items) in
+    ensures accepted { let x = scenario_of (image_data image.now) (script_data script.now) (map shown devices.items) in IfOk result (λ b. state_fault (expected_of x.setup x.devices) bytes.now ≡ None) }
+    ensures start { let x = scenario_of (image_data image.now) (script_data script.now) (map shown devices.items) in IfOk result (λ b. Sane x.setup (start_of x)) }
+    ensures stands { let x = scenario_of (image_data image.now) (script_data script.now) (map shown devices.items) in IfOk result (λ b. Stands shown x b (state_in x.setup x.devices bytes.now)) }
+    ensures each { let x = scenario_of (image_data image.now) (script_data script.now) (map shown devices.items) in
         IfOk result (λ b. (s : State) → SpellsState x.setup s bytes.now → Sane x.setup s → IsCounted s → sites s.devices ≡ sites x.devices → Stands shown x b s) }
     ensures turns { IfOk result (λ b. turns_of b ≡ (header_at bytes.now).turn) }
-    ensures refused { let x = scenario_of (picture image.now) (script_data script.now) (map shown devices.items) in IfErr result (IsStateFault (state_fault (expected_of x.setup x.devices) bytes.now)) }
+    ensures refused { let x = scenario_of (image_data image.now) (script_data script.now) (map shown devices.items) in IfErr result (IsStateFault (state_fault (expected_of x.setup x.devices) bytes.now)) }
 {
     let found = match refusal(alloc, image, &devices, bytes) {
         Ok(found) => found,

@@ -6,7 +6,7 @@ ghost use Rattle.task_table.specs.model.State.{State};
 ghost use Rattle.board_model.specs.Alike.{reduced};
 ghost use Rattle.board_model.specs.Script.{Scenario};
 ghost use Rattle.board_core.specs.Data.{boxed};
-ghost use Rattle.board_core.specs.Stands.{Stands, Stood, count_of};
+ghost use Rattle.board_core.specs.Stands.{Stands, StandsForSome, count_of};
 ghost use Rattle.snapshot.specs.Records.{task_bytes, device_bytes};
 ghost use Rattle.snapshot.specs.Saved.{SpellsState, device_told, parts_of, record_of, spelling};
 
@@ -25,7 +25,7 @@ pub fn saved_len(board: &Board) -> usize
 }
 
 fn header_of(board: &Board) -> Header
-    requires { Stood (boxed shown) board.now }
+    requires { StandsForSome (boxed shown) board.now }
     ensures { (x : Scenario) (s : State) → Stands (boxed shown) x board.now s → result ≡ (parts_of (reduced s)).header }
 {
     Header {
@@ -132,7 +132,7 @@ pub fn save_into(board: &Board, out: &mut [u8])
 ///
 /// Only want of memory.
 pub fn save(alloc: Global, board: &Board) -> Result<Vec<u8>, AllocError>
-    requires stood { Stood (boxed shown) board.now }
+    requires stood { StandsForSome (boxed shown) board.now }
     ensures { (x : Scenario) (s : State) → Stands (boxed shown) x board.now s → IfOk result (λ v. SpellsState x.setup (reduced s) v.items) }
 {
     let mut bytes = vec![in alloc; 0; saved_len(board)]?;

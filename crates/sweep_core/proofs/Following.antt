@@ -27,11 +27,11 @@ use Rattle.snapshot.specs.Saved.{SpellsState}
 use Rattle.snapshot.proofs.Fixed.{fixed_run}
 use Rattle.snapshot.proofs.Runs.{counted_reduced, turn_reduced}
 use Rattle.snapshot.proofs.SpelledAlike.{stands_spelled}
-use Rattle.snapshot.proofs.Stood.{as_long}
+use Rattle.snapshot.proofs.StandsForSome.{as_long}
 use Rattle.sweep_core.specs.declared.tally.Tally.{Tally}
 use Rattle.sweep_core.specs.declared.told.Told.{Told}
-use Rattle.sweep_core.specs.declared.trail.Meeting.{Meeting}
-use Rattle.sweep_core.specs.declared.trail.Trail.{Trail}
+use Rattle.sweep_core.specs.declared.checkpoints.Checkpoint.{Checkpoint}
+use Rattle.sweep_core.specs.declared.checkpoints.Checkpoints.{Checkpoints}
 use Rattle.sweep_core.specs.Leading.{GoesOnAs, HasMet, HasPassed, IsLedBy, IsMeeting, IsSpelledBy, run_from}
 use Rattle.sweep_core.specs.Outcomes.{front_words, heard, memory_word}
 use Rattle.sweep_core.specs.Swept.{is_supervisors}
@@ -65,13 +65,13 @@ pub goes_as_itself : (x : Scenario) (over : ℕ) → GoesOnAs x x.script over
 goes_as_itself x over = λ n s sane late. refl
 
 -- no run leads
-pub none_leads : (x : Scenario) (limit : ℕ) (mem : Bool) (t : Told) (led : Trail) → led.count ≡ 0 → IsLedBy x limit mem t led
+pub none_leads : (x : Scenario) (limit : ℕ) (mem : Bool) (t : Told) (led : Checkpoints) → led.count ≡ 0 → IsLedBy x limit mem t led
 none_leads x limit mem t led none = λ k d low lt. absurd (omega (arith, none, lt))
 
-pub led_same : (x : Scenario) (limit : ℕ) (mem : Bool) (t now : Told) (led same : Trail) → now ≡ t → same ≡ led → IsLedBy x limit mem t led → IsLedBy x limit mem now same
+pub led_same : (x : Scenario) (limit : ℕ) (mem : Bool) (t now : Told) (led same : Checkpoints) → now ≡ t → same ≡ led → IsLedBy x limit mem t led → IsLedBy x limit mem now same
 led_same x limit mem t now led same is are h =
     let P : Told → Type 0 = λ k. IsLedBy x limit mem k same in
-    let Q : Trail → Type 0 = λ p. IsLedBy x limit mem t p in
+    let Q : Checkpoints → Type 0 = λ p. IsLedBy x limit mem t p in
     subst P (sym is) (subst Q (sym are) h)
 
 -- ---- a run that is cut at a turn
@@ -147,7 +147,7 @@ module _ (x : Scenario) (script : ScriptData) where
     module _ (over : ℕ) (goes : GoesOnAs x script over) where
       -- ---- where it meets the run that leads
 
-      pub met : (limit : ℕ) (mem : Bool) (c : State) (tally : Tally) (t : Told) (led : Trail) → IsLedBy x limit mem t led → HasMet (with_script x script) c tally led → Sane x.setup c → IsCounted c → sites c.devices ≡ sites x.devices → over ≤ c.turn →
+      pub met : (limit : ℕ) (mem : Bool) (c : State) (tally : Tally) (t : Told) (led : Checkpoints) → IsLedBy x limit mem t led → HasMet (with_script x script) c tally led → Sane x.setup c → IsCounted c → sites c.devices ≡ sites x.devices → over ≤ c.turn →
           IsToldFrom mem tally (run_from x script limit c) t
       met limit mem c tally t led is h sane counted at late =
           let v = reduced c in
@@ -165,13 +165,13 @@ module _ (x : Scenario) (script : ScriptData) where
       -- ---- states that it came to
 
       -- of each state that the bytes spell: the board has gone on from there
-      abbrev pub IsPassed : Board X H → Tally → Meeting → Type 0
+      abbrev pub IsPassed : Board X H → Tally → Checkpoint → Type 0
       IsPassed b tally m = (s : State) → IsSpelledBy x m.state.items s → (over ≤ s.turn) × HasHeard m.heard s b tally
 
-      abbrev pub ArePassed : Board X H → Tally → Trail → Type 0
+      abbrev pub ArePassed : Board X H → Tally → Checkpoints → Type 0
       ArePassed b tally p = AllWithin (IsPassed b tally) p.states.items 0 p.count
 
-      pub passed_more : (p : Trail) (tally more : Tally) (b b' : Board X H) (to : ℕ) → turns_of b ≤ to →
+      pub passed_more : (p : Checkpoints) (tally more : Tally) (b b' : Board X H) (to : ℕ) → turns_of b ≤ to →
           ((c : State) → Stands shown (with_script x script) b c → Stands shown (with_script x script) b' (run_from x script to c).last) →
           ((c : State) → Stands shown (with_script x script) b c → more ≡ heard tally (run_from x script to c).notes) → ArePassed b tally p → ArePassed b' more p
       passed_more p tally more b b' to le last told are = λ k d low lt s spelled.
@@ -180,7 +180,7 @@ module _ (x : Scenario) (script : ScriptData) where
           (one.0, heard_more (get_or p.states.items k d).heard tally more s b b' to spelled.sane h le (last (cut_at Calls (with_script x script) h.n s) h.stands) (told (cut_at Calls (with_script x script) h.n s) h.stands))
 
       -- with the state where the board stands
-      pub passed_here : (old new : Trail) (tally : Tally) (b : Board X H) (c : State) (stop : ℕ) → Stands shown (with_script x script) b c → sites c.devices ≡ sites x.devices → over ≤ stop →
+      pub passed_here : (old new : Checkpoints) (tally : Tally) (b : Board X H) (c : State) (stop : ℕ) → Stands shown (with_script x script) b c → sites c.devices ≡ sites x.devices → over ≤ stop →
           (new ≡ old) ⊎ HasPassed (with_script x script) c tally stop old new → ArePassed b tally old → ArePassed b tally new
       passed_here old new tally b c stop st at late (inl same) are = subst (ArePassed b tally) (sym same) are
       passed_here old new tally b c stop st at late (inr h) are =
@@ -190,12 +190,12 @@ module _ (x : Scenario) (script : ScriptData) where
           let turn : s.turn ≡ stop = sym stands.holds.turns ∙ st.holds.turns ∙ h.turn in
           (omega (arith, turn, late), subst (λ (f : Tally). HasHeard f s b tally) (sym h.heard) (heard_nothing tally s b stands)) in
           let all = AllWithin-more_set old.states.items old.count h.meeting h.inside (IsPassed b tally) are one in
-          let P : List Meeting → Type 0 = λ items. AllWithin (IsPassed b tally) items 0 (old.count + 1) in
+          let P : List Checkpoint → Type 0 = λ items. AllWithin (IsPassed b tally) items 0 (old.count + 1) in
           let Q : ℕ → Type 0 = λ n. AllWithin (IsPassed b tally) new.states.items 0 n in
           subst Q (sym h.count) (subst P (sym h.states) all)
 
       -- and what is told where it stands is told of each
-      pub now_led : (p : Trail) (tally : Tally) (b : Board X H) (limit : ℕ) (mem : Bool) (t : Told) → turns_of b ≤ limit →
+      pub now_led : (p : Checkpoints) (tally : Tally) (b : Board X H) (limit : ℕ) (mem : Bool) (t : Told) → turns_of b ≤ limit →
           ((c : State) → Stands shown (with_script x script) b c → IsToldFrom mem tally (run_from x script limit c) t) → ArePassed b tally p → IsLedBy x limit mem t p
       now_led p tally b limit mem t le told are = λ k d low lt s spelled.
           let one = are k d low lt s spelled in

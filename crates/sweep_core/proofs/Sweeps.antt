@@ -26,7 +26,7 @@ use Rattle.snapshot.specs.Saved.{SpellsState, expected_of, spelling}
 use Rattle.snapshot.specs.Waits.{state_fault}
 use Rattle.snapshot.proofs.Fixed.{fixed_run}
 use Rattle.snapshot.proofs.Runs.{counted_reduced, turn_reduced}
-use Rattle.snapshot.proofs.Stood.{as_long, spelling_long}
+use Rattle.snapshot.proofs.StandsForSome.{as_long, spelling_long}
 use Rattle.sweep_core.specs.declared.leader.Leader.{Leader}
 use Rattle.sweep_core.specs.declared.sweeper.Sweeper.{Sweeper}
 use Rattle.sweep_core.specs.declared.tally.Tally.{Tally}

@@ -18,32 +18,32 @@ use Rattle.snapshot.specs.Saved.{SpellsState, spelling}
 use Rattle.sweep_core.specs.declared.leader.Leader.{Leader}
 use Rattle.sweep_core.specs.declared.tally.Tally.{Tally}
 use Rattle.sweep_core.specs.declared.told.Told.{Told}
-use Rattle.sweep_core.specs.declared.trail.Meeting.{Meeting}
-use Rattle.sweep_core.specs.declared.trail.Trail.{Trail}
+use Rattle.sweep_core.specs.declared.checkpoints.Checkpoint.{Checkpoint}
+use Rattle.sweep_core.specs.declared.checkpoints.Checkpoints.{Checkpoints}
 use Rattle.sweep_core.specs.Told.{IsToldFrom}
 
 -- ## states that are kept
 
 -- so much was heard of a run that has come to these bytes
-pub record IsSameAs (tally : Tally) (bytes : List ℕ) (m : Meeting) : Type 0 where
+pub record IsSameAs (tally : Tally) (bytes : List ℕ) (m : Checkpoint) : Type 0 where
   pub heard : m.heard ≡ tally
   pub state : m.state.items ≡ bytes
 
 -- that one is kept
-pub record HasSame (tally : Tally) (bytes : List ℕ) (led : Trail) : Type 0 where
+pub record HasSame (tally : Tally) (bytes : List ℕ) (led : Checkpoints) : Type 0 where
   pub place : ℕ
   pub inside : place < led.count
-  pub meeting : Meeting
+  pub meeting : Checkpoint
   pub at : HoldsAt (λ m. m ≡ meeting) led.states.items place
   pub same : IsSameAs tally bytes meeting
 
 -- none is
-abbrev pub HasNone : Tally → List ℕ → Trail → Type 0
+abbrev pub HasNone : Tally → List ℕ → Checkpoints → Type 0
 HasNone tally bytes led = AllWithin (λ m. IsSameAs tally bytes m → ⊥) led.states.items 0 led.count
 
 -- with one of this turn more
-pub record IsOneMore (stop : ℕ) (tally : Tally) (bytes : List ℕ) (old new : Trail) : Type 0 where
-  pub meeting : Meeting
+pub record IsOneMore (stop : ℕ) (tally : Tally) (bytes : List ℕ) (old new : Checkpoints) : Type 0 where
+  pub meeting : Checkpoint
   pub turn : meeting.turn ≡ stop
   pub same : IsSameAs tally bytes meeting
   pub states : new.states.items ≡ slice_set old.states.items old.count meeting
@@ -68,10 +68,10 @@ GoesOnAs x script over = (n : ℕ) (s : State) → Sane x.setup s → over ≤ s
 
 -- this is told of each run from a state that the bytes spell, where so much was heard before: they spell states that differ in
 -- the order of calls and of listens
-abbrev pub IsMeeting : Scenario → ℕ → Bool → Told → Meeting → Type 0
+abbrev pub IsMeeting : Scenario → ℕ → Bool → Told → Checkpoint → Type 0
 IsMeeting x limit mem told m = (s : State) → IsSpelledBy x m.state.items s → IsToldFrom mem m.heard (run Calls x (limit - s.turn) s) told
 
-abbrev pub IsLedBy : Scenario → ℕ → Bool → Told → Trail → Type 0
+abbrev pub IsLedBy : Scenario → ℕ → Bool → Told → Checkpoints → Type 0
 IsLedBy x limit mem told led = AllWithin (IsMeeting x limit mem told) led.states.items 0 led.count
 
 abbrev pub IsLeading : Scenario → ℕ → Bool → Leader → Type 0
@@ -100,18 +100,18 @@ pub record IsAtStop {X : Type 0} {H : X → Type 0} (shown : Shows X H) (x : Sce
   pub long : length room ≡ length (spelling (reduced s))
 
 -- a state is one of those that are kept, with as much heard
-pub record HasMet (x : Scenario) (s : State) (tally : Tally) (led : Trail) : Type 0 where
+pub record HasMet (x : Scenario) (s : State) (tally : Tally) (led : Checkpoints) : Type 0 where
   pub bytes : List ℕ
   pub spelled : SpellsState x.setup (reduced s) bytes
   pub same : HasSame tally bytes led
 
 -- it is none of them
-abbrev pub HasMissed : State → Tally → Trail → Type 0
+abbrev pub HasMissed : State → Tally → Checkpoints → Type 0
 HasMissed s tally led = HasNone tally (spelling (reduced s)) led
 
 -- it is kept besides
-pub record HasPassed (x : Scenario) (s : State) (tally : Tally) (stop : ℕ) (old new : Trail) : Type 0 where
-  pub meeting : Meeting
+pub record HasPassed (x : Scenario) (s : State) (tally : Tally) (stop : ℕ) (old new : Checkpoints) : Type 0 where
+  pub meeting : Checkpoint
   pub heard : meeting.heard ≡ tally
   pub spelled : SpellsState x.setup (reduced s) meeting.state.items
   pub turn : s.turn ≡ stop

@@ -6,14 +6,14 @@ ghost use Rattle.board_model.specs.declared.outcomes.Level.TheVariants.{Calls};
 ghost use Rattle.board_model.specs.Run.{run};
 ghost use Rattle.board_model.specs.Script.{Scenario};
 ghost use Rattle.board_core.specs.Data.{boxed};
-ghost use Rattle.board_core.specs.Stands.{Stands, Stood, turns_of};
+ghost use Rattle.board_core.specs.Stands.{Stands, StandsForSome, turns_of};
 ghost use Rattle.sweep_core.specs.Leading.{HasGoneOn, HasMet, HasMissed, HasPassed, IsAtStop, IsLeading, IsUnderWay, board_script, run_from};
 ghost use Rattle.sweep_core.specs.Told.{IsToldFrom};
 
 use crate::saving::save;
 use crate::tally::Tally;
 use crate::told::{Told, nothing_told, play_to, told_from};
-use crate::trail::Trail;
+use crate::checkpoints::Checkpoints;
 use board_core::Board;
 use board_run::ending;
 use snapshot::saved_len;
@@ -30,10 +30,10 @@ const MOST_BYTES: usize = 2 << 20;
 pub(crate) struct Leader {
     /// What was told of the run that leads, and states that it came to.
     pub(crate) told: Told,
-    pub(crate) led: Trail,
+    pub(crate) led: Checkpoints,
 
     /// States of the run that follows.
-    pub(crate) passed: Trail,
+    pub(crate) passed: Checkpoints,
 
     /// Room for the state to which that has come.
     pub(crate) here: Vec<u8>,
@@ -71,8 +71,8 @@ impl Leader {
         let states = room_for(len);
         Ok(Leader {
             told: nothing_told(),
-            led: Trail::with_room(alloc, states, len)?,
-            passed: Trail::with_room(alloc, states, len)?,
+            led: Checkpoints::with_room(alloc, states, len)?,
+            passed: Checkpoints::with_room(alloc, states, len)?,
             here: vec![in alloc; 0; len]?,
         })
     }
@@ -80,7 +80,7 @@ impl Leader {
     /// The next turn, behind this one, before which the run of a board is looked at, where its arrival is over from turn `over` on:
     /// where one is kept of the run that leads, or a power of two behind `over`. None where the run ends here, or before that.
     fn stop(&self, board: &Board, turn: u32, over: u32, limit: u32) -> Option<u32>
-        requires stood { Stood (boxed shown) board.now }
+        requires stood { StandsForSome (boxed shown) board.now }
         requires within { turns_of board.now ≤ limit }
         requires turn { turn ≤ 1000000000 }
         requires over { over ≤ 2000000000 }
@@ -98,7 +98,7 @@ impl Leader {
     /// Whether the run of a board, of which this was heard, has come to a state of the one that leads before turn `stop`. Else its state
     /// is kept, where it has come there. A state of a run is as long at each turn, so it has room.
     fn meets(&mut self, board: &Board, heard: &Tally, stop: u32) -> bool
-        requires { Stood (boxed shown) board.now }
+        requires { StandsForSome (boxed shown) board.now }
         ensures at { result ≡ true → turns_of board.now ≡ stop }
         ensures met { result ≡ true → (x : Scenario) (s : State) → Stands (boxed shown) x board.now s → HasMet x s heard.now self.old.led }
         ensures missed { result ≡ false → (x : Scenario) (s : State) → IsAtStop (boxed shown) x board.now s stop self.old.here.items → HasMissed s heard.now self.old.led }
@@ -119,7 +119,7 @@ impl Leader {
 
     /// The run that goes on from here leads: it is played to its end.
     fn lead(&mut self, board: &mut Board, heard: &Tally, limit: u32, mem: bool) -> Told
-        requires stood { Stood (boxed shown) board.old }
+        requires stood { StandsForSome (boxed shown) board.old }
         requires from { turns_of board.old ≤ limit }
         requires few { limit ≤ 1000000000 }
         ensures told { (x : Scenario) (s : State) → Stands (boxed shown) x board.old s → IsToldFrom mem heard.now (run Calls x (limit - s.turn) s) result }

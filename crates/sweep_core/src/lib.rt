@@ -11,7 +11,7 @@ mod sweeper;
 mod tally;
 mod text;
 mod told;
-mod trail;
+mod checkpoints;
 
 pub use outcome::{OutcomeText, outcome_of};
 pub use sweeper::Sweeper;

@@ -3,10 +3,10 @@ ghost use Rattle.std.specs.Prelude.{◌≡◌, ◌<◌, ◌≤◌, true, false, 
 ghost use Rattle.sweep_core.specs.Leading.{HasNone, HasSame, IsOneMore, IsSameAs};
 
 use crate::tally::Tally;
-use crate::trail::{Meeting, Trail};
+use crate::checkpoints::{Checkpoint, Checkpoints};
 use std::mem::swap;
 
-impl Meeting {
+impl Checkpoint {
     /// Whether a run that has come to these bytes, and of which so much was heard, is as this one was.
     fn is_same(&self, heard: &Tally, state: &[u8]) -> bool
         ensures same { result ≡ true → IsSameAs heard.now state.now self.now }
@@ -16,7 +16,7 @@ impl Meeting {
     }
 }
 
-impl Trail {
+impl Checkpoints {
     /// Whether a state that is kept is this one, with as much heard.
     pub(crate) fn has(&self, heard: &Tally, state: &[u8]) -> bool
         ensures some { result ≡ true → HasSame heard.now state.now self.now }

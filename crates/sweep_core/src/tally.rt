@@ -3,7 +3,7 @@ ghost use Rattle.std.specs.Prelude.{◌≡◌};
 ghost use Rattle.board_model.specs.Run.{at_turn};
 ghost use Rattle.sweep_core.specs.Outcomes.{digest, first_of, heard, heard_note, nothing_heard};
 
-use board_run::Teller;
+use board_run::Observer;
 use kernel_abi::{Fault, Note};
 use outside_io::Failed;
 use trace_text::TurnLines;
@@ -78,7 +78,7 @@ impl Tally {
 }
 
 /// Hearing never fails.
-impl Teller for Tally {
+impl Observer for Tally {
     ghost heard = { λ t notes u. u ≡ heard t notes };
 
     ghost broke = { λ _ _ _. ⊥ };

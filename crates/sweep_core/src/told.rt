@@ -5,7 +5,7 @@ ghost use Rattle.board_model.specs.declared.outcomes.Level.TheVariants.{Calls};
 ghost use Rattle.board_model.specs.Run.{run};
 ghost use Rattle.board_model.specs.Script.{Scenario};
 ghost use Rattle.board_core.specs.Data.{boxed};
-ghost use Rattle.board_core.specs.Stands.{Stands, Stood, turns_of};
+ghost use Rattle.board_core.specs.Stands.{Stands, StandsForSome, turns_of};
 ghost use Rattle.sweep_core.specs.Outcomes.{heard};
 ghost use Rattle.sweep_core.specs.Swept.{is_supervisors};
 ghost use Rattle.sweep_core.specs.Told.{IsToldFrom, IsToldAt, is_worse_told};
@@ -54,7 +54,7 @@ fn told_at(end: End, tally: &Tally, board: &Board, mem: bool) -> Told
 
 /// On to a turn, or to the end of the run before it, with what is heard on the way.
 pub(crate) fn play_to(board: &mut Board, tally: &mut Tally, to: u32)
-    requires stood { Stood (boxed shown) board.old }
+    requires stood { StandsForSome (boxed shown) board.old }
     requires from { turns_of board.old ≤ to }
     requires few { to ≤ 1000000000 }
     ensures last { (x : Scenario) (s : State) → Stands (boxed shown) x board.old s → Stands (boxed shown) x board.new (run Calls x (to - s.turn) s).last }
@@ -69,7 +69,7 @@ pub(crate) fn play_to(board: &mut Board, tally: &mut Tally, to: u32)
 
 /// Of the run that goes on from where the board stands, and of which this was heard up to there. The board goes on to its end.
 pub(crate) fn told_from(board: &mut Board, front: &Tally, limit: u32, mem: bool) -> Told
-    requires stood { Stood (boxed shown) board.old }
+    requires stood { StandsForSome (boxed shown) board.old }
     requires from { turns_of board.old ≤ limit }
     requires few { limit ≤ 1000000000 }
     ensures told { (x : Scenario) (s : State) → Stands (boxed shown) x board.old s → IsToldFrom mem front.now (run Calls x (limit - s.turn) s) result }

@@ -8,7 +8,7 @@ mod fault;
 mod kernel;
 pub mod laws;
 pub mod limits;
-mod message;
+mod receiving;
 mod order;
 mod readiness;
 mod sending;

@@ -76,7 +76,7 @@ fn status_of(k: &Kernel, caller: usize, bits: u32) -> u32
 }
 
 /// IRQ_STATUS, in whatever state.
-fn tell_status(k: &mut Kernel, caller: usize)
+fn irq_status_rows(k: &mut Kernel, caller: usize)
     requires there { caller < task_count k.old }
     requires room { note_count k.old + syscall_notes ≤ turn_notes }
     ensures holds { (g : Setup) (t : Turn) → Holds g k.old t → Holds g k.new (irq_answered g caller t) }
@@ -104,5 +104,5 @@ pub fn irq_status(k: &mut Kernel, caller: usize)
     requires room { note_count k.old + syscall_notes ≤ turn_notes }
     ensures { Performs irq_answered k.old caller k.new }
 {
-    tell_status(k, caller);
+    irq_status_rows(k, caller);
 }

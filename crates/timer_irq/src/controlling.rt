@@ -90,7 +90,7 @@ fn control_all(k: &mut Kernel, caller: usize, bits: u32, enable: bool)
 }
 
 /// IRQ_CONTROL, in whatever state.
-fn control_lines(k: &mut Kernel, caller: usize)
+fn irq_control_rows(k: &mut Kernel, caller: usize)
     requires there { caller < task_count k.old }
     requires room { note_count k.old + syscall_notes ≤ turn_notes }
     ensures holds { (g : Setup) (t : Turn) → Holds g k.old t → Holds g k.new (irq_controlled g caller t) }
@@ -114,5 +114,5 @@ pub fn irq_control(k: &mut Kernel, caller: usize)
     requires room { note_count k.old + syscall_notes ≤ turn_notes }
     ensures { Performs irq_controlled k.old caller k.new }
 {
-    control_lines(k, caller);
+    irq_control_rows(k, caller);
 }

@@ -3,7 +3,7 @@ ghost use Rattle.std.specs.Prelude.{◌+◌, ◌<◌, ◌≤◌, Some};
 ghost use Rattle.task_table.specs.model.State.{Setup, Turn};
 ghost use Rattle.task_table.specs.model.Events.{owner_of, interrupted_by, interrupted};
 ghost use Rattle.task_table.specs.kept.Parts.{line_setup};
-ghost use Rattle.task_table.specs.kept.Holds.{Holds, Stands, Stood, task_count, note_count};
+ghost use Rattle.task_table.specs.kept.Holds.{Holds, Stands, StandsForSome, task_count, note_count};
 ghost use Rattle.task_table.specs.kept.Limits.{syscall_notes, turn_notes};
 ghost use Rattle.task_table.specs.kept.Frames.{AddsAtMost};
 
@@ -40,7 +40,7 @@ fn interrupt_owned(k: &mut Kernel, line: u8, owner: &LineStart)
 /// is disabled; where it is disabled, an interrupt is pending from then on; where no task owns it,
 /// nothing happens.
 pub fn interrupt(k: &mut Kernel, line: u8)
-    requires stood { Stood k.old }
+    requires stood { StandsForSome k.old }
     requires room { note_count k.old + syscall_notes ≤ turn_notes }
     ensures stands { (g : Setup) (t : Turn) → Stands g k.old t → Stands g k.new (interrupted g line t) }
     ensures frame { AddsAtMost k.old syscall_notes k.new }

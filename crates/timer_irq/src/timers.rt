@@ -11,7 +11,7 @@ use kernel_abi::{Timer, TimerArgs};
 use task_table::Kernel;
 
 /// SET_TIMER, in whatever state.
-fn start_timer(k: &mut Kernel, caller: usize)
+fn set_timer_rows(k: &mut Kernel, caller: usize)
     requires there { caller < task_count k.old }
     requires room { note_count k.old + syscall_notes ≤ turn_notes }
     ensures holds { (g : Setup) (t : Turn) → Holds g k.old t → Holds g k.new (timer_set caller t) }
@@ -45,7 +45,7 @@ pub fn set_timer(k: &mut Kernel, caller: usize)
     requires room { note_count k.old + syscall_notes ≤ turn_notes }
     ensures { Performs (λ g. timer_set) k.old caller k.new }
 {
-    start_timer(k, caller);
+    set_timer_rows(k, caller);
 }
 
 /// What GET_TIMER answers in r4 to r9.

@@ -4,12 +4,12 @@ use Rattle.std.specs.Prelude.{slice_get, slice_index_or, Result, Ok}
 use Rattle.std.proofs.lemmas.Option.{same_Some, slice_get_within}
 use Rattle.kernel_abi.specs.Devices.{DeviceData}
 use Rattle.outside_io.specs.Outside.{WhereSeen}
-use Rattle.image_format.specs.Picture.{Picture}
+use Rattle.image_format.specs.ImageData.{ImageData}
 use Rattle.sample_gen.specs.Sample.{sample_app, sample_sources}
 use Rattle.command_line.specs.CommandLine.{Asked, build, run, go, list, sample, migrate, audit, save, resume, debug, cover, sweep, timeline, live, picture, lcov, help, is_accepted, job_of}
 use Rattle.debug_core.specs.declared.command.Command.{Command}
 use Rattle.debug_core.specs.Reading.{commands_or_fault}
-use Rattle.build_laws.proofs.OnePicture.{one_picture}
+use Rattle.build_laws.proofs.OneImageData.{one_picture}
 use Rattle.trace_audit.proofs.Deciding.{one_verdict}
 use Rattle.trace_cli.specs.Contents.{Why, scenario_of, sample_scenario}
 use Rattle.outside_io.specs.Seen.{FilesSeen}
@@ -30,7 +30,7 @@ use Rattle.trace_cli.proofs.Agreeing.{same_files, seen_further, may_further, sam
 
 -- ## what is done with files is one thing
 
-same_image : (cs : List (List ℕ)) (a b : Picture) → IsBuilt cs a → IsBuilt cs b → a ≡ b
+same_image : (cs : List (List ℕ)) (a b : ImageData) → IsBuilt cs a → IsBuilt cs b → a ≡ b
 same_image cs a b p q = one_picture (described cs) (sources_in cs) a b p.built q.built
 
 same_commands : (r : Result (List Command) (ℕ × ℕ)) (a b : List Command) → r ≡ Ok a → r ≡ Ok b → a ≡ b
@@ -45,10 +45,10 @@ same_done : (devices : List DeviceData) (job : Asked) (cs : List (List ℕ)) (u 
 same_done devices (build app out) cs u v p q = p.2 ∙ ap (built out) (same_image cs p.0 q.0 p.1 q.1) ∙ sym q.2
 same_done devices (run image script steps detail) cs u v p q = p ∙ sym q
 same_done devices (go app script steps detail) cs u v p q =
-    p.2 ∙ ap (λ (i : Picture). ran steps detail (scenario_of i (script_in cs) devices)) (same_image cs p.0 q.0 p.1 q.1) ∙ sym q.2
+    p.2 ∙ ap (λ (i : ImageData). ran steps detail (scenario_of i (script_in cs) devices)) (same_image cs p.0 q.0 p.1 q.1) ∙ sym q.2
 same_done devices (list image) cs u v p q = p ∙ sym q
 same_done devices (sample seed steps) cs u v p q =
-    p.2 ∙ ap (λ (i : Picture). sampled steps (sample_scenario seed i)) (one_picture (sample_app seed) (sample_sources seed) p.0 q.0 p.1 q.1) ∙ sym q.2
+    p.2 ∙ ap (λ (i : ImageData). sampled steps (sample_scenario seed i)) (one_picture (sample_app seed) (sample_sources seed) p.0 q.0 p.1 q.1) ∙ sym q.2
 same_done devices (migrate image out) cs u v p q = p ∙ sym q
 same_done devices (audit name) cs u v p q = p.2 ∙ ap audited (one_verdict (first_of cs) p.0 q.0 p.1 q.1) ∙ sym q.2
 same_done devices (save image script out steps) cs u v p q = p ∙ sym q
@@ -59,13 +59,13 @@ same_done devices (cover image script steps false) cs u v p q = same_covered ste
 same_done devices (cover app script steps true) cs u v p q =
     let labels = labels_from (described cs) 0 (sources_in cs) in
     let same : p.0 ≡ q.0 = same_image cs p.0 q.0 p.1 q.1 in
-    same_covered steps (scenario_of q.0 (script_in cs) devices) labels u v (subst (λ (i : Picture). IsCovered steps (scenario_of i (script_in cs) devices) labels u) same p.2) q.2
+    same_covered steps (scenario_of q.0 (script_in cs) devices) labels u v (subst (λ (i : ImageData). IsCovered steps (scenario_of i (script_in cs) devices) labels u) same p.2) q.2
 same_done devices (sweep image script arrival from to steps memory) cs u v p q = p ∙ sym q
 same_done devices (timeline image script steps names) cs u v p q = p ∙ sym q
 same_done devices (live image script commands) cs u v p q = p ∙ sym q
 same_done devices (picture image script out steps names) cs u v p q = p ∙ sym q
 same_done devices (lcov app script out steps) cs u v p q =
-    p.2 ∙ ap (λ (i : Picture). traced out steps (sections (described cs) (sources_in cs)) (scenario_of i (script_in cs) devices)) (same_image cs p.0 q.0 p.1 q.1) ∙ sym q.2
+    p.2 ∙ ap (λ (i : ImageData). traced out steps (sections (described cs) (sources_in cs)) (scenario_of i (script_in cs) devices)) (same_image cs p.0 q.0 p.1 q.1) ∙ sym q.2
 same_done devices (help about) cs u v p q = p ∙ sym q
 
 -- ## three ways in which lengths meet

@@ -14,7 +14,7 @@ use Rattle.command_line.specs.declared.job.Detail.{Detail}
 use Rattle.outside_io.specs.Seen.{FilesSeen, SinkSeen}
 use Rattle.trace_cli.specs.declared.file_faults.NamedFault.{NamedFault}
 use Rattle.trace_cli.specs.declared.file_faults.NamedFault.TheVariants as named_faults
-use Rattle.trace_cli.specs.Contents.{Why, image_refusal, script_refusal, picture_of, scenario_of}
+use Rattle.trace_cli.specs.Contents.{Why, image_refusal, script_refusal, image_data_of, scenario_of}
 use Rattle.trace_cli.specs.Words.{job_in}
 use Rattle.trace_cli.specs.Sources.{File, MayBeRefused, image_file, script_file, scenario_in}
 use Rattle.trace_cli.specs.Ready.{StartsWell, StartsSeen, StartsUnless, IsResumable, IsNamedFaultIn}
@@ -77,7 +77,7 @@ seen_accepted seen f why bytes has ok h = no_refusal f bytes why (where_seen see
 
 -- so where neither the image nor the script is refused, it is another file, and the run of the two starts well
 others_start : {devices : List DeviceData} (seen : List ℕ → Option (List ℕ)) (image script : List ℕ) (why : Why) {A B : Type 0} → (A × MayBeRefused seen (image_file image) why) ⊎ ((B × MayBeRefused seen (script_file script) why) ⊎ StartsSeen devices seen image script)
-    → (ib sb : List ℕ) → seen image ≡ Some ib → seen script ≡ Some sb → image_refusal ib ≡ None → script_refusal sb ≡ None → StartsWell (scenario_of (picture_of ib) sb devices)
+    → (ib sb : List ℕ) → seen image ≡ Some ib → seen script ≡ Some sb → image_refusal ib ≡ None → script_refusal sb ≡ None → StartsWell (scenario_of (image_data_of ib) sb devices)
 others_start seen image script why (inl fault) ib sb has_image has_script image_ok script_ok = absurd (seen_accepted seen (image_file image) why ib has_image image_ok fault.1)
 others_start seen image script why (inr (inl fault)) ib sb has_image has_script image_ok script_ok = absurd (seen_accepted seen (script_file script) why sb has_script script_ok fault.1)
 others_start seen image script why (inr (inr started)) ib sb has_image has_script image_ok script_ok = started ib sb has_image has_script

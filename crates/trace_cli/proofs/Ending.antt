@@ -13,9 +13,9 @@ use Rattle.audit_runs.specs.Last.{IsFitLast}
 few_tasks : {X : Type 0} {H : X → Type 0} {shown : Shows X H} (x : Scenario) (b : Board X H) (s : State) → Stands shown x b s → length s.tasks ≤ 512
 few_tasks {X} {H} {shown} x b s st = by b.machine.loaded st.holds.machine
   where
-    by : (loaded : Bool) → HoldsBy shown loaded x.setup b.machine.reach b.machine.glider.runner.processor record { state = s; notes = notes_of b; writes = []; reads = [] } → length s.tasks ≤ 512
-    by true h = let most = b.machine.reach.kernel.few in let same = st.sane.steady.as_many in let many = h.holds.kernel.many in let count = h.holds.kernel.count in omega arith
-    by false h = let most = b.machine.reach.kernel.few in let count = h.kernel.count in omega arith
+    by : (loaded : Bool) → HoldsBy shown loaded x.setup b.machine.space b.machine.glider.runner.processor record { state = s; notes = notes_of b; writes = []; reads = [] } → length s.tasks ≤ 512
+    by true h = let most = b.machine.space.kernel.few in let same = st.sane.steady.as_many in let many = h.holds.kernel.many in let count = h.holds.kernel.count in omega arith
+    by false h = let most = b.machine.space.kernel.few in let count = h.kernel.count in omega arith
 
 -- the board stands for the last state
 pub last_fits : {X : Type 0} {H : X → Type 0} {shown : Shows X H} (x : Scenario) (b : Board X H) (s : State) (n : ℕ) → n ≤ 1000000000 → turns_of b ≤ n → Stands shown x b s → HasFitTimers s → IsFitLast s

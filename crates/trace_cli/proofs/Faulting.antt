@@ -11,7 +11,7 @@ use Rattle.trace_cli.specs.declared.file_faults.NamedFault.{NamedFault}
 use Rattle.trace_cli.specs.declared.file_faults.NamedFault.TheVariants as named_faults
 use Rattle.trace_cli.specs.Contents.{Why, at_number, file_limit, trace_limit, unless_long, or_later, image_refusal, script_refusal, script_of, arrival_fault, arrival_refusal, commands_refusal, app_refusal, source_refusal, state_refusal, trace_refusal, names_refusal}
 use Rattle.kernel_abi.specs.Devices.{DeviceData}
-use Rattle.image_format.specs.Picture.{Picture}
+use Rattle.image_format.specs.ImageData.{ImageData}
 use Rattle.outside_io.specs.Seen.{FilesSeen}
 use Rattle.trace_cli.specs.Sources.{File, MayBe, MayBeRefused}
 use Rattle.trace_cli.specs.FileFaults.{IsCannotRead, MayBeLong, IsFaultFor, CannotTake, IsFaultOf, IsNamedFaultOf}
@@ -41,7 +41,7 @@ pub long_source : (app : AppData) (i : ℕ) (bytes : List ℕ) → file_limit < 
 unfolding source_refusal
 long_source app i bytes lt = long_refused file_limit bytes _ lt
 
-pub long_state : (devices : List DeviceData) (image : Picture) (bound : ℕ) (bytes : List ℕ) → file_limit < length bytes → state_refusal devices image bound bytes ≡ too_long file_limit
+pub long_state : (devices : List DeviceData) (image : ImageData) (bound : ℕ) (bytes : List ℕ) → file_limit < length bytes → state_refusal devices image bound bytes ≡ too_long file_limit
 unfolding state_refusal
 long_state devices image bound bytes lt = long_refused file_limit bytes _ lt
 

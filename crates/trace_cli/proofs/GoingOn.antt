@@ -25,8 +25,8 @@ use Rattle.snapshot.specs.Records.{header_at}
 use Rattle.snapshot.specs.Saved.{parts_of}
 use Rattle.snapshot.proofs.Places.{header_place}
 use Rattle.snapshot.proofs.Runs.{turn_reduced, counted_reduced, large_run, sites_run, saved_run}
-use Rattle.snapshot.proofs.Stood.{parts_stood, spelling_long, spells}
-use Rattle.trace_cli.specs.Contents.{file_limit, picture_of, scenario_of, state_refusal}
+use Rattle.snapshot.proofs.StandsForSome.{parts_stood, spelling_long, spells}
+use Rattle.trace_cli.specs.Contents.{file_limit, image_data_of, scenario_of, state_refusal}
 use Rattle.trace_cli.specs.Words.{job_in}
 use Rattle.trace_cli.specs.Sources.{File, image_file, script_file, state_file, Are, TakesAll}
 use Rattle.trace_cli.specs.Ready.{StartsWell, IsSpelled}
@@ -102,13 +102,13 @@ saved_short n x well =
     omega (arith, long, many, tasks, devices, ram, room)
 
 -- so they are accepted, up to any bound that is not behind them
-saved_taken : (n m : ℕ) (image script : List ℕ) (devices : List DeviceData) → StartsWell (scenario_of (picture_of image) script devices) → m ≤ 1000000000 → (run_of Calls n (scenario_of (picture_of image) script devices)).last.turn ≤ m
-    → state_refusal devices (picture_of image) m (saved_bytes n (scenario_of (picture_of image) script devices)) ≡ None
+saved_taken : (n m : ℕ) (image script : List ℕ) (devices : List DeviceData) → StartsWell (scenario_of (image_data_of image) script devices) → m ≤ 1000000000 → (run_of Calls n (scenario_of (image_data_of image) script devices)).last.turn ≤ m
+    → state_refusal devices (image_data_of image) m (saved_bytes n (scenario_of (image_data_of image) script devices)) ≡ None
 saved_taken n m image script devices well most few =
-    let x : Scenario = scenario_of (picture_of image) script devices in
+    let x : Scenario = scenario_of (image_data_of image) script devices in
     let tasks : length x.setup.tasks ≤ 1024 = let tasks = well.tasks in omega arith in
     let turns : (run_of Calls n x).last.turn ≤ 1000000000 = omega (arith, few, most) in
-    state_taken devices (picture_of image) m (run_of Calls n x).last.turn (saved_bytes n x) (saved_short n x well)
+    state_taken devices (image_data_of image) m (run_of Calls n x).last.turn (saved_bytes n x) (saved_short n x well)
     (saved_run Calls x n well.sane well.events tasks turns) (saved_turn n x well.sane) few
 
 -- and what is told from there is the rest of the run
@@ -120,15 +120,15 @@ rest_spelled n m detail x well few =
 
 pub goes_on : {devices : List DeviceData} (words : List (List ℕ)) (a b : FilesSeen) (w w' : SinkSeen) (r : ℕ) → ((job : Asked) → job_in words ≡ Some job → TellsEach devices job a b w w' r) → GoesOn devices words a b w w' r
 goes_on {devices} words a b w w' r each = λ image_name script_name state_name image script m n detail at has_image has_script has_state image_ok script_ok few.
-    let x : Scenario = scenario_of (picture_of image) script devices in
+    let x : Scenario = scenario_of (image_data_of image) script devices in
     let bytes : List ℕ = saved_bytes n x in
     let job : Asked = resume image_name script_name state_name m detail in
     let contents : List (List ℕ) = image ∷ script ∷ bytes ∷ [] in
-    let file : File = state_file devices (picture_of image) m state_name in
+    let file : File = state_file devices (image_data_of image) m state_name in
     let rest : Verdict = rest_of_run (run_of Calls n x).last.turn m detail x in
     let told : TellsEach devices job a b w w' r = each job at in
     let by_start : StartsWell x × (m ≤ 1000000000) → Answered devices words a b w w' rest r = λ well.
-    let state_ok : state_refusal devices (picture_of image) m bytes ≡ None = saved_taken n m image script devices well.0 well.1 few in
+    let state_ok : state_refusal devices (image_data_of image) m bytes ≡ None = saved_taken n m image script devices well.0 well.1 few in
     let all : TakesAll (Are a.contents) devices job contents = record {
       takes = takes_first (Are a.contents) (image_file image_name) (script_file script_name ∷ file ∷ []) image (script ∷ bytes ∷ []) has_image image_ok
           (takes_first (Are a.contents) (script_file script_name) (file ∷ []) script (bytes ∷ []) has_script script_ok

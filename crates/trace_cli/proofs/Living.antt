@@ -4,7 +4,7 @@ use Rattle.std.proofs.lemmas.List.{take_all}
 use Rattle.std.proofs.lemmas.Option.{same_Some}
 use Rattle.std.specs.Io.KnownBytes.{Appends}
 use Rattle.kernel_abi.specs.Devices.{DeviceData}
-use Rattle.image_format.specs.Picture.{Picture}
+use Rattle.image_format.specs.ImageData.{ImageData}
 use Rattle.board_model.specs.Script.{Scenario, start_of}
 use Rattle.board_core.specs.Data.{Shows}
 use Rattle.board_core.specs.declared.board.Board.{Board}
@@ -15,7 +15,7 @@ use Rattle.command_line.specs.CommandLine.{live}
 use Rattle.outside_io.specs.Outside.{WhereSeen, Rose, IsFront, AppendsFront}
 use Rattle.outside_io.specs.Seen.{FilesSeen, SinkSeen}
 use Rattle.outside_io.proofs.Pushing.{appends_more, front_more}
-use Rattle.trace_cli.specs.Contents.{picture_of, scenario_of}
+use Rattle.trace_cli.specs.Contents.{image_data_of, scenario_of}
 use Rattle.trace_cli.specs.Sources as sources
 use Rattle.trace_cli.specs.Sources.{image_file, script_file, lines_file, MayBe, Takes, TakesAll}
 use Rattle.trace_cli.specs.FileFaults.{IsCannotRead}
@@ -62,10 +62,10 @@ says_broken x name a b w v w' r failed later t p =
 module _ {X : Type 0} {H : X → Type 0} {shown : Shows X H} {devices : List DeviceData} (image script name : List ℕ) (a b c : FilesSeen) (w w' : SinkSeen) (bd : Board X H) (r : ℕ) (before : b.contents ≡ a.contents) (after : c.contents ≡ b.contents)
     (later : a.read_faults ≤ b.read_faults) (h : IsRunSet shown devices image script a.contents bd) where
   abbrev scenario : Scenario
-  scenario = scenario_of (picture_of h.of_image.bytes) h.set.script devices
+  scenario = scenario_of (image_data_of h.of_image.bytes) h.set.script devices
 
   stands : Stands shown scenario bd (start_of scenario)
-  stands = let P : Picture → Type 0 = λ p. Stands shown (scenario_of p h.set.script devices) bd (start_of (scenario_of p h.set.script devices)) in subst P h.of_image.is h.set.stands
+  stands = let P : ImageData → Type 0 = λ p. Stands shown (scenario_of p h.set.script devices) bd (start_of (scenario_of p h.set.script devices)) in subst P h.of_image.is h.set.stands
 
   takes_two : Takes (MayBe a.contents) (image_file image ∷ script_file script ∷ lines_file name ∷ []) (h.of_image.bytes ∷ h.set.script ∷ [])
   takes_two =

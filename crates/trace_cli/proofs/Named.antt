@@ -3,7 +3,7 @@ use Rattle.std.proofs.Common.{◌≡◌, ◌∙◌, ℕ, suc, ◌≤◌, List, [
 use Rattle.std.specs.Prelude.{slice_get}
 use Rattle.std.proofs.lemmas.List.{length-map}
 use Rattle.kernel_abi.specs.Devices.{DeviceData}
-use Rattle.image_format.specs.Picture.{Picture}
+use Rattle.image_format.specs.ImageData.{ImageData}
 use Rattle.board_core.specs.Data.{Shows}
 use Rattle.board_core.specs.declared.board.Board.{Board}
 use Rattle.board_core.specs.Opened.{setup_of_task}
@@ -29,8 +29,8 @@ takes_named {names = names} runs = record { more = λ first. names_files (image_
 pub as_many : {X : Type 0} {H : X → Type 0} {shown : Shows X H} {devices : List DeviceData} {image script : List ℕ} {seen : List ℕ → Option (List ℕ)} {b : Board X H} {tasks : ℕ} (h : IsRunSet shown devices image script seen b)
     → ((x : Scenario) (s : State) → Stands shown x b s → tasks ≡ length s.tasks) → tasks ≡ image_tasks h.of_image.bytes
 as_many {devices = devices} h many =
-    let x = scenario_of h.picture h.set.script devices in
-    many x (start_of x) h.set.stands ∙ h.set.stands.sane.steady.as_many ∙ length-map h.picture.tasks setup_of_task ∙ ap (λ (p : Picture). length p.tasks) h.of_image.is
+    let x = scenario_of h.image_data h.set.script devices in
+    many x (start_of x) h.set.stands ∙ h.set.stands.sane.steady.as_many ∙ length-map h.image_data.tasks setup_of_task ∙ ap (λ (p : ImageData). length p.tasks) h.of_image.is
 
 -- where the names are read, the files of the job are accepted
 two_taken : {X : Type 0} {H : X → Type 0} {shown : Shows X H} {devices : List DeviceData} {image script : List ℕ} {seen : List ℕ → Option (List ℕ)} {b : Board X H} (h : IsRunSet shown devices image script seen b) (more : List File) (cs : List (List ℕ)) → Takes (MayBe seen) more cs
@@ -51,9 +51,9 @@ ready_by {shown = shown} {devices = devices} {image = image} {script = script} {
         takes = subst (λ (fs : List File). Takes (MayBe seen) fs contents) (sym (runs.files h.of_image.bytes)) (two_taken h files cs rest);
         all = ap length (runs.files h.of_image.bytes) ∙ ap (λ n. suc (suc n)) all;
       };
-      scenario = scenario_of h.picture h.set.script devices;
-      done = subst (λ (ns : List (List ℕ)). Does devices job contents (verdict ns (scenario_of h.picture h.set.script devices))) is
-          (subst (λ (p : Picture). Does devices job contents (verdict (names_by named contents) (scenario_of p h.set.script devices))) (sym h.of_image.is) (runs.does contents));
+      scenario = scenario_of h.image_data h.set.script devices;
+      done = subst (λ (ns : List (List ℕ)). Does devices job contents (verdict ns (scenario_of h.image_data h.set.script devices))) is
+          (subst (λ (p : ImageData). Does devices job contents (verdict (names_by named contents) (scenario_of p h.set.script devices))) (sym h.of_image.is) (runs.does contents));
       stands = h.set.stands;
       turns = h.set.turns;
     }

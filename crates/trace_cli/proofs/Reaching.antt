@@ -1,14 +1,14 @@
 -- How often a run executed each instruction: from the board of a run to the answer.
 use Rattle.std.proofs.Common.{◌≡◌, ◌∙◌, ℕ, Bool, true, false, List, [], ◌∷◌, ◌++◌, Option, refl, sym, ap, subst, inl}
 use Rattle.kernel_abi.specs.Devices.{DeviceData}
-use Rattle.image_format.specs.Picture.{Picture}
+use Rattle.image_format.specs.ImageData.{ImageData}
 use Rattle.board_model.specs.Script.{Scenario, start_of}
 use Rattle.board_core.specs.Data.{Shows}
 use Rattle.board_core.specs.declared.board.Board.{Board}
-use Rattle.board_core.specs.Stands.{Stands, Stood}
+use Rattle.board_core.specs.Stands.{Stands, StandsForSome}
 use Rattle.command_line.specs.CommandLine.{cover}
 use Rattle.outside_io.specs.Seen.{FilesSeen, SinkSeen}
-use Rattle.trace_cli.specs.Contents.{application_of, picture_of, scenario_of}
+use Rattle.trace_cli.specs.Contents.{application_of, image_data_of, scenario_of}
 use Rattle.trace_cli.specs.Sources.{image_file, script_file, MayBe, TakesAll, described as described_in, sources_in, script_in}
 use Rattle.app_toml.specs.Apps.{AppData}
 use Rattle.thumb_asm.specs.Meaning.{Names}
@@ -30,21 +30,21 @@ pub labels_cover : (devices : List DeviceData) (app script : List ℕ) (n : ℕ)
 labels_cover devices app script n = record { files = λ first. refl }
 
 -- a board that is set stands for the start of its run
-pub set_stood : {X : Type 0} {H : X → Type 0} {shown : Shows X H} {devices : List DeviceData} (image script : List ℕ) (seen : List ℕ → Option (List ℕ)) (bd : Board X H) → IsRunSet shown devices image script seen bd → Stood shown bd
-set_stood {devices = devices} image script seen bd h = let x = scenario_of h.picture h.set.script devices in (x, start_of x, h.set.stands)
+pub set_stood : {X : Type 0} {H : X → Type 0} {shown : Shows X H} {devices : List DeviceData} (image script : List ℕ) (seen : List ℕ → Option (List ℕ)) (bd : Board X H) → IsRunSet shown devices image script seen bd → StandsForSome shown bd
+set_stood {devices = devices} image script seen bd h = let x = scenario_of h.image_data h.set.script devices in (x, start_of x, h.set.stands)
 
 pub app_stood : {X : Type 0} {H : X → Type 0} {shown : Shows X H} {devices : List DeviceData} (app script : List ℕ) (seen : List ℕ → Option (List ℕ)) (bd : Board X H) (wanted : Bool) (described : AppData) (l : SourceLines)
-    → IsAppSet shown devices app script seen wanted bd described l → Stood shown bd
+    → IsAppSet shown devices app script seen wanted bd described l → StandsForSome shown bd
 app_stood {devices = devices} app script seen bd wanted described l h = let x = scenario_of h.image h.set.script devices in (x, start_of x, h.set.stands)
 
 -- ## the answer to the job
 
 module _ {X : Type 0} {H : X → Type 0} {shown : Shows X H} {devices : List DeviceData} (image script : List ℕ) (a b : FilesSeen) (w w' : SinkSeen) (n : ℕ) (bd : Board X H) (r : ℕ) (same : b.contents ≡ a.contents) (h : IsRunSet shown devices image script a.contents bd) where
   abbrev scenario : Scenario
-  scenario = scenario_of (picture_of h.of_image.bytes) h.set.script devices
+  scenario = scenario_of (image_data_of h.of_image.bytes) h.set.script devices
 
   stands : Stands shown scenario bd (start_of scenario)
-  stands = let P : Picture → Type 0 = λ p. Stands shown (scenario_of p h.set.script devices) bd (start_of (scenario_of p h.set.script devices)) in subst P h.of_image.is h.set.stands
+  stands = let P : ImageData → Type 0 = λ p. Stands shown (scenario_of p h.set.script devices) bd (start_of (scenario_of p h.set.script devices)) in subst P h.of_image.is h.set.stands
 
   takes : TakesAll (MayBe a.contents) devices (cover image script n false) (h.of_image.bytes ∷ h.set.script ∷ [])
   takes = record {
@@ -64,7 +64,7 @@ module _ {X : Type 0} {H : X → Type 0} {shown : Shows X H} {devices : List Dev
 -- ## with labels
 
 -- where labels are wanted, those that are kept are those of the sources
-labels_are : {seen : List ℕ → Option (List ℕ)} {app : List ℕ} {described : AppData} {image : Picture} {l : SourceLines} (i : IsBuiltApp seen app true described image l) → labels_from (application_of i.bytes) 0 i.sources ≡ kept_labels l
+labels_are : {seen : List ℕ → Option (List ℕ)} {app : List ℕ} {described : AppData} {image : ImageData} {l : SourceLines} (i : IsBuiltApp seen app true described image l) → labels_from (application_of i.bytes) 0 i.sources ≡ kept_labels l
 labels_are i = ap (λ (d : AppData). labels_from d 0 i.sources) i.described ∙ sym (i.lines.labels i.wants)
 
 module _ {X : Type 0} {H : X → Type 0} {shown : Shows X H} {devices : List DeviceData} (app script : List ℕ) (a b : FilesSeen) (w w' : SinkSeen) (n : ℕ) (bd : Board X H) (described : AppData) (l : SourceLines) (r : ℕ) (same : b.contents ≡ a.contents) (h : IsAppSet shown devices app script a.contents true bd described l) where

@@ -2,7 +2,7 @@
 use Rattle.std.proofs.Common.{◌≡◌, ℕ, suc, ◌≤◌, Bool, Result, Ok, IfOk, List, [], ◌∷◌, ◌++◌, length, take, get_or, Option, Some, None, refl, sym, ap, subst, ◌∙◌, arith, inl, inr, string_bytes, true}
 use Rattle.std.specs.Prelude.{slice_get}
 use Rattle.kernel_abi.specs.Devices.{DeviceData}
-use Rattle.image_format.specs.Picture.{Picture}
+use Rattle.image_format.specs.ImageData.{ImageData}
 use Rattle.image_build.specs.Built.{Built}
 use Rattle.board_core.specs.Data.{Shows}
 use Rattle.board_core.specs.declared.board.Board.{Board}
@@ -12,7 +12,7 @@ use Rattle.run_script.specs.Scripts.{Listed, ScriptData}
 use Rattle.sweep_core.specs.declared.sweeper.Sweeper.{Sweeper}
 use Rattle.sweep_core.specs.Sweeping.{IsReady as IsReadyToSweep, asked}
 use Rattle.task_table.specs.model.State.{State}
-use Rattle.board_core.specs.Stands.{Stands, Stood, turns_of}
+use Rattle.board_core.specs.Stands.{Stands, StandsForSome, turns_of}
 use Rattle.outside_io.specs.Outside.{Rose}
 use Rattle.audit_runs.specs.Last.{IsGoodText}
 use Rattle.trace_audit.specs.declared.judgement.Judgement as trace
@@ -22,7 +22,7 @@ use Rattle.command_line.specs.declared.job.Detail.{Detail}
 use Rattle.debug_core.specs.declared.command.Command.{Command}
 use Rattle.trace_cli.specs.declared.file_faults.NamedFault.{NamedFault}
 use Rattle.trace_cli.specs.declared.file_faults.NamedFault.TheVariants as named_faults
-use Rattle.trace_cli.specs.Contents.{Why, picture_of, scenario_of, script_of, state_refusal, application_of}
+use Rattle.trace_cli.specs.Contents.{Why, image_data_of, scenario_of, script_of, state_refusal, application_of}
 use Rattle.outside_io.specs.Seen.{FilesSeen, SinkSeen}
 use Rattle.trace_cli.specs.Sources.{File, image_file, script_file, state_file, trace_file, commands_file, arrival_file, files_of, files_by, files_to_build, first_of, MayBe, Takes, TakesAll, IsBuilt, sources_in, script_in, scenario_in, state_by}
 use Rattle.trace_cli.specs.FileFaults.{IsNamedFaultOf}
@@ -52,8 +52,8 @@ pub ready_there : {X : Type 0} {H : X → Type 0} {shown : Shows X H} {devices :
 ready_there {X} {H} {shown} {devices} {job} {seen} {verdict} {r} {b} is h = subst (λ (p : Result (Board X H) NamedFault). IfOk p (IsReady shown devices job seen verdict)) is h
 
 -- what is set up by the same contents elsewhere
-pub set_there : {X : Type 0} {H : X → Type 0} {shown : Shows X H} {devices : List DeviceData} {seen seen' : List ℕ → Option (List ℕ)} {picture : Picture} {script : List ℕ} {b : Board X H} → seen ≡ seen' → IsSet shown devices seen picture script b → IsSet shown devices seen' picture script b
-set_there {X} {H} {shown} {devices} {seen} {seen'} {picture} {script} {b} same h = subst (λ (t : List ℕ → Option (List ℕ)). IsSet shown devices t picture script b) same h
+pub set_there : {X : Type 0} {H : X → Type 0} {shown : Shows X H} {devices : List DeviceData} {seen seen' : List ℕ → Option (List ℕ)} {image_data : ImageData} {script : List ℕ} {b : Board X H} → seen ≡ seen' → IsSet shown devices seen image_data script b → IsSet shown devices seen' image_data script b
+set_there {X} {H} {shown} {devices} {seen} {seen'} {image_data} {script} {b} same h = subst (λ (t : List ℕ → Option (List ℕ)). IsSet shown devices t image_data script b) same h
 
 -- ## a file that is not accepted
 
@@ -74,12 +74,12 @@ faults_at job contents f a b c h takes next seen later fault = record {
 
 -- ## an image and a script
 
-one_file : (seen : List ℕ → Option (List ℕ)) (name : List ℕ) (image : Picture) (more : List File) (h : IsImageFile seen name image) → Takes (MayBe seen) (image_file name ∷ more) (h.bytes ∷ [])
+one_file : (seen : List ℕ → Option (List ℕ)) (name : List ℕ) (image : ImageData) (more : List File) (h : IsImageFile seen name image) → Takes (MayBe seen) (image_file name ∷ more) (h.bytes ∷ [])
 one_file seen name image more h = takes_first (MayBe seen) (image_file name) more h.bytes [] h.held h.accepted (takes_none (MayBe seen) more)
 
-pub image_ready : {X : Type 0} {H : X → Type 0} {shown : Shows X H} {devices : List DeviceData} (seen : List ℕ → Option (List ℕ)) (job : Asked) (verdict : Scenario → Verdict) (image script : List ℕ) (picture : Picture) (b : Board X H) → RunsImage devices job image script verdict
-    → IsImageFile seen image picture → IsSet shown devices seen picture script b → IsReady shown devices job seen verdict b
-image_ready {X} {H} {shown} {devices} seen job verdict image script picture b runs i s =
+pub image_ready : {X : Type 0} {H : X → Type 0} {shown : Shows X H} {devices : List DeviceData} (seen : List ℕ → Option (List ℕ)) (job : Asked) (verdict : Scenario → Verdict) (image script : List ℕ) (image_data : ImageData) (b : Board X H) → RunsImage devices job image script verdict
+    → IsImageFile seen image image_data → IsSet shown devices seen image_data script b → IsReady shown devices job seen verdict b
+image_ready {X} {H} {shown} {devices} seen job verdict image script image_data b runs i s =
     let contents = i.bytes ∷ s.script ∷ [] in
     let takes : Takes (MayBe seen) (image_file image ∷ script_file script ∷ []) contents =
     takes_first (MayBe seen) (image_file image) (script_file script ∷ []) i.bytes (s.script ∷ []) i.held i.accepted
@@ -90,8 +90,8 @@ image_ready {X} {H} {shown} {devices} seen job verdict image script picture b ru
         takes = subst (λ (fs : List File). Takes (MayBe seen) fs contents) (sym (runs.files i.bytes)) takes;
         all = ap length (runs.files i.bytes);
       };
-      scenario = scenario_of picture s.script devices;
-      done = subst (λ (p : Picture). Does devices job contents (verdict (scenario_of p s.script devices))) (sym i.is) (runs.does contents);
+      scenario = scenario_of image_data s.script devices;
+      done = subst (λ (p : ImageData). Does devices job contents (verdict (scenario_of p s.script devices))) (sym i.is) (runs.does contents);
       stands = s.stands;
       turns = s.turns;
     }
@@ -99,14 +99,14 @@ image_ready {X} {H} {shown} {devices} seen job verdict image script picture b ru
 pub image_faults : {devices : List DeviceData} (a c : FilesSeen) (job : Asked) (image script : List ℕ) (h : NamedFault) → TakesImage devices job image script → IsNamedFaultOf a c (image_file image) h → IsNamedFaultIn devices job a c h
 image_faults a c job image script h takes fault = faults_first job (image_file image) a c h (ap (λ (fs : List File). slice_get fs 0) (takes.files [])) fault
 
-pub script_faults : {devices : List DeviceData} (a b c : FilesSeen) (job : Asked) (image script : List ℕ) (picture : Picture) (h : NamedFault) → TakesImage devices job image script → IsImageFile a.contents image picture → b.contents ≡ a.contents
+pub script_faults : {devices : List DeviceData} (a b c : FilesSeen) (job : Asked) (image script : List ℕ) (image_data : ImageData) (h : NamedFault) → TakesImage devices job image script → IsImageFile a.contents image image_data → b.contents ≡ a.contents
     → a.read_faults ≤ b.read_faults → IsNamedFaultOf b c (script_file script) h → IsNamedFaultIn devices job a c h
-script_faults a b c job image script picture h takes i seen later fault =
+script_faults a b c job image script image_data h takes i seen later fault =
     faults_at job (i.bytes ∷ []) (script_file script) a b c h
-    (subst (λ (fs : List File). Takes (MayBe a.contents) fs (i.bytes ∷ [])) (sym (takes.files i.bytes)) (one_file a.contents image picture (script_file script ∷ takes.more i.bytes) i))
+    (subst (λ (fs : List File). Takes (MayBe a.contents) fs (i.bytes ∷ [])) (sym (takes.files i.bytes)) (one_file a.contents image image_data (script_file script ∷ takes.more i.bytes) i))
     (ap (λ (fs : List File). slice_get fs 1) (takes.files i.bytes)) seen later fault
 
-pub set_by_script : {X : Type 0} {H : X → Type 0} {shown : Shows X H} {devices : List DeviceData} (seen : List ℕ → Option (List ℕ)) (image : Picture) (name : List ℕ) (script : ScriptData) (b : Board X H) → IsScriptFile seen name script
+pub set_by_script : {X : Type 0} {H : X → Type 0} {shown : Shows X H} {devices : List DeviceData} (seen : List ℕ → Option (List ℕ)) (image : ImageData) (name : List ℕ) (script : ScriptData) (b : Board X H) → IsScriptFile seen name script
     → Stands shown (opened.scenario_of image script devices) b (start_of (opened.scenario_of image script devices)) → turns_of b ≡ 0 → IsSet shown devices seen image name b
 set_by_script {X} {H} {shown} {devices} seen image name script b i stands turns = record {
   script = i.bytes;
@@ -119,19 +119,19 @@ set_by_script {X} {H} {shown} {devices} seen image name script b i stands turns 
 -- ## `resume`
 
 -- the files before the state
-two_files : (seen : List ℕ → Option (List ℕ)) (image script : List ℕ) (picture : Picture) (events : ScriptData) (more : List File) (i : IsImageFile seen image picture) (s : IsScriptFile seen script events)
+two_files : (seen : List ℕ → Option (List ℕ)) (image script : List ℕ) (image_data : ImageData) (events : ScriptData) (more : List File) (i : IsImageFile seen image image_data) (s : IsScriptFile seen script events)
     → Takes (MayBe seen) (image_file image ∷ script_file script ∷ more) (i.bytes ∷ s.bytes ∷ [])
-two_files seen image script picture events more i s =
+two_files seen image script image_data events more i s =
     takes_first (MayBe seen) (image_file image) (script_file script ∷ more) i.bytes (s.bytes ∷ []) i.held i.accepted
     (takes_first (MayBe seen) (script_file script) more s.bytes [] s.held s.accepted (takes_none (MayBe seen) more))
 
-pub resume_ready : {X : Type 0} {H : X → Type 0} {shown : Shows X H} {devices : List DeviceData} (seen : List ℕ → Option (List ℕ)) (image script state : List ℕ) (m : ℕ) (detail : Detail) (picture : Picture) (events : ScriptData) (b : Board X H) → IsImageFile seen image picture
-    → IsScriptFile seen script events → IsStateSet shown devices seen picture events state m b → IsResumable shown devices (resume image script state m detail) seen m detail b
-resume_ready {X} {H} {shown} {devices} seen image script state m detail picture events b i s t =
-    let file = state_file devices (picture_of i.bytes) m state in
-    let accepted : state_refusal devices (picture_of i.bytes) m t.bytes ≡ None = subst (λ (p : Picture). state_refusal devices p m t.bytes ≡ None) i.is t.accepted in
-    let of_image : IsLoaded shown (opened.scenario_of (picture_of i.bytes) events devices) t.bytes b = subst (λ (p : Picture). IsLoaded shown (opened.scenario_of p events devices) t.bytes b) i.is t.loaded in
-    let loaded : IsLoaded shown (opened.scenario_of (picture_of i.bytes) (script_of s.bytes) devices) t.bytes b = subst (λ (d : ScriptData). IsLoaded shown (opened.scenario_of (picture_of i.bytes) d devices) t.bytes b) s.is of_image in
+pub resume_ready : {X : Type 0} {H : X → Type 0} {shown : Shows X H} {devices : List DeviceData} (seen : List ℕ → Option (List ℕ)) (image script state : List ℕ) (m : ℕ) (detail : Detail) (image_data : ImageData) (events : ScriptData) (b : Board X H) → IsImageFile seen image image_data
+    → IsScriptFile seen script events → IsStateSet shown devices seen image_data events state m b → IsResumable shown devices (resume image script state m detail) seen m detail b
+resume_ready {X} {H} {shown} {devices} seen image script state m detail image_data events b i s t =
+    let file = state_file devices (image_data_of i.bytes) m state in
+    let accepted : state_refusal devices (image_data_of i.bytes) m t.bytes ≡ None = subst (λ (p : ImageData). state_refusal devices p m t.bytes ≡ None) i.is t.accepted in
+    let of_image : IsLoaded shown (opened.scenario_of (image_data_of i.bytes) events devices) t.bytes b = subst (λ (p : ImageData). IsLoaded shown (opened.scenario_of p events devices) t.bytes b) i.is t.loaded in
+    let loaded : IsLoaded shown (opened.scenario_of (image_data_of i.bytes) (script_of s.bytes) devices) t.bytes b = subst (λ (d : ScriptData). IsLoaded shown (opened.scenario_of (image_data_of i.bytes) d devices) t.bytes b) s.is of_image in
     record {
       contents = i.bytes ∷ s.bytes ∷ t.bytes ∷ [];
       accepted = record {
@@ -148,30 +148,30 @@ resume_ready {X} {H} {shown} {devices} seen image script state m detail picture 
     }
 
 -- the run of an image and a script that were read starts well: so does that of what is seen of them
-pub starts_seen : {devices : List DeviceData} (seen : List ℕ → Option (List ℕ)) (image script : List ℕ) (picture : Picture) (events : ScriptData) → IsImageFile seen image picture → IsScriptFile seen script events → StartsWell (opened.scenario_of picture events devices) → StartsSeen devices seen image script
-starts_seen {devices} seen image script picture events i s well = λ ib sb has_image has_script.
-    let of_picture : picture ≡ picture_of ib = i.is ∙ ap picture_of (i.held ib has_image) in
+pub starts_seen : {devices : List DeviceData} (seen : List ℕ → Option (List ℕ)) (image script : List ℕ) (image_data : ImageData) (events : ScriptData) → IsImageFile seen image image_data → IsScriptFile seen script events → StartsWell (opened.scenario_of image_data events devices) → StartsSeen devices seen image script
+starts_seen {devices} seen image script image_data events i s well = λ ib sb has_image has_script.
+    let of_picture : image_data ≡ image_data_of ib = i.is ∙ ap image_data_of (i.held ib has_image) in
     let of_events : events ≡ script_of sb = s.is ∙ ap script_of (s.held sb has_script) in
-    subst (λ (d : ScriptData). StartsWell (opened.scenario_of (picture_of ib) d devices)) of_events (subst (λ (p : Picture). StartsWell (opened.scenario_of p events devices)) of_picture well)
+    subst (λ (d : ScriptData). StartsWell (opened.scenario_of (image_data_of ib) d devices)) of_events (subst (λ (p : ImageData). StartsWell (opened.scenario_of p events devices)) of_picture well)
 
 pub resume_image_faults : {devices : List DeviceData} (a c : FilesSeen) (image script state : List ℕ) (m : ℕ) (detail : Detail) (h : NamedFault) → IsNamedFaultOf a c (image_file image) h → IsNamedFaultIn devices (resume image script state m detail) a c h
 resume_image_faults a c image script state m detail h fault = faults_first (resume image script state m detail) (image_file image) a c h refl fault
 
-pub resume_script_faults : {devices : List DeviceData} (a b c : FilesSeen) (image script state : List ℕ) (m : ℕ) (detail : Detail) (picture : Picture) (h : NamedFault) → IsImageFile a.contents image picture → b.contents ≡ a.contents
+pub resume_script_faults : {devices : List DeviceData} (a b c : FilesSeen) (image script state : List ℕ) (m : ℕ) (detail : Detail) (image_data : ImageData) (h : NamedFault) → IsImageFile a.contents image image_data → b.contents ≡ a.contents
     → a.read_faults ≤ b.read_faults → IsNamedFaultOf b c (script_file script) h → IsNamedFaultIn devices (resume image script state m detail) a c h
-resume_script_faults {devices} a b c image script state m detail picture h i seen later fault = faults_at (resume image script state m detail) (i.bytes ∷ []) (script_file script) a b c h (one_file a.contents image picture (script_file script ∷ state_file devices (picture_of i.bytes) m state ∷ []) i) refl seen later fault
+resume_script_faults {devices} a b c image script state m detail image_data h i seen later fault = faults_at (resume image script state m detail) (i.bytes ∷ []) (script_file script) a b c h (one_file a.contents image image_data (script_file script ∷ state_file devices (image_data_of i.bytes) m state ∷ []) i) refl seen later fault
 
-pub resume_state_faults : {devices : List DeviceData} (a b c : FilesSeen) (image script state : List ℕ) (m : ℕ) (detail : Detail) (picture : Picture) (events : ScriptData) (h : NamedFault) → IsImageFile a.contents image picture → IsScriptFile a.contents script events
-    → b.contents ≡ a.contents → a.read_faults ≤ b.read_faults → IsNamedFaultOf b c (state_file devices picture m state) h → IsNamedFaultIn devices (resume image script state m detail) a c h
-resume_state_faults {devices} a b c image script state m detail picture events h i s seen later fault =
-    let file : ℕ → Picture → File = λ n p. state_file devices p n state in
+pub resume_state_faults : {devices : List DeviceData} (a b c : FilesSeen) (image script state : List ℕ) (m : ℕ) (detail : Detail) (image_data : ImageData) (events : ScriptData) (h : NamedFault) → IsImageFile a.contents image image_data → IsScriptFile a.contents script events
+    → b.contents ≡ a.contents → a.read_faults ≤ b.read_faults → IsNamedFaultOf b c (state_file devices image_data m state) h → IsNamedFaultIn devices (resume image script state m detail) a c h
+resume_state_faults {devices} a b c image script state m detail image_data events h i s seen later fault =
+    let file : ℕ → ImageData → File = λ n p. state_file devices p n state in
     record {
       contents = i.bytes ∷ s.bytes ∷ [];
       at = record {
-        takes = two_files a.contents image script picture events (file m (picture_of i.bytes) ∷ []) i s;
-        file = file m (picture_of i.bytes);
+        takes = two_files a.contents image script image_data events (file m (image_data_of i.bytes) ∷ []) i s;
+        file = file m (image_data_of i.bytes);
         next = refl;
-        fault = faults_earlier a b c (file m (picture_of i.bytes)) h seen later (subst (λ (p : Picture). IsNamedFaultOf b c (file m p) h) i.is fault);
+        fault = faults_earlier a b c (file m (image_data_of i.bytes)) h seen later (subst (λ (p : ImageData). IsNamedFaultOf b c (file m p) h) i.is fault);
       };
     }
 
@@ -179,20 +179,20 @@ resume_state_faults {devices} a b c image script state m detail picture events h
 pub script_there : {seen seen' : List ℕ → Option (List ℕ)} {name : List ℕ} {script : ScriptData} → seen ≡ seen' → IsScriptFile seen name script → IsScriptFile seen' name script
 script_there {seen} {seen'} {name} {script} same h = subst (λ (t : List ℕ → Option (List ℕ)). IsScriptFile t name script) same h
 
-pub state_there : {X : Type 0} {H : X → Type 0} {shown : Shows X H} {devices : List DeviceData} {seen seen' : List ℕ → Option (List ℕ)} {picture : Picture} {script : ScriptData} {name : List ℕ} {bound : ℕ} {b : Board X H} → seen ≡ seen'
-    → IsStateSet shown devices seen picture script name bound b → IsStateSet shown devices seen' picture script name bound b
-state_there {X} {H} {shown} {devices} {seen} {seen'} {picture} {script} {name} {bound} {b} same h = subst (λ (t : List ℕ → Option (List ℕ)). IsStateSet shown devices t picture script name bound b) same h
+pub state_there : {X : Type 0} {H : X → Type 0} {shown : Shows X H} {devices : List DeviceData} {seen seen' : List ℕ → Option (List ℕ)} {image_data : ImageData} {script : ScriptData} {name : List ℕ} {bound : ℕ} {b : Board X H} → seen ≡ seen'
+    → IsStateSet shown devices seen image_data script name bound b → IsStateSet shown devices seen' image_data script name bound b
+state_there {X} {H} {shown} {devices} {seen} {seen'} {image_data} {script} {name} {bound} {b} same h = subst (λ (t : List ℕ → Option (List ℕ)). IsStateSet shown devices t image_data script name bound b) same h
 
 pub commands_there : {seen seen' : List ℕ → Option (List ℕ)} {name : List ℕ} {commands : List Command} → seen ≡ seen' → IsCommandsFile seen name commands → IsCommandsFile seen' name commands
 commands_there {seen} {seen'} {name} {commands} same h = subst (λ (t : List ℕ → Option (List ℕ)). IsCommandsFile t name commands) same h
 
 -- ## `debug`
 
-pub debug_ready : {X : Type 0} {H : X → Type 0} {shown : Shows X H} {devices : List DeviceData} (seen : List ℕ → Option (List ℕ)) (image script name : List ℕ) (picture : Picture) (events : ScriptData) (commands : List Command) (b : Board X H) → IsImageFile seen image picture
-    → IsScriptFile seen script events → IsCommandsFile seen name commands → Stands shown (opened.scenario_of picture events devices) b (start_of (opened.scenario_of picture events devices)) → IsDebugReady shown devices (debug image script name) seen commands b
-debug_ready {X} {H} {shown} {devices} seen image script name picture events commands b i s c stands =
-    let of_image : Stands shown (opened.scenario_of (picture_of i.bytes) events devices) b (start_of (opened.scenario_of (picture_of i.bytes) events devices)) =
-    subst (λ (p : Picture). Stands shown (opened.scenario_of p events devices) b (start_of (opened.scenario_of p events devices))) i.is stands in
+pub debug_ready : {X : Type 0} {H : X → Type 0} {shown : Shows X H} {devices : List DeviceData} (seen : List ℕ → Option (List ℕ)) (image script name : List ℕ) (image_data : ImageData) (events : ScriptData) (commands : List Command) (b : Board X H) → IsImageFile seen image image_data
+    → IsScriptFile seen script events → IsCommandsFile seen name commands → Stands shown (opened.scenario_of image_data events devices) b (start_of (opened.scenario_of image_data events devices)) → IsDebugReady shown devices (debug image script name) seen commands b
+debug_ready {X} {H} {shown} {devices} seen image script name image_data events commands b i s c stands =
+    let of_image : Stands shown (opened.scenario_of (image_data_of i.bytes) events devices) b (start_of (opened.scenario_of (image_data_of i.bytes) events devices)) =
+    subst (λ (p : ImageData). Stands shown (opened.scenario_of p events devices) b (start_of (opened.scenario_of p events devices))) i.is stands in
     record {
       contents = i.bytes ∷ s.bytes ∷ c.bytes ∷ [];
       accepted = record {
@@ -201,34 +201,34 @@ debug_ready {X} {H} {shown} {devices} seen image script name picture events comm
             (takes_first (MayBe seen) (commands_file name) [] c.bytes [] c.held c.accepted (takes_none (MayBe seen) [])));
         all = refl;
       };
-      scenario = scenario_of (picture_of i.bytes) s.bytes devices;
+      scenario = scenario_of (image_data_of i.bytes) s.bytes devices;
       done = (commands, c.is, refl);
-      stands = subst (λ (d : ScriptData). Stands shown (opened.scenario_of (picture_of i.bytes) d devices) b (start_of (opened.scenario_of (picture_of i.bytes) d devices))) s.is of_image;
+      stands = subst (λ (d : ScriptData). Stands shown (opened.scenario_of (image_data_of i.bytes) d devices) b (start_of (opened.scenario_of (image_data_of i.bytes) d devices))) s.is of_image;
     }
 
 pub debug_image_faults : {devices : List DeviceData} (a c : FilesSeen) (image script name : List ℕ) (h : NamedFault) → IsNamedFaultOf a c (image_file image) h → IsNamedFaultIn devices (debug image script name) a c h
 debug_image_faults a c image script name h fault = faults_first (debug image script name) (image_file image) a c h refl fault
 
-pub debug_script_faults : {devices : List DeviceData} (a b c : FilesSeen) (image script name : List ℕ) (picture : Picture) (h : NamedFault) → IsImageFile a.contents image picture → b.contents ≡ a.contents
+pub debug_script_faults : {devices : List DeviceData} (a b c : FilesSeen) (image script name : List ℕ) (image_data : ImageData) (h : NamedFault) → IsImageFile a.contents image image_data → b.contents ≡ a.contents
     → a.read_faults ≤ b.read_faults → IsNamedFaultOf b c (script_file script) h → IsNamedFaultIn devices (debug image script name) a c h
-debug_script_faults a b c image script name picture h i seen later fault = faults_at (debug image script name) (i.bytes ∷ []) (script_file script) a b c h (one_file a.contents image picture (script_file script ∷ commands_file name ∷ []) i) refl seen later fault
+debug_script_faults a b c image script name image_data h i seen later fault = faults_at (debug image script name) (i.bytes ∷ []) (script_file script) a b c h (one_file a.contents image image_data (script_file script ∷ commands_file name ∷ []) i) refl seen later fault
 
-pub debug_commands_faults : {devices : List DeviceData} (a b c : FilesSeen) (image script name : List ℕ) (picture : Picture) (events : ScriptData) (h : NamedFault) → IsImageFile a.contents image picture → IsScriptFile a.contents script events
+pub debug_commands_faults : {devices : List DeviceData} (a b c : FilesSeen) (image script name : List ℕ) (image_data : ImageData) (events : ScriptData) (h : NamedFault) → IsImageFile a.contents image image_data → IsScriptFile a.contents script events
     → b.contents ≡ a.contents → a.read_faults ≤ b.read_faults → IsNamedFaultOf b c (commands_file name) h → IsNamedFaultIn devices (debug image script name) a c h
-debug_commands_faults a b c image script name picture events h i s seen later fault = faults_at (debug image script name) (i.bytes ∷ s.bytes ∷ []) (commands_file name) a b c h (two_files a.contents image script picture events (commands_file name ∷ []) i s) refl seen later fault
+debug_commands_faults a b c image script name image_data events h i s seen later fault = faults_at (debug image script name) (i.bytes ∷ s.bytes ∷ []) (commands_file name) a b c h (two_files a.contents image script image_data events (commands_file name ∷ []) i s) refl seen later fault
 
 -- ## `sweep`
 
 pub arrival_there : {seen seen' : List ℕ → Option (List ℕ)} {name : List ℕ} {arrival : ScriptData} → seen ≡ seen' → IsArrivalFile seen name arrival → IsArrivalFile seen' name arrival
 arrival_there {seen} {seen'} {name} {arrival} same h = subst (λ (t : List ℕ → Option (List ℕ)). IsArrivalFile t name arrival) same h
 
-pub sweep_ready : {X : Type 0} {H : X → Type 0} {shown : Shows X H} {devices : List DeviceData} (seen : List ℕ → Option (List ℕ)) (image script name : List ℕ) (from to limit : ℕ) (mem : Bool) (picture : Picture) (events arrival : ScriptData) (w : Sweeper X H) → IsImageFile seen image picture
-    → IsScriptFile seen script events → IsArrivalFile seen name arrival → IsReadyToSweep shown (opened.scenario_of picture events devices) arrival.events w → IsSweepReady shown devices (sweep image script name from to limit mem) seen from to limit mem w
-sweep_ready {X} {H} {shown} {devices} seen image script name from to limit mem picture events arrival w i s c ready =
-    let of_image : IsReadyToSweep shown (opened.scenario_of (picture_of i.bytes) events devices) arrival.events w =
-    subst (λ (p : Picture). IsReadyToSweep shown (opened.scenario_of p events devices) arrival.events w) i.is ready in
-    let of_script : IsReadyToSweep shown (scenario_of (picture_of i.bytes) s.bytes devices) arrival.events w =
-    subst (λ (d : ScriptData). IsReadyToSweep shown (opened.scenario_of (picture_of i.bytes) d devices) arrival.events w) s.is of_image in
+pub sweep_ready : {X : Type 0} {H : X → Type 0} {shown : Shows X H} {devices : List DeviceData} (seen : List ℕ → Option (List ℕ)) (image script name : List ℕ) (from to limit : ℕ) (mem : Bool) (image_data : ImageData) (events arrival : ScriptData) (w : Sweeper X H) → IsImageFile seen image image_data
+    → IsScriptFile seen script events → IsArrivalFile seen name arrival → IsReadyToSweep shown (opened.scenario_of image_data events devices) arrival.events w → IsSweepReady shown devices (sweep image script name from to limit mem) seen from to limit mem w
+sweep_ready {X} {H} {shown} {devices} seen image script name from to limit mem image_data events arrival w i s c ready =
+    let of_image : IsReadyToSweep shown (opened.scenario_of (image_data_of i.bytes) events devices) arrival.events w =
+    subst (λ (p : ImageData). IsReadyToSweep shown (opened.scenario_of p events devices) arrival.events w) i.is ready in
+    let of_script : IsReadyToSweep shown (scenario_of (image_data_of i.bytes) s.bytes devices) arrival.events w =
+    subst (λ (d : ScriptData). IsReadyToSweep shown (opened.scenario_of (image_data_of i.bytes) d devices) arrival.events w) s.is of_image in
     record {
       contents = i.bytes ∷ s.bytes ∷ c.bytes ∷ [];
       accepted = record {
@@ -237,41 +237,41 @@ sweep_ready {X} {H} {shown} {devices} seen image script name from to limit mem p
             (takes_first (MayBe seen) (arrival_file name) [] c.bytes [] c.held c.accepted (takes_none (MayBe seen) [])));
         all = refl;
       };
-      scenario = scenario_of (picture_of i.bytes) s.bytes devices;
+      scenario = scenario_of (image_data_of i.bytes) s.bytes devices;
       arrival = (script_of c.bytes).events;
       done = refl;
-      ready = subst (λ (d : ScriptData). IsReadyToSweep shown (scenario_of (picture_of i.bytes) s.bytes devices) d.events w) c.is of_script;
+      ready = subst (λ (d : ScriptData). IsReadyToSweep shown (scenario_of (image_data_of i.bytes) s.bytes devices) d.events w) c.is of_script;
     }
 
 pub sweep_image_faults : {devices : List DeviceData} (a c : FilesSeen) (image script name : List ℕ) (from to limit : ℕ) (mem : Bool) (h : NamedFault) → IsNamedFaultOf a c (image_file image) h → IsNamedFaultIn devices (sweep image script name from to limit mem) a c h
 sweep_image_faults a c image script name from to limit mem h fault = faults_first (sweep image script name from to limit mem) (image_file image) a c h refl fault
 
-pub sweep_script_faults : {devices : List DeviceData} (a b c : FilesSeen) (image script name : List ℕ) (from to limit : ℕ) (mem : Bool) (picture : Picture) (h : NamedFault) → IsImageFile a.contents image picture → b.contents ≡ a.contents
+pub sweep_script_faults : {devices : List DeviceData} (a b c : FilesSeen) (image script name : List ℕ) (from to limit : ℕ) (mem : Bool) (image_data : ImageData) (h : NamedFault) → IsImageFile a.contents image image_data → b.contents ≡ a.contents
     → a.read_faults ≤ b.read_faults → IsNamedFaultOf b c (script_file script) h → IsNamedFaultIn devices (sweep image script name from to limit mem) a c h
-sweep_script_faults a b c image script name from to limit mem picture h i seen later fault =
-    faults_at (sweep image script name from to limit mem) (i.bytes ∷ []) (script_file script) a b c h (one_file a.contents image picture (script_file script ∷ arrival_file name ∷ []) i) refl seen later fault
+sweep_script_faults a b c image script name from to limit mem image_data h i seen later fault =
+    faults_at (sweep image script name from to limit mem) (i.bytes ∷ []) (script_file script) a b c h (one_file a.contents image image_data (script_file script ∷ arrival_file name ∷ []) i) refl seen later fault
 
-pub sweep_arrival_faults : {devices : List DeviceData} (a b c : FilesSeen) (image script name : List ℕ) (from to limit : ℕ) (mem : Bool) (picture : Picture) (events : ScriptData) (h : NamedFault) → IsImageFile a.contents image picture → IsScriptFile a.contents script events
+pub sweep_arrival_faults : {devices : List DeviceData} (a b c : FilesSeen) (image script name : List ℕ) (from to limit : ℕ) (mem : Bool) (image_data : ImageData) (events : ScriptData) (h : NamedFault) → IsImageFile a.contents image image_data → IsScriptFile a.contents script events
     → b.contents ≡ a.contents → a.read_faults ≤ b.read_faults → IsNamedFaultOf b c (arrival_file name) h → IsNamedFaultIn devices (sweep image script name from to limit mem) a c h
-sweep_arrival_faults a b c image script name from to limit mem picture events h i s seen later fault =
-    faults_at (sweep image script name from to limit mem) (i.bytes ∷ s.bytes ∷ []) (arrival_file name) a b c h (two_files a.contents image script picture events (arrival_file name ∷ []) i s) refl seen later fault
+sweep_arrival_faults a b c image script name from to limit mem image_data events h i s seen later fault =
+    faults_at (sweep image script name from to limit mem) (i.bytes ∷ s.bytes ∷ []) (arrival_file name) a b c h (two_files a.contents image script image_data events (arrival_file name ∷ []) i s) refl seen later fault
 
 -- ## `list`
 
 pub list_faults : {devices : List DeviceData} (a c : FilesSeen) (image : List ℕ) (h : NamedFault) → IsNamedFaultOf a c (image_file image) h → IsNamedFaultIn devices (list image) a c h
 list_faults a c image h fault = faults_first (list image) (image_file image) a c h refl fault
 
-pub list_reason : {devices : List DeviceData} (a b : FilesSeen) (image : List ℕ) (picture : Picture) → IsImageFile a.contents image picture → JobReason devices (list image) a b (listed picture)
-list_reason a b image picture i = does (i.bytes ∷ []) (record { takes = one_file a.contents image picture [] i; all = refl }) (ap listed i.is)
+pub list_reason : {devices : List DeviceData} (a b : FilesSeen) (image : List ℕ) (image_data : ImageData) → IsImageFile a.contents image image_data → JobReason devices (list image) a b (listed image_data)
+list_reason a b image image_data i = does (i.bytes ∷ []) (record { takes = one_file a.contents image image_data [] i; all = refl }) (ap listed i.is)
 
 -- ## `migrate`
 
 pub migrate_faults : {devices : List DeviceData} (a c : FilesSeen) (image out : List ℕ) (h : NamedFault) → IsNamedFaultOf a c (image_file image) h → IsNamedFaultIn devices (migrate image out) a c h
 migrate_faults a c image out h fault = faults_first (migrate image out) (image_file image) a c h refl fault
 
-migrate_reason : {devices : List DeviceData} (a b : FilesSeen) (image out : List ℕ) (picture : Picture) → IsImageFile a.contents image picture → JobReason devices (migrate image out) a b (built out picture)
-migrate_reason a b image out picture i =
-    does (i.bytes ∷ []) (record { takes = one_file a.contents image picture [] i; all = refl }) (ap (built out) i.is)
+migrate_reason : {devices : List DeviceData} (a b : FilesSeen) (image out : List ℕ) (image_data : ImageData) → IsImageFile a.contents image image_data → JobReason devices (migrate image out) a b (built out image_data)
+migrate_reason a b image out image_data i =
+    does (i.bytes ∷ []) (record { takes = one_file a.contents image image_data [] i; all = refl }) (ap (built out) i.is)
 
 -- ## `audit`
 
@@ -289,9 +289,9 @@ audited_alone (No line) = refl
 
 -- ## `build`
 
-pub build_reason : {devices : List DeviceData} (a b : FilesSeen) (app out : List ℕ) (picture : Picture) → IsImage a.contents app picture → JobReason devices (build app out) a b (built out picture)
-build_reason a b app out picture i =
-    does (i.bytes ∷ i.sources) (record { takes = i.each.takes; all = i.each.all }) (picture, i.is, refl)
+pub build_reason : {devices : List DeviceData} (a b : FilesSeen) (app out : List ℕ) (image_data : ImageData) → IsImage a.contents app image_data → JobReason devices (build app out) a b (built out image_data)
+build_reason a b app out image_data i =
+    does (i.bytes ∷ i.sources) (record { takes = i.each.takes; all = i.each.all }) (image_data, i.is, refl)
 
 pub build_faults : {devices : List DeviceData} (a c : FilesSeen) (app out : List ℕ) (h : NamedFault) → IsNamedFaultInApp a c app h → IsNamedFaultIn devices (build app out) a c h
 build_faults a c app out h i = record { contents = i.contents; at = i.at }
@@ -306,12 +306,12 @@ pub files_then : {A : Type 0} (files : List A) (f : A) (n : ℕ) → length file
 files_then files f n e = ap (λ k. slice_get (files ++ f ∷ []) k) (sym e) ∙ get_last files f
 
 -- the sources and the script, apart
-pub go_image : (bytes : List ℕ) (sources : List (List ℕ)) (script : List ℕ) (picture : Picture) → length (application_of bytes).tasks ≡ length sources
-    → IsBuilt (bytes ∷ sources) picture → IsBuilt (bytes ∷ (sources ++ script ∷ [])) picture
-go_image bytes sources script picture count h =
+pub go_image : (bytes : List ℕ) (sources : List (List ℕ)) (script : List ℕ) (image_data : ImageData) → length (application_of bytes).tasks ≡ length sources
+    → IsBuilt (bytes ∷ sources) image_data → IsBuilt (bytes ∷ (sources ++ script ∷ [])) image_data
+go_image bytes sources script image_data count h =
     let fewer : take (length (application_of bytes).tasks) sources ≡ take (length (application_of bytes).tasks) (sources ++ script ∷ []) =
     ap (λ n. take n sources) count ∙ sym (take_front sources (script ∷ [])) ∙ ap (λ n. take n (sources ++ script ∷ [])) (sym count) in
-    record { built = subst (λ (ss : List (List ℕ)). Built (application_of bytes) ss picture) fewer h.built; sound = h.sound }
+    record { built = subst (λ (ss : List (List ℕ)). Built (application_of bytes) ss image_data) fewer h.built; sound = h.sound }
 
 pub go_script : (bytes : List ℕ) (sources : List (List ℕ)) (script : List ℕ) → length (application_of bytes).tasks ≡ length sources → script_in (bytes ∷ (sources ++ script ∷ [])) ≡ script
 go_script bytes sources script count = ap (λ n. get_or (sources ++ script ∷ []) n []) count ∙ at_end sources script []
@@ -327,15 +327,15 @@ pub takes_app_of : {devices : List DeviceData} {job : Asked} {app script : List 
 takes_app_of runs = record { files = runs.files }
 
 -- the contents of its files, of which each is accepted, and what they say
-pub record AreTaken (devices : List DeviceData) (job : Asked) (seen : List ℕ → Option (List ℕ)) (sources : List (List ℕ)) (script : List ℕ) (picture : Picture) (contents : List (List ℕ)) : Type 0 where
+pub record AreTaken (devices : List DeviceData) (job : Asked) (seen : List ℕ → Option (List ℕ)) (sources : List (List ℕ)) (script : List ℕ) (image_data : ImageData) (contents : List (List ℕ)) : Type 0 where
   pub accepted : TakesAll (MayBe seen) devices job contents
-  pub built : IsBuilt contents picture
+  pub built : IsBuilt contents image_data
   pub sources_are : sources_in contents ≡ sources
   pub script_is : script_in contents ≡ script
 
-pub app_taken : {X : Type 0} {H : X → Type 0} {shown : Shows X H} {devices : List DeviceData} {seen : List ℕ → Option (List ℕ)} {app script : List ℕ} {wanted : Bool} {described : AppData} {l : SourceLines} (job : Asked) (picture : Picture) (b : Board X H)
-    → TakesApp devices job app script → (i : IsBuiltApp seen app wanted described picture l) → (s : IsSet shown devices seen picture script b) → AreTaken devices job seen i.sources s.script picture (i.bytes ∷ (i.sources ++ s.script ∷ []))
-app_taken {devices = devices} {seen = seen} {app = app} {script = script} job picture b takes_app i s =
+pub app_taken : {X : Type 0} {H : X → Type 0} {shown : Shows X H} {devices : List DeviceData} {seen : List ℕ → Option (List ℕ)} {app script : List ℕ} {wanted : Bool} {described : AppData} {l : SourceLines} (job : Asked) (image_data : ImageData) (b : Board X H)
+    → TakesApp devices job app script → (i : IsBuiltApp seen app wanted described image_data l) → (s : IsSet shown devices seen image_data script b) → AreTaken devices job seen i.sources s.script image_data (i.bytes ∷ (i.sources ++ s.script ∷ []))
+app_taken {devices = devices} {seen = seen} {app = app} {script = script} job image_data b takes_app i s =
     let files = files_to_build app i.bytes in
     let contents = i.bytes ∷ (i.sources ++ s.script ∷ []) in
     let count : length (application_of i.bytes).tasks ≡ length i.sources = (let all = i.each.all in let many = as_many_sources (application_of i.bytes) in omega arith) in
@@ -348,26 +348,26 @@ app_taken {devices = devices} {seen = seen} {app = app} {script = script} job pi
         takes = subst (λ (fs : List File). Takes (MayBe seen) fs contents) (sym (takes_app.files i.bytes)) takes;
         all = ap length (takes_app.files i.bytes) ∙ longer files (script_file script) ∙ ap suc i.each.all ∙ sym (longer (i.bytes ∷ i.sources) s.script);
       };
-      built = go_image i.bytes i.sources s.script picture count i.is;
+      built = go_image i.bytes i.sources s.script image_data count i.is;
       sources_are = app_sources i.bytes i.sources s.script count;
       script_is = go_script i.bytes i.sources s.script count;
     }
 
-pub app_ready : {X : Type 0} {H : X → Type 0} {shown : Shows X H} {devices : List DeviceData} {seen : List ℕ → Option (List ℕ)} {app script : List ℕ} {wanted : Bool} {described : AppData} {l : SourceLines} (job : Asked) (verdict : AppData → List (List ℕ) → Scenario → Verdict) (picture : Picture) (b : Board X H)
-    → RunsApp devices job app script verdict → IsBuiltApp seen app wanted described picture l → IsSet shown devices seen picture script b → IsAppReady shown devices job seen verdict wanted b described l
-app_ready {X} {H} {shown} {devices} {seen} {app} {script} {wanted} {described} {l} job verdict picture b runs i s =
+pub app_ready : {X : Type 0} {H : X → Type 0} {shown : Shows X H} {devices : List DeviceData} {seen : List ℕ → Option (List ℕ)} {app script : List ℕ} {wanted : Bool} {described : AppData} {l : SourceLines} (job : Asked) (verdict : AppData → List (List ℕ) → Scenario → Verdict) (image_data : ImageData) (b : Board X H)
+    → RunsApp devices job app script verdict → IsBuiltApp seen app wanted described image_data l → IsSet shown devices seen image_data script b → IsAppReady shown devices job seen verdict wanted b described l
+app_ready {X} {H} {shown} {devices} {seen} {app} {script} {wanted} {described} {l} job verdict image_data b runs i s =
     let contents = i.bytes ∷ (i.sources ++ s.script ∷ []) in
-    let taken = app_taken job picture b (takes_app_of runs) i s in
-    let does = runs.does contents picture taken.built in
-    let by_sources = subst (λ (ss : List (List ℕ)). Does devices job contents (verdict (application_of i.bytes) ss (scenario_of picture (script_in contents) devices))) taken.sources_are does in
-    let by_script = subst (λ (t : List ℕ). Does devices job contents (verdict (application_of i.bytes) i.sources (scenario_of picture t devices))) taken.script_is by_sources in
+    let taken = app_taken job image_data b (takes_app_of runs) i s in
+    let does = runs.does contents image_data taken.built in
+    let by_sources = subst (λ (ss : List (List ℕ)). Does devices job contents (verdict (application_of i.bytes) ss (scenario_of image_data (script_in contents) devices))) taken.sources_are does in
+    let by_script = subst (λ (t : List ℕ). Does devices job contents (verdict (application_of i.bytes) i.sources (scenario_of image_data t devices))) taken.script_is by_sources in
     record {
       sources = i.sources;
       ready = record {
         contents = contents;
         accepted = taken.accepted;
-        scenario = scenario_of picture s.script devices;
-        done = subst (λ (a : AppData). Does devices job contents (verdict a i.sources (scenario_of picture s.script devices))) i.described by_script;
+        scenario = scenario_of image_data s.script devices;
+        done = subst (λ (a : AppData). Does devices job contents (verdict a i.sources (scenario_of image_data s.script devices))) i.described by_script;
         stands = s.stands;
         turns = s.turns;
       };
@@ -389,9 +389,9 @@ app_faults {app = app} {script = script} a c job h runs i =
       };
     }
 
-pub app_script_faults : {devices : List DeviceData} {app script : List ℕ} {wanted : Bool} {described : AppData} {l : SourceLines} (a b c : FilesSeen) (job : Asked) (picture : Picture) (h : NamedFault) → TakesApp devices job app script
-    → IsBuiltApp a.contents app wanted described picture l → b.contents ≡ a.contents → a.read_faults ≤ b.read_faults → IsNamedFaultOf b c (script_file script) h → IsNamedFaultIn devices job a c h
-app_script_faults {app = app} {script = script} a b c job picture h runs i seen later fault =
+pub app_script_faults : {devices : List DeviceData} {app script : List ℕ} {wanted : Bool} {described : AppData} {l : SourceLines} (a b c : FilesSeen) (job : Asked) (image_data : ImageData) (h : NamedFault) → TakesApp devices job app script
+    → IsBuiltApp a.contents app wanted described image_data l → b.contents ≡ a.contents → a.read_faults ≤ b.read_faults → IsNamedFaultOf b c (script_file script) h → IsNamedFaultIn devices job a c h
+app_script_faults {app = app} {script = script} a b c job image_data h runs i seen later fault =
     let files = files_to_build app i.bytes in
     let same = runs.files i.bytes in
     record {
@@ -523,10 +523,10 @@ answers_swept image script name a b w w' from to limit mem sweeper r same h push
     answers_pushed (sweep image script name from to limit mem) a b w w' (swept h.scenario (asked h.arrival from to limit mem)) r same refl
     (does h.contents h.accepted h.done) tt (pushes h.scenario h.arrival h.ready)
 
-pub resumable_stood : {X : Type 0} {H : X → Type 0} {shown : Shows X H} {devices : List DeviceData} (job : Asked) (seen : List ℕ → Option (List ℕ)) (m : ℕ) (detail : Detail) (bd : Board X H) → IsResumable shown devices job seen m detail bd → Stood shown bd × (turns_of bd ≤ m)
+pub resumable_stood : {X : Type 0} {H : X → Type 0} {shown : Shows X H} {devices : List DeviceData} (job : Asked) (seen : List ℕ → Option (List ℕ)) (m : ℕ) (detail : Detail) (bd : Board X H) → IsResumable shown devices job seen m detail bd → StandsForSome shown bd × (turns_of bd ≤ m)
 resumable_stood {devices = devices} job seen m detail bd h = ((scenario_in devices h.contents, state_by devices h.contents, h.stands), h.turns)
 
-pub ready_stood : {X : Type 0} {H : X → Type 0} {shown : Shows X H} {devices : List DeviceData} (job : Asked) (seen : List ℕ → Option (List ℕ)) (verdict : Scenario → Verdict) (bd : Board X H) → IsReady shown devices job seen verdict bd → Stood shown bd × (turns_of bd ≡ 0)
+pub ready_stood : {X : Type 0} {H : X → Type 0} {shown : Shows X H} {devices : List DeviceData} (job : Asked) (seen : List ℕ → Option (List ℕ)) (verdict : Scenario → Verdict) (bd : Board X H) → IsReady shown devices job seen verdict bd → StandsForSome shown bd × (turns_of bd ≡ 0)
 ready_stood job seen verdict bd h = ((h.scenario, start_of h.scenario, h.stands), h.turns)
 
 pub answers_timed : {X : Type 0} {H : X → Type 0} {shown : Shows X H} {devices : List DeviceData} (image script : List ℕ) (named : Option (List ℕ)) (a b : FilesSeen) (w w' : SinkSeen) (n : ℕ) (names : List (List ℕ)) (bd : Board X H) (r : ℕ) → b.contents ≡ a.contents
@@ -547,15 +547,15 @@ tells_earlier a b c w w' v r same puts (answer.spoiled is rose left none) =
 tells_earlier a b c w w' v r same puts (answer.short s) =
     answer.short (record { status = s.status; written = s.written; faults = s.faults; files = s.files ∙ same })
 
-answers_put : {devices : List DeviceData} (job : Asked) (a b c : FilesSeen) (w w' : SinkSeen) (out : List ℕ) (image : Picture) (r : ℕ) → b.contents ≡ a.contents → b.put_faults ≡ a.put_faults → JobReason devices job a c (built out image)
+answers_put : {devices : List DeviceData} (job : Asked) (a b c : FilesSeen) (w w' : SinkSeen) (out : List ℕ) (image : ImageData) (r : ℕ) → b.contents ≡ a.contents → b.put_faults ≡ a.put_faults → JobReason devices job a c (built out image)
     → TellsGood job (built out image) r → Tells b c w w' (built out image) r → AnswersJob devices job a c w w' r
 answers_put job a b c w w' out image r same puts why good t = inr (built out image, why, tells_earlier a b c w w' (built out image) r same puts t, good)
 
-pub answers_built : {devices : List DeviceData} (a b c : FilesSeen) (w w' : SinkSeen) (app out : List ℕ) (image : Picture) (r : ℕ) → b.contents ≡ a.contents → b.put_faults ≡ a.put_faults → IsImage a.contents app image
+pub answers_built : {devices : List DeviceData} (a b c : FilesSeen) (w w' : SinkSeen) (app out : List ℕ) (image : ImageData) (r : ℕ) → b.contents ≡ a.contents → b.put_faults ≡ a.put_faults → IsImage a.contents app image
     → Tells b c w w' (built out image) r → AnswersJob devices (build app out) a c w w' r
 answers_built a b c w w' app out image r same puts i t = answers_put (build app out) a b c w w' out image r same puts (build_reason a c app out image i) tt t
 
-pub answers_migrated : {devices : List DeviceData} (a b c : FilesSeen) (w w' : SinkSeen) (file out : List ℕ) (image : Picture) (r : ℕ) → b.contents ≡ a.contents → b.put_faults ≡ a.put_faults → IsImageFile a.contents file image
+pub answers_migrated : {devices : List DeviceData} (a b c : FilesSeen) (w w' : SinkSeen) (file out : List ℕ) (image : ImageData) (r : ℕ) → b.contents ≡ a.contents → b.put_faults ≡ a.put_faults → IsImageFile a.contents file image
     → Tells b c w w' (built out image) r → AnswersJob devices (migrate file out) a c w w' r
 answers_migrated a b c w w' file out image r same puts i t = answers_put (migrate file out) a b c w w' out image r same puts (migrate_reason a c file out image i) tt t
 

@@ -12,7 +12,7 @@ use Rattle.image_build.specs.Layout.{flash_base, flash_needed, ram_needed, task_
 use Rattle.image_build.specs.Built.{given}
 use Rattle.image_build.specs.Building.{HasRoom, LacksRoom, RefusesSource, IsAcceptedSource, source_cause}
 use Rattle.image_build.specs.declared.fault.BuildFault.TheVariants as fault
-use Rattle.image_format.specs.Picture.{Picture, image_or_fault}
+use Rattle.image_format.specs.ImageData.{ImageData, image_or_fault}
 use Rattle.run_script.specs.Scripts.{ScriptData, script_or_fault}
 use Rattle.debug_core.specs.declared.command.Command.{Command}
 use Rattle.debug_core.specs.Reading.{commands_or_fault}
@@ -20,7 +20,7 @@ use Rattle.kernel_abi.specs.Devices.{DeviceData}
 use Rattle.snapshot.specs.Records.{header_at}
 use Rattle.snapshot.specs.Saved.{expected_of}
 use Rattle.snapshot.specs.Waits.{state_fault}
-use Rattle.trace_cli.specs.Contents.{Why, file_limit, trace_limit, trace_refusal, setup_of_image, state_refusal, turn_refusal, or_later, at_number, commands_refusal, script_in, script_refusal, script_of, arrival_fault, arrival_refusal, at_line, fault_in, app_in, image_in, image_refusal, picture_of, application_of, app_refusal, room_refusal, source_refusal, code_refusal, code_length, names_refusal, tasks_refusal}
+use Rattle.trace_cli.specs.Contents.{Why, file_limit, trace_limit, trace_refusal, setup_of_image, state_refusal, turn_refusal, or_later, at_number, commands_refusal, script_in, script_refusal, script_of, arrival_fault, arrival_refusal, at_line, fault_in, app_in, image_in, image_refusal, image_data_of, application_of, app_refusal, room_refusal, source_refusal, code_refusal, code_length, names_refusal, tasks_refusal}
 use Rattle.trace_audit.specs.declared.judgement.Judgement.{Judgement}
 use Rattle.trace_audit.specs.declared.judgement.Judgement.TheVariants.{Yes, No}
 use Rattle.trace_audit.specs.Texts as trace
@@ -33,8 +33,8 @@ use Rattle.trace_cli.proofs.Faulting.{short}
 
 -- ## an image
 
-pub image_taken : (bytes : List ℕ) (p : Picture) → length bytes ≤ file_limit → image_or_fault bytes ≡ Ok p → (image_refusal bytes ≡ None) × (p ≡ picture_of bytes)
-unfolding image_refusal picture_of
+pub image_taken : (bytes : List ℕ) (p : ImageData) → length bytes ≤ file_limit → image_or_fault bytes ≡ Ok p → (image_refusal bytes ≡ None) × (p ≡ image_data_of bytes)
+unfolding image_refusal image_data_of
 image_taken bytes p le is = (short file_limit bytes _ le ∙ ap (λ r. option_map at_number (fault_in r)) is, ap image_in (sym is))
 
 pub image_refused : (bytes : List ℕ) (why : ℕ × ℕ) → length bytes ≤ file_limit → image_or_fault bytes ≡ Err why → image_refusal bytes ≡ Some (at_number why)
@@ -82,12 +82,12 @@ commands_refused bytes why le is = short file_limit bytes _ le ∙ ap (λ r. opt
 
 -- ## a saved state
 
-by_state_fault : (devices : List DeviceData) (image : Picture) (bound : ℕ) (bytes : List ℕ) (o : Option (ℕ × ℕ)) → length bytes ≤ file_limit → state_fault (expected_of (setup_of_image image) devices) bytes ≡ o
+by_state_fault : (devices : List DeviceData) (image : ImageData) (bound : ℕ) (bytes : List ℕ) (o : Option (ℕ × ℕ)) → length bytes ≤ file_limit → state_fault (expected_of (setup_of_image image) devices) bytes ≡ o
     → state_refusal devices image bound bytes ≡ or_later (option_map at_number o) (turn_refusal bound bytes)
 unfolding state_refusal
 by_state_fault devices image bound bytes o le is = short file_limit bytes _ le ∙ ap (λ p. or_later (option_map at_number p) (turn_refusal bound bytes)) is
 
-pub state_refused : (devices : List DeviceData) (image : Picture) (bound : ℕ) (bytes : List ℕ) (why : ℕ × ℕ) → length bytes ≤ file_limit → state_fault (expected_of (setup_of_image image) devices) bytes ≡ Some why
+pub state_refused : (devices : List DeviceData) (image : ImageData) (bound : ℕ) (bytes : List ℕ) (why : ℕ × ℕ) → length bytes ≤ file_limit → state_fault (expected_of (setup_of_image image) devices) bytes ≡ Some why
     → state_refusal devices image bound bytes ≡ Some (at_number why)
 state_refused devices image bound bytes why le is = by_state_fault devices image bound bytes (Some why) le is
 
@@ -97,12 +97,12 @@ within bound turn le = let t : ltb bound turn ≡ false = grind (arith, nat_test
 behind : (bound turn : ℕ) → bound < turn → cond (nat_lt bound turn) (Some (at_number (8, 4))) None ≡ Some (at_number (8, 4))
 behind bound turn lt = let t : ltb bound turn ≡ true = grind (arith, nat_tests) in rw t refl
 
-pub state_taken : (devices : List DeviceData) (image : Picture) (bound turn : ℕ) (bytes : List ℕ) → length bytes ≤ file_limit → state_fault (expected_of (setup_of_image image) devices) bytes ≡ None
+pub state_taken : (devices : List DeviceData) (image : ImageData) (bound turn : ℕ) (bytes : List ℕ) → length bytes ≤ file_limit → state_fault (expected_of (setup_of_image image) devices) bytes ≡ None
     → turn ≡ (header_at bytes).turn → turn ≤ bound → state_refusal devices image bound bytes ≡ None
 state_taken devices image bound turn bytes le is at few =
     by_state_fault devices image bound bytes None le is ∙ ap (λ (t : ℕ). cond (nat_lt bound t) (Some (at_number (8, 4))) None) (sym at) ∙ within bound turn few
 
-pub state_late : (devices : List DeviceData) (image : Picture) (bound turn : ℕ) (bytes : List ℕ) → length bytes ≤ file_limit → state_fault (expected_of (setup_of_image image) devices) bytes ≡ None
+pub state_late : (devices : List DeviceData) (image : ImageData) (bound turn : ℕ) (bytes : List ℕ) → length bytes ≤ file_limit → state_fault (expected_of (setup_of_image image) devices) bytes ≡ None
     → turn ≡ (header_at bytes).turn → bound < turn → state_refusal devices image bound bytes ≡ Some (at_number (8, 4))
 state_late devices image bound turn bytes le is at more =
     by_state_fault devices image bound bytes None le is ∙ ap (λ (t : ℕ). cond (nat_lt bound t) (Some (at_number (8, 4))) None) (sym at) ∙ behind bound turn more

@@ -4,10 +4,10 @@ use Rattle.std.specs.Prelude.{slice_get}
 use Rattle.std.proofs.lemmas.Option.{same_Some, slice_get_within}
 use Rattle.kernel_abi.specs.Devices.{DeviceData}
 use Rattle.outside_io.specs.Outside.{WhereSeen}
-use Rattle.image_format.specs.Picture.{Picture, spelling}
+use Rattle.image_format.specs.ImageData.{ImageData, spelling}
 use Rattle.command_line.specs.CommandLine.{Asked, build, run, go}
 use Rattle.command_line.specs.declared.job.Detail.{Detail}
-use Rattle.trace_cli.specs.Contents.{Why, image_refusal, script_refusal, picture_of, application_of, scenario_of}
+use Rattle.trace_cli.specs.Contents.{Why, image_refusal, script_refusal, image_data_of, application_of, scenario_of}
 use Rattle.trace_cli.specs.Words.{job_in}
 use Rattle.trace_cli.specs.Sources.{File, image_file, script_file, files_to_build, Are, Takes, Reaches, TakesAll, IsBuilt, script_in}
 use Rattle.trace_cli.specs.Verdict.{Verdict, IsVerdict, no_job, refuses, does, Does, refused, ran}
@@ -22,7 +22,7 @@ use Rattle.trace_cli.proofs.Spelling.{spelling_taken}
 -- ## what was built
 
 -- the files of an application are seen and accepted, and this is the image that is built of them
-record HasImage (seen : List ℕ → Option (List ℕ)) (app : List ℕ) (image : Picture) : Type 0 where
+record HasImage (seen : List ℕ → Option (List ℕ)) (app : List ℕ) (image : ImageData) : Type 0 where
   bytes : List ℕ
   sources : List (List ℕ)
   takes : Takes (Are seen) (files_to_build app bytes) (bytes ∷ sources)
@@ -31,11 +31,11 @@ record HasImage (seen : List ℕ → Option (List ℕ)) (app : List ℕ) (image 
 
 -- and it was put under a name
 record IsMade (seen : List ℕ → Option (List ℕ)) (app out : List ℕ) (b : Verdict) : Type 0 where
-  image : Picture
+  image : ImageData
   has : HasImage seen app image
   put : b.put ≡ Some (out, spelling image)
 
-has_image : {devices : List DeviceData} (seen : List ℕ → Option (List ℕ)) (app out : List ℕ) (cs : List (List ℕ)) (image : Picture) → TakesAll (Are seen) devices (build app out) cs → IsBuilt cs image → HasImage seen app image
+has_image : {devices : List DeviceData} (seen : List ℕ → Option (List ℕ)) (app out : List ℕ) (cs : List (List ℕ)) (image : ImageData) → TakesAll (Are seen) devices (build app out) cs → IsBuilt cs image → HasImage seen app image
 has_image seen app out [] image all is = let none = all.all in absurd (omega arith)
 has_image seen app out (c ∷ cs) image all is = record { bytes = c; sources = cs; takes = all.takes; all = all.all; is = is }
 
@@ -51,7 +51,7 @@ made {devices} words seen app out b at (does job cs is all p) zero =
 
 -- ## the verdicts of `go`
 
-go_refuses : {devices : List DeviceData} (words : List (List ℕ)) (seen : List ℕ → Option (List ℕ)) (app script : List ℕ) (n : ℕ) (detail : Detail) (image : Picture) (bytes : List ℕ) (why : Why) (w : Verdict)
+go_refuses : {devices : List DeviceData} (words : List (List ℕ)) (seen : List ℕ → Option (List ℕ)) (app script : List ℕ) (n : ℕ) (detail : Detail) (image : ImageData) (bytes : List ℕ) (why : Why) (w : Verdict)
     → job_in words ≡ Some (go app script n detail) → HasImage seen app image → seen script ≡ Some bytes → script_refusal bytes ≡ Some why → w ≡ refused script why → IsVerdict devices words seen w
 go_refuses words seen app script n detail image bytes why w at h held refusal e =
     let files = files_to_build app h.bytes in
@@ -60,7 +60,7 @@ go_refuses words seen app script n detail image bytes why w at h held refusal e 
       next = files_then files (script_file script) (length (h.bytes ∷ h.sources)) h.all;
     }) held refusal e
 
-go_runs : {devices : List DeviceData} (words : List (List ℕ)) (seen : List ℕ → Option (List ℕ)) (app script : List ℕ) (n : ℕ) (detail : Detail) (image : Picture) (bytes : List ℕ) (w : Verdict)
+go_runs : {devices : List DeviceData} (words : List (List ℕ)) (seen : List ℕ → Option (List ℕ)) (app script : List ℕ) (n : ℕ) (detail : Detail) (image : ImageData) (bytes : List ℕ) (w : Verdict)
     → job_in words ≡ Some (go app script n detail) → HasImage seen app image → seen script ≡ Some bytes → script_refusal bytes ≡ None → w ≡ ran n detail (scenario_of image bytes devices) → IsVerdict devices words seen w
 go_runs {devices} words seen app script n detail image bytes w at h held accepted e =
     let files = files_to_build app h.bytes in
@@ -78,7 +78,7 @@ go_runs {devices} words seen app script n detail image bytes w at h held accepte
 
 -- what stands after the build: the image under OUT where that is seen, and the same script
 record Rebuilt (seen seen' : List ℕ → Option (List ℕ)) (app out script : List ℕ) : Type 0 where
-  image : Picture
+  image : ImageData
   has : HasImage seen app image
   put : WhereSeen (seen' out) (λ all. all ≡ spelling image)
   script_stays : seen' script ≡ seen script
@@ -119,8 +119,8 @@ held_of seen f g c e held = subst (λ (h : File). seen h.name ≡ Some c) (sym (
 accepted_of : (f g : File) (c : List ℕ) → Some f ≡ Some g → g.refusal c ≡ None → f.refusal c ≡ None
 accepted_of f g c e accepted = subst (λ (h : File). h.refusal c ≡ None) (sym (same_Some f g e)) accepted
 
-ran_of : (devices : List DeviceData) (out script : List ℕ) (n : ℕ) (detail : Detail) (image : Picture) (c s : List ℕ) (w : Verdict) → picture_of c ≡ image → Does devices (run out script n detail) (c ∷ s ∷ []) w → w ≡ ran n detail (scenario_of image s devices)
-ran_of devices out script n detail image c s w same e = e ∙ ap (λ (i : Picture). ran n detail (scenario_of i s devices)) same
+ran_of : (devices : List DeviceData) (out script : List ℕ) (n : ℕ) (detail : Detail) (image : ImageData) (c s : List ℕ) (w : Verdict) → image_data_of c ≡ image → Does devices (run out script n detail) (c ∷ s ∷ []) w → w ≡ ran n detail (scenario_of image s devices)
+ran_of devices out script n detail image c s w same e = e ∙ ap (λ (i : ImageData). ran n detail (scenario_of i s devices)) same
 
 after_run : {devices : List DeviceData} (words : List (List ℕ)) (seen seen' : List ℕ → Option (List ℕ)) (app out script : List ℕ) (n : ℕ) (detail : Detail) (cs : List (List ℕ)) (w : Verdict)
     → job_in words ≡ Some (go app script n detail) → Rebuilt seen seen' app out script → TakesAll (Are seen') devices (run out script n detail) cs → Does devices (run out script n detail) cs w → IsVerdict devices words seen w
@@ -131,7 +131,7 @@ after_run {devices} words seen seen' app out script n detail (c ∷ s ∷ []) w 
     let second = all.takes 1 s refl in
     let bytes : c ≡ spelling r.image = r.put c (held_of seen' (image_file out) first.0 c first.1 first.2) in
     let accepted_sources = spelling_taken r.image r.has.is.sound in
-    let image : picture_of c ≡ r.image = ap picture_of bytes ∙ sym accepted_sources.1 in
+    let image : image_data_of c ≡ r.image = ap image_data_of bytes ∙ sym accepted_sources.1 in
     let held : seen script ≡ Some s = sym r.script_stays ∙ held_of seen' (script_file script) second.0 s second.1 second.2 in
     go_runs words seen app script n detail r.image s w at r.has held (accepted_of (script_file script) second.0 s second.1 second.3) (ran_of devices out script n detail r.image c s w image p)
 after_run words seen seen' app out script n detail (c ∷ s ∷ t ∷ more) w at r all p = let two = all.all in absurd (omega arith)

@@ -3,7 +3,7 @@ use Rattle.std.proofs.Common.{◌≡◌, ◌∙◌, ℕ, List, [], length, refl,
 use Rattle.std.proofs.lemmas.List.FromFn.{length-map-range_with_len}
 use Rattle.kernel_abi.specs.Devices.{DeviceData}
 use Rattle.app_toml.specs.Apps.{AppData}
-use Rattle.image_format.specs.Picture.{Picture}
+use Rattle.image_format.specs.ImageData.{ImageData}
 use Rattle.image_build.specs.Built.{Built}
 use Rattle.image_build.specs.Building.{Refuses}
 use Rattle.image_build.specs.declared.fault.BuildFault.{BuildFault}
@@ -13,7 +13,7 @@ use Rattle.sample_gen.specs.Sample.{source_of, client_priority, sample_app, samp
 use Rattle.board_core.specs.Data.{Shows}
 use Rattle.board_core.specs.declared.board.Board.{Board}
 use Rattle.board_core.specs.Opened as opened
-use Rattle.board_core.specs.Stands.{Stands, Stood, turns_of}
+use Rattle.board_core.specs.Stands.{Stands, StandsForSome, turns_of}
 use Rattle.board_model.specs.Script.{Scenario, start_of}
 use Rattle.command_line.specs.CommandLine.{sample}
 use Rattle.trace_cli.specs.Contents.{sample_scenario}
@@ -42,7 +42,7 @@ pub refused_as_sample : (seed : ℕ) (app : AppData) (sources : List (List ℕ))
 refused_as_sample seed app sources f is are law h =
     law seed f (subst (λ (ss : List (List ℕ)). Refuses (sample_app seed) ss f) are (subst (λ (a : AppData). Refuses a sources f) is h))
 
-pub sample_ready : {X : Type 0} {H : X → Type 0} {shown : Shows X H} (seed : ℕ) (app : AppData) (sources : List (List ℕ)) (script : ScriptData) (devices : List DeviceData) (image : Picture) (b : Board X H) → devices ≡ [] → app ≡ sample_app seed → sources ≡ sample_sources seed
+pub sample_ready : {X : Type 0} {H : X → Type 0} {shown : Shows X H} (seed : ℕ) (app : AppData) (sources : List (List ℕ)) (script : ScriptData) (devices : List DeviceData) (image : ImageData) (b : Board X H) → devices ≡ [] → app ≡ sample_app seed → sources ≡ sample_sources seed
     → script ≡ sample_script seed → Built app sources image → Stands shown (opened.scenario_of image script devices) b (start_of (opened.scenario_of image script devices)) → turns_of b ≡ 0 → IsSampleReady shown seed b
 sample_ready {X} {H} {shown} seed app sources script devices image b none is are seen built stands turns = record {
   image = image;
@@ -52,7 +52,7 @@ sample_ready {X} {H} {shown} seed app sources script devices image b none is are
   turns = turns;
 }
 
-pub sample_stood : {X : Type 0} {H : X → Type 0} {shown : Shows X H} (seed : ℕ) (b : Board X H) → IsSampleReady shown seed b → Stood shown b × (turns_of b ≡ 0)
+pub sample_stood : {X : Type 0} {H : X → Type 0} {shown : Shows X H} (seed : ℕ) (b : Board X H) → IsSampleReady shown seed b → StandsForSome shown b × (turns_of b ≡ 0)
 sample_stood seed b h = ((sample_scenario seed h.image, start_of (sample_scenario seed h.image), h.stands), h.turns)
 
 -- ## the answer

@@ -8,7 +8,7 @@ use Rattle.image_build.specs.Building.{IsAcceptedSource}
 use Rattle.image_build.specs.Accepted.{HasAccepted, described, next_task}
 use Rattle.image_build.specs.declared.builder.Builder.{Builder}
 use Rattle.app_toml.specs.Reading.{read_app}
-use Rattle.image_format.specs.Picture.{Picture, Sound}
+use Rattle.image_format.specs.ImageData.{ImageData, Sound}
 use Rattle.trace_cli.specs.Contents.{file_limit, source_refusal, app_refusal, application_of, room_refusal}
 use Rattle.outside_io.specs.Seen.{FilesSeen}
 use Rattle.trace_cli.specs.Sources.{File, source_file, sources_from, source_files, files_to_build, app_file, first_of, MayBe, Takes}
@@ -147,7 +147,7 @@ get_mapped f (x ∷ xs) (suc k) d lt = get_mapped f xs k d (omega arith)
 
 -- ## an application's files
 
-sources_are : (seen : List ℕ → Option (List ℕ)) (name bytes : List ℕ) (app : AppData) (image : Picture) (l : SourceLines) (wanted : Bool) → application_of bytes ≡ app → MayBe seen name bytes → app_refusal bytes ≡ None
+sources_are : (seen : List ℕ → Option (List ℕ)) (name bytes : List ℕ) (app : AppData) (image : ImageData) (l : SourceLines) (wanted : Bool) → application_of bytes ≡ app → MayBe seen name bytes → app_refusal bytes ≡ None
     → l.wanted ≡ wanted → IsImageOf seen app image l → IsBuiltApp seen name wanted app image l
 sources_are seen name bytes app image l wanted is held accepted wants h =
     let mine : IsImageOf seen (application_of bytes) image l = subst (λ (a : AppData). IsImageOf seen a image l) (sym is) h in
@@ -168,13 +168,13 @@ sources_are seen name bytes app image l wanted is held accepted wants h =
       lines = subst (λ (a : AppData). AreLines a mine.sources l) is mine.lines;
     }
 
-pub image_of_files : (seen : List ℕ → Option (List ℕ)) (name bytes : List ℕ) (app : AppData) (image : Picture) (l : SourceLines) (wanted : Bool) → length bytes ≤ file_limit → read_app bytes ≡ Ok app → room_refusal app ≡ None
+pub image_of_files : (seen : List ℕ → Option (List ℕ)) (name bytes : List ℕ) (app : AppData) (image : ImageData) (l : SourceLines) (wanted : Bool) → length bytes ≤ file_limit → read_app bytes ≡ Ok app → room_refusal app ≡ None
     → MayBe seen name bytes → l.wanted ≡ wanted → IsImageOf seen app image l → IsBuiltApp seen name wanted app image l
 image_of_files seen name bytes app image l wanted le is room held wants h =
     sources_are seen name bytes app image l wanted (is_application bytes app is) held (app_by_room bytes app le is ∙ room) wants h
 
 -- the image alone
-pub image_in_app : {seen : List ℕ → Option (List ℕ)} {name : List ℕ} {wanted : Bool} {app : AppData} {image : Picture} {l : SourceLines} → IsBuiltApp seen name wanted app image l → IsImage seen name image
+pub image_in_app : {seen : List ℕ → Option (List ℕ)} {name : List ℕ} {wanted : Bool} {app : AppData} {image : ImageData} {l : SourceLines} → IsBuiltApp seen name wanted app image l → IsImage seen name image
 image_in_app b = record { bytes = b.bytes; sources = b.sources; each = b.each; is = b.is }
 
 -- a source is not accepted
@@ -206,7 +206,7 @@ faults_at_app a c name named_fault h = record {
   };
 }
 
-pub image_of_all : (seen : List ℕ → Option (List ℕ)) (app : AppData) (builder : Builder) (image : Picture) (l : SourceLines) → described builder ≡ app → HasAll seen app builder l
+pub image_of_all : (seen : List ℕ → Option (List ℕ)) (app : AppData) (builder : Builder) (image : ImageData) (l : SourceLines) → described builder ≡ app → HasAll seen app builder l
     → ((sources : List (List ℕ)) → HasAccepted sources builder → Built (described builder) sources image) → Sound image → IsImageOf seen app image l
 image_of_all seen app builder image l same all built sound =
     record { sources = all.sources; each = all.each; lines = all.lines; built = subst (λ (a : AppData). Built a all.sources image) same (built all.sources all.accepted_sources); sound = sound }

@@ -12,7 +12,7 @@ use Rattle.debug_core.specs.Live.{begun_text}
 use Rattle.debug_core.specs.Session.{opened}
 use Rattle.command_line.specs.CommandLine.{Asked, build, run, go, list, sample, migrate, audit, save, resume, debug, cover, sweep, timeline, live, picture, lcov, help, is_accepted}
 use Rattle.command_line.specs.declared.job.Detail.{Detail}
-use Rattle.trace_cli.specs.Contents.{Why, image_refusal, script_refusal, picture_of, scenario_of}
+use Rattle.trace_cli.specs.Contents.{Why, image_refusal, script_refusal, image_data_of, scenario_of}
 use Rattle.outside_io.specs.Seen.{FilesSeen, SinkSeen}
 use Rattle.trace_cli.specs.Words.{job_in}
 use Rattle.trace_cli.specs.Sources.{File, MayBe, Are, MayBeRefused, Reaches, TakesAll, scenario_in}
@@ -223,7 +223,7 @@ pub record IsFromSpelled (m : ℕ) (detail : Detail) (x : Scenario) (bytes : Lis
 -- the start of the run, which is sane.
 pub record TellsResumed (devices : List DeviceData) (image_name script_name state_name : List ℕ) (m : ℕ) (detail : Detail) (before after : FilesSeen) (w w' : SinkSeen) (r : ℕ) : Type 0 where
   pub starts : (image script : List ℕ) → before.contents image_name ≡ Some image → before.contents script_name ≡ Some script → image_refusal image ≡ None → script_refusal script ≡ None
-      → (StartsWell (scenario_of (picture_of image) script devices) × (m ≤ 1000000000)) ⊎ (TellsUnread devices (resume image_name script_name state_name m detail) before after w w' r ⊎ IsShort before after w w' r)
+      → (StartsWell (scenario_of (image_data_of image) script devices) × (m ≤ 1000000000)) ⊎ (TellsUnread devices (resume image_name script_name state_name m detail) before after w w' r ⊎ IsShort before after w w' r)
   pub each : (contents : List (List ℕ)) (v : Verdict) → TakesAll (Are before.contents) devices (resume image_name script_name state_name m detail) contents
       → let x = scenario_in devices contents in
       (Sane x.setup (start_of x) → IsFromSpelled m detail x (slice_index_or contents 2 []) v) → Tells before after w w' v r ⊎ TellsUnread devices (resume image_name script_name state_name m detail) before after w w' r
@@ -239,7 +239,7 @@ TellsEach devices job before after w w' r = Unit {0}
 abbrev pub GoesOn : List DeviceData → List (List ℕ) → FilesSeen → FilesSeen → SinkSeen → SinkSeen → ℕ → Type 0
 GoesOn devices words before after w w' r =
     (image_name script_name state_name image script : List ℕ) (m n : ℕ) (detail : Detail)
-    → let x = scenario_of (picture_of image) script devices in
+    → let x = scenario_of (image_data_of image) script devices in
     let last = (run_of Calls n x).last in
     job_in words ≡ Some (resume image_name script_name state_name m detail)
     → before.contents image_name ≡ Some image → before.contents script_name ≡ Some script → before.contents state_name ≡ Some (saved_bytes n x)

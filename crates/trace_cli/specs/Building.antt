@@ -5,7 +5,7 @@ use Rattle.thumb_asm.specs.Listed.{insn_lines, labels_in, labels_of, placed}
 use Rattle.thumb_asm.specs.Meaning.{Names}
 use Rattle.thumb_asm.specs.declared.listing.InsnLine.{InsnLine}
 use Rattle.app_toml.specs.Apps.{AppData}
-use Rattle.image_format.specs.Picture.{Picture, Sound}
+use Rattle.image_format.specs.ImageData.{ImageData, Sound}
 use Rattle.image_build.specs.Built.{Built}
 use Rattle.image_build.specs.Layout.{flash_base}
 use Rattle.image_build.specs.Accepted.{HasAccepted, described, next_task}
@@ -88,7 +88,7 @@ pub record HasAll (seen : List ℕ → Option (List ℕ)) (app : AppData) (build
   pub lines : AreLines app sources l
 
 -- an image was built of the application and of the files of its sources
-pub record IsImageOf (seen : List ℕ → Option (List ℕ)) (app : AppData) (image : Picture) (l : SourceLines) : Type 0 where
+pub record IsImageOf (seen : List ℕ → Option (List ℕ)) (app : AppData) (image : ImageData) (l : SourceLines) : Type 0 where
   pub sources : List (List ℕ)
   pub each : TakesEach seen (source_files app) sources
   pub built : Built app sources image
@@ -96,14 +96,14 @@ pub record IsImageOf (seen : List ℕ → Option (List ℕ)) (app : AppData) (im
   pub lines : AreLines app sources l
 
 -- an image was built of the application's files: its own holds these bytes, and then come the sources
-pub record IsImage (seen : List ℕ → Option (List ℕ)) (app : List ℕ) (image : Picture) : Type 0 where
+pub record IsImage (seen : List ℕ → Option (List ℕ)) (app : List ℕ) (image : ImageData) : Type 0 where
   pub bytes : List ℕ
   pub sources : List (List ℕ)
   pub each : TakesEach seen (files_to_build app bytes) (bytes ∷ sources)
   pub is : IsBuilt (bytes ∷ sources) image
 
 -- so it was, with where the instructions and the labels of its sources lie
-pub record IsBuiltApp (seen : List ℕ → Option (List ℕ)) (name : List ℕ) (wanted : Bool) (app : AppData) (image : Picture) (l : SourceLines) : Type 0 where
+pub record IsBuiltApp (seen : List ℕ → Option (List ℕ)) (name : List ℕ) (wanted : Bool) (app : AppData) (image : ImageData) (l : SourceLines) : Type 0 where
   pub bytes : List ℕ
   pub sources : List (List ℕ)
   pub each : TakesEach seen (files_to_build name bytes) (bytes ∷ sources)

@@ -7,7 +7,7 @@ use Rattle.text_lines.specs.Text.{lines_of}
 use Rattle.thumb_asm.specs.Causes.{cause_number}
 use Rattle.thumb_asm.specs.declared.Cause.{Cause}
 use Rattle.thumb_asm.specs.Passes.{size_from}
-use Rattle.image_format.specs.Picture.{Picture, image_or_fault}
+use Rattle.image_format.specs.ImageData.{ImageData, image_or_fault}
 use Rattle.image_build.specs.Layout.{flash_base, flash_needed, ram_needed, task_at}
 use Rattle.image_build.specs.Building.{source_cause}
 use Rattle.task_table.specs.model.State.{Setup}
@@ -53,10 +53,10 @@ unless_long limit bytes refusal = if nat_lt limit (length bytes) then Some (at_n
 -- ## an image
 
 -- where there is no image
-abbrev pub no_picture : Picture
+abbrev pub no_picture : ImageData
 no_picture = record { fault_bits = 0; ram = 0; tasks = []; lines = []; flash = [] }
 
-abbrev pub image_in : Result Picture (ℕ × ℕ) → Picture
+abbrev pub image_in : Result ImageData (ℕ × ℕ) → ImageData
 image_in (Ok image) = image
 image_in (Err why) = no_picture
 
@@ -65,11 +65,11 @@ unfoldable pub image_refusal : List ℕ → Option Why
 image_refusal bytes = unless_long file_limit bytes (option_map at_number (fault_in (image_or_fault bytes)))
 
 -- the image that accepted bytes spell
-unfoldable pub picture_of : List ℕ → Picture
-picture_of bytes = image_in (image_or_fault bytes)
+unfoldable pub image_data_of : List ℕ → ImageData
+image_data_of bytes = image_in (image_or_fault bytes)
 
 -- what an image fixes for ever
-abbrev pub setup_of_image : Picture → Setup
+abbrev pub setup_of_image : ImageData → Setup
 setup_of_image image = opened.setup_of_image image
 
 -- ## a script
@@ -150,7 +150,7 @@ turn_refusal bound bytes = if nat_lt bound (header_at bytes).turn then Some (at_
 
 -- why a saved state is refused as one of a run of this image beside these devices, from which it is to go on up to a bound, if it is
 -- (docs/FORMATS.md, Saved state)
-unfoldable pub state_refusal : List DeviceData → Picture → ℕ → List ℕ → Option Why
+unfoldable pub state_refusal : List DeviceData → ImageData → ℕ → List ℕ → Option Why
 state_refusal devices image bound bytes =
     unless_long file_limit bytes (or_later (option_map at_number (state_fault (expected_of (setup_of_image image) devices) bytes)) (turn_refusal bound bytes))
 
@@ -191,9 +191,9 @@ unfoldable pub arrival_refusal : List ℕ → Option Why
 arrival_refusal bytes = or_later (script_refusal bytes) (arrival_fault (script_of bytes))
 
 -- the run of an image with a script and devices
-abbrev pub scenario_of : Picture → List ℕ → List DeviceData → Scenario
+abbrev pub scenario_of : ImageData → List ℕ → List DeviceData → Scenario
 scenario_of image script devices = record { setup = setup_of_image image; script = script_of script; devices = devices }
 
 -- the run of the sample of a seed, of which this is the image: it has no device
-abbrev pub sample_scenario : ℕ → Picture → Scenario
+abbrev pub sample_scenario : ℕ → ImageData → Scenario
 sample_scenario seed image = record { setup = setup_of_image image; script = sample_script seed; devices = [] }

@@ -2,7 +2,7 @@
 use Rattle.std.specs.Prelude.{◌≡◌, ◌⊎◌, ◌≤◌, ℕ, List, [], ◌∷◌, ◌++◌, Bool, Option, Some, None, Ok, length, slice_index_or}
 use Rattle.kernel_abi.specs.Devices.{DeviceData}
 use Rattle.app_toml.specs.Apps.{AppData}
-use Rattle.image_format.specs.Picture.{Picture}
+use Rattle.image_format.specs.ImageData.{ImageData}
 use Rattle.image_build.specs.Built.{Built}
 use Rattle.sample_gen.specs.Sample.{sample_app, sample_sources}
 use Rattle.board_core.specs.Data.{Shows}
@@ -26,7 +26,7 @@ use Rattle.debug_core.specs.declared.command.Command.{Command}
 use Rattle.debug_core.specs.Reading.{commands_or_fault}
 use Rattle.trace_cli.specs.declared.file_faults.NamedFault.{NamedFault}
 use Rattle.trace_cli.specs.declared.file_faults.NamedFault.TheVariants as named_faults
-use Rattle.trace_cli.specs.Contents.{image_refusal, script_refusal, state_refusal, commands_refusal, arrival_refusal, names_refusal, names_in, trace_refusal, picture_of, script_of, scenario_of, sample_scenario}
+use Rattle.trace_cli.specs.Contents.{image_refusal, script_refusal, state_refusal, commands_refusal, arrival_refusal, names_refusal, names_in, trace_refusal, image_data_of, script_of, scenario_of, sample_scenario}
 use Rattle.outside_io.specs.Seen.{FilesSeen}
 use Rattle.trace_cli.specs.Sources.{File, MayBe, TakesAll, files_of, files_by, image_file, script_file, names_file, names_files, image_tasks, files_to_build, IsBuilt, described, sources_in, script_in, scenario_in, state_by}
 use Rattle.trace_cli.specs.Verdict.{Verdict, Does, names_by, task_names, resumed, debugged, swept}
@@ -35,11 +35,11 @@ use Rattle.trace_cli.specs.declared.source_lines.SourceLines.{SourceLines}
 use Rattle.trace_cli.specs.Building.{AreLines, IsBuiltApp, IsNamedFaultAfter}
 
 -- an image is that which the file of this name spells
-pub record IsImageFile (seen : List ℕ → Option (List ℕ)) (name : List ℕ) (image : Picture) : Type 0 where
+pub record IsImageFile (seen : List ℕ → Option (List ℕ)) (name : List ℕ) (image : ImageData) : Type 0 where
   pub bytes : List ℕ
   pub held : MayBe seen name bytes
   pub accepted : image_refusal bytes ≡ None
-  pub is : image ≡ picture_of bytes
+  pub is : image ≡ image_data_of bytes
 
 -- a script is that which the file of this name holds
 pub record IsScriptFile (seen : List ℕ → Option (List ℕ)) (name : List ℕ) (script : ScriptData) : Type 0 where
@@ -49,7 +49,7 @@ pub record IsScriptFile (seen : List ℕ → Option (List ℕ)) (name : List ℕ
   pub is : script ≡ script_of bytes
 
 -- the board stands for the start of the image's run with the script of this name and these devices
-pub record IsSet {X : Type 0} {H : X → Type 0} (shown : Shows X H) (devices : List DeviceData) (seen : List ℕ → Option (List ℕ)) (image : Picture) (name : List ℕ) (b : Board X H) : Type 0 where
+pub record IsSet {X : Type 0} {H : X → Type 0} (shown : Shows X H) (devices : List DeviceData) (seen : List ℕ → Option (List ℕ)) (image : ImageData) (name : List ℕ) (b : Board X H) : Type 0 where
   pub script : List ℕ
   pub held : MayBe seen name script
   pub accepted : script_refusal script ≡ None
@@ -58,9 +58,9 @@ pub record IsSet {X : Type 0} {H : X → Type 0} (shown : Shows X H) (devices : 
 
 -- an image and a script of these names are accepted, and the board stands for the start of their run with these devices
 pub record IsRunSet {X : Type 0} {H : X → Type 0} (shown : Shows X H) (devices : List DeviceData) (image script : List ℕ) (seen : List ℕ → Option (List ℕ)) (b : Board X H) : Type 0 where
-  pub picture : Picture
-  pub of_image : IsImageFile seen image picture
-  pub set : IsSet shown devices seen picture script b
+  pub image_data : ImageData
+  pub of_image : IsImageFile seen image image_data
+  pub set : IsSet shown devices seen image_data script b
 
 -- the job takes this image, then this script, and then some more files
 pub record TakesImage (devices : List DeviceData) (job : Asked) (image script : List ℕ) : Type 0 where
@@ -85,7 +85,7 @@ pub record TakesApp (devices : List DeviceData) (job : Asked) (app script : List
 -- and it
 pub record RunsApp (devices : List DeviceData) (job : Asked) (app script : List ℕ) (verdict : AppData → List (List ℕ) → Scenario → Verdict) : Type 0 where
   pub files : (first : List ℕ) → files_of devices job first ≡ files_to_build app first ++ script_file script ∷ []
-  pub does : (contents : List (List ℕ)) (image : Picture) → IsBuilt contents image
+  pub does : (contents : List (List ℕ)) (image : ImageData) → IsBuilt contents image
       → Does devices job contents (verdict (described contents) (sources_in contents) (scenario_of image (script_in contents) devices))
 
 -- these are the names that the application of this name has, which is accepted as one of so many tasks
@@ -124,7 +124,7 @@ pub record StartsWell (x : Scenario) : Type 0 where
 -- so does that of the image and the script which are seen under these names
 abbrev pub StartsSeen : List DeviceData → (List ℕ → Option (List ℕ)) → List ℕ → List ℕ → Type 0
 StartsSeen devices seen image_name script_name =
-    (image script : List ℕ) → seen image_name ≡ Some image → seen script_name ≡ Some script → StartsWell (scenario_of (picture_of image) script devices)
+    (image script : List ℕ) → seen image_name ≡ Some image → seen script_name ≡ Some script → StartsWell (scenario_of (image_data_of image) script devices)
 
 -- the file that is not accepted is this image or this script; or their run starts well
 abbrev pub StartsUnless : List DeviceData → FilesSeen → FilesSeen → List ℕ → List ℕ → NamedFault → Type 0
@@ -145,7 +145,7 @@ pub record IsLoaded {X : Type 0} {H : X → Type 0} (shown : Shows X H) (x : Sce
   pub each : (s : State) → IsSpelled x bytes s → Stands shown x b s
 
 -- so of the bytes of the file of this name, which are accepted as a state from which this run is to go on up to a bound
-pub record IsStateSet {X : Type 0} {H : X → Type 0} (shown : Shows X H) (devices : List DeviceData) (seen : List ℕ → Option (List ℕ)) (image : Picture) (script : ScriptData) (name : List ℕ) (bound : ℕ) (b : Board X H) : Type 0 where
+pub record IsStateSet {X : Type 0} {H : X → Type 0} (shown : Shows X H) (devices : List DeviceData) (seen : List ℕ → Option (List ℕ)) (image : ImageData) (script : ScriptData) (name : List ℕ) (bound : ℕ) (b : Board X H) : Type 0 where
   pub bytes : List ℕ
   pub held : MayBe seen name bytes
   pub accepted : state_refusal devices image bound bytes ≡ None
@@ -196,7 +196,7 @@ pub record IsSweepReady {X : Type 0} {H : X → Type 0} (shown : Shows X H) (dev
 
 -- the board stands for the start of the run of the sample of a seed
 pub record IsSampleReady {X : Type 0} {H : X → Type 0} (shown : Shows X H) (seed : ℕ) (b : Board X H) : Type 0 where
-  pub image : Picture
+  pub image : ImageData
   pub built : Built (sample_app seed) (sample_sources seed) image
   pub stands : Stands shown (sample_scenario seed image) b (start_of (sample_scenario seed image))
   pub turns : turns_of b ≡ 0
@@ -216,7 +216,7 @@ pub record IsNamedFaultIn (devices : List DeviceData) (job : Asked) (before afte
 -- An application and a script of these names are accepted, and the board stands for the start of their run with these devices; where the
 -- instructions and the labels of the sources lie is known, if that is wanted.
 pub record IsAppSet {X : Type 0} {H : X → Type 0} (shown : Shows X H) (devices : List DeviceData) (app script : List ℕ) (seen : List ℕ → Option (List ℕ)) (wanted : Bool) (b : Board X H) (described : AppData) (l : SourceLines) : Type 0 where
-  pub image : Picture
+  pub image : ImageData
   pub built : IsBuiltApp seen app wanted described image l
   pub set : IsSet shown devices seen image script b
 

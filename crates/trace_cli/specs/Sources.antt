@@ -3,14 +3,14 @@ use Rattle.std.specs.Prelude.{◌≡◌, ℕ, ◌+◌, false, true, List, [], �
 use Rattle.kernel_abi.specs.Devices.{DeviceData}
 use Rattle.outside_io.specs.Outside.{WhereSeen}
 use Rattle.app_toml.specs.Apps.{AppData, TaskData}
-use Rattle.image_format.specs.Picture.{Picture, Sound}
+use Rattle.image_format.specs.ImageData.{ImageData, Sound}
 use Rattle.image_build.specs.Built.{Built}
 use Rattle.board_model.specs.Script.{Scenario}
 use Rattle.task_table.specs.model.State.{State}
 use Rattle.snapshot.specs.Restored.{state_in}
 use Rattle.debug_core.specs.Live.{live_limit}
 use Rattle.command_line.specs.CommandLine.{Asked, build, run, go, list, sample, migrate, audit, save, resume, debug, cover, sweep, timeline, live, picture, lcov, help}
-use Rattle.trace_cli.specs.Contents.{Why, file_limit, trace_limit, image_refusal, script_refusal, app_refusal, source_refusal, trace_refusal, state_refusal, commands_refusal, arrival_refusal, names_refusal, picture_of, application_of, scenario_of}
+use Rattle.trace_cli.specs.Contents.{Why, file_limit, trace_limit, image_refusal, script_refusal, app_refusal, source_refusal, trace_refusal, state_refusal, commands_refusal, arrival_refusal, names_refusal, image_data_of, application_of, scenario_of}
 
 -- a file, the most bytes that it may have, and why contents of it are refused
 pub record File : Type 0 where
@@ -35,7 +35,7 @@ abbrev pub trace_file : List ℕ → File
 trace_file name = record { name = name; limit = trace_limit; refusal = trace_refusal }
 
 -- a state from which a run of this image beside these devices is to go on up to a bound
-abbrev pub state_file : List DeviceData → Picture → ℕ → List ℕ → File
+abbrev pub state_file : List DeviceData → ImageData → ℕ → List ℕ → File
 state_file devices image bound name = record { name = name; limit = file_limit; refusal = state_refusal devices image bound }
 
 abbrev pub commands_file : List ℕ → File
@@ -71,7 +71,7 @@ files_to_build app first = app_file app ∷ source_files (application_of first)
 
 -- how many tasks the image has that is in these bytes
 abbrev pub image_tasks : List ℕ → ℕ
-image_tasks bytes = length (picture_of bytes).tasks
+image_tasks bytes = length (image_data_of bytes).tasks
 
 -- The files of a job of which the first file holds these bytes: `build` takes those of its application, `go`, `lcov` and `cover` with
 -- labels too and then their script; `run`, `save`, `cover` without labels, `timeline` and `picture` take their image and then their script, the
@@ -87,7 +87,7 @@ files_of devices (sample seed steps) first = []
 files_of devices (migrate image out) first = image_file image ∷ []
 files_of devices (audit trace) first = trace_file trace ∷ []
 files_of devices (save image script out steps) first = image_file image ∷ script_file script ∷ []
-files_of devices (resume image script state steps detail) first = image_file image ∷ script_file script ∷ state_file devices (picture_of first) steps state ∷ []
+files_of devices (resume image script state steps detail) first = image_file image ∷ script_file script ∷ state_file devices (image_data_of first) steps state ∷ []
 files_of devices (debug image script commands) first = image_file image ∷ script_file script ∷ commands_file commands ∷ []
 files_of devices (cover image script steps false) first = image_file image ∷ script_file script ∷ []
 files_of devices (cover app script steps true) first = files_to_build app first ++ script_file script ∷ []
@@ -153,13 +153,13 @@ abbrev pub script_in : List (List ℕ) → List ℕ
 script_in contents = slice_index_or (drop 1 contents) (task_count contents) []
 
 -- the image that is built of them
-pub record IsBuilt (contents : List (List ℕ)) (image : Picture) : Type 0 where
+pub record IsBuilt (contents : List (List ℕ)) (image : ImageData) : Type 0 where
   pub built : Built (described contents) (sources_in contents) image
   pub sound : Sound image
 
 -- the run of the image in the first of these contents with the script in the second one
 abbrev pub scenario_in : List DeviceData → List (List ℕ) → Scenario
-scenario_in devices contents = scenario_of (picture_of (first_of contents)) (slice_index_or contents 1 []) devices
+scenario_in devices contents = scenario_of (image_data_of (first_of contents)) (slice_index_or contents 1 []) devices
 
 -- the state of that run that the third of them spells
 abbrev pub state_by : List DeviceData → List (List ℕ) → State

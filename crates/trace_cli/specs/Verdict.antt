@@ -3,8 +3,8 @@ use Rattle.std.specs.Prelude.{◌≡◌, ℕ, ◌-◌, Bool, false, true, if◌t
 use Rattle.std.specs.List.{range_with_len}
 use Rattle.kernel_abi.specs.Devices.{DeviceData}
 use Rattle.serde_json.specs.Written.{compact_text}
-use Rattle.image_format.specs.Picture.{Picture, spelling}
-use Rattle.image_list.specs.Listing.{image_data}
+use Rattle.image_format.specs.ImageData.{ImageData, spelling}
+use Rattle.image_list.specs.Listing.{listed_object}
 use Rattle.image_build.specs.Built.{Built}
 use Rattle.sample_gen.specs.Sample.{sample_app, sample_sources}
 use Rattle.board_model.specs.declared.outcomes.End.{End}
@@ -40,7 +40,7 @@ use Rattle.command_line.specs.declared.job.CommandName.{CommandName}
 use Rattle.command_line.specs.declared.job.Detail.{Detail}
 use Rattle.help_text.specs.Help.{help_text}
 use Rattle.thumb_asm.specs.Meaning.{Names}
-use Rattle.trace_cli.specs.Contents.{Why, names_in, picture_of, script_of, scenario_of, sample_scenario}
+use Rattle.trace_cli.specs.Contents.{Why, names_in, image_data_of, script_of, scenario_of, sample_scenario}
 use Rattle.trace_cli.specs.Building.{labels_from}
 use Rattle.trace_cli.specs.Tracing.{sections}
 use Rattle.trace_cli.specs.Words.{job_in}
@@ -154,14 +154,14 @@ abbrev pub saved : List ℕ → ℕ → Scenario → Verdict
 saved out n x = record { status = 0; text = saved_line (length (saved_bytes n x)); put = Some (out, saved_bytes n x) }
 
 -- an image was listed
-abbrev pub listing_line : Picture → List ℕ
-listing_line image = compact_text (image_data image) ++ codes "\n"
+abbrev pub listing_line : ImageData → List ℕ
+listing_line image = compact_text (listed_object image) ++ codes "\n"
 
-abbrev pub listed : Picture → Verdict
+abbrev pub listed : ImageData → Verdict
 listed image = line_alone 0 (listing_line image)
 
 -- an image was built and put under a name
-abbrev pub built : List ℕ → Picture → Verdict
+abbrev pub built : List ℕ → ImageData → Verdict
 built out image = record { status = 0; text = built_line (length (spelling image)); put = Some (out, spelling image) }
 
 -- the sample of a seed was run: how the run ended, and how many notes of each kind it had
@@ -239,12 +239,12 @@ helped about = line_alone 0 (help_text about)
 -- ## what comes of accepted files with these contents, where a run has these devices: each command by its line
 
 abbrev pub Does : List DeviceData → Asked → List (List ℕ) → Verdict → Type 0
-Does devices (build app out) contents v = (image : Picture) × IsBuilt contents image × (v ≡ built out image)
+Does devices (build app out) contents v = (image : ImageData) × IsBuilt contents image × (v ≡ built out image)
 Does devices (run image script steps detail) contents v = v ≡ ran steps detail (scenario_in devices contents)
-Does devices (go app script steps detail) contents v = (image : Picture) × IsBuilt contents image × (v ≡ ran steps detail (scenario_of image (script_in contents) devices))
-Does devices (list image) contents v = v ≡ listed (picture_of (first_of contents))
-Does devices (sample seed steps) contents v = (image : Picture) × Built (sample_app seed) (sample_sources seed) image × (v ≡ sampled steps (sample_scenario seed image))
-Does devices (migrate image out) contents v = v ≡ built out (picture_of (first_of contents))
+Does devices (go app script steps detail) contents v = (image : ImageData) × IsBuilt contents image × (v ≡ ran steps detail (scenario_of image (script_in contents) devices))
+Does devices (list image) contents v = v ≡ listed (image_data_of (first_of contents))
+Does devices (sample seed steps) contents v = (image : ImageData) × Built (sample_app seed) (sample_sources seed) image × (v ≡ sampled steps (sample_scenario seed image))
+Does devices (migrate image out) contents v = v ≡ built out (image_data_of (first_of contents))
 Does devices (audit name) contents v = (found : trace.Judgement) × trace_audit.IsJudgement (first_of contents) found × (v ≡ audited found)
 Does devices (save image script out steps) contents v = v ≡ saved out steps (scenario_in devices contents)
 Does devices (resume image script state steps detail) contents v = v ≡ resumed steps detail (scenario_in devices contents) (state_by devices contents)
@@ -252,13 +252,13 @@ Does devices (debug image script name) contents v =
     (commands : List Command) × (commands_or_fault (slice_index_or contents 2 []) ≡ Ok commands) × (v ≡ debugged (scenario_in devices contents) commands)
 Does devices (cover image script steps false) contents v = IsCovered steps (scenario_in devices contents) [] v
 Does devices (cover app script steps true) contents v =
-    (image : Picture) × IsBuilt contents image × IsCovered steps (scenario_of image (script_in contents) devices) (labels_from (described contents) 0 (sources_in contents)) v
+    (image : ImageData) × IsBuilt contents image × IsCovered steps (scenario_of image (script_in contents) devices) (labels_from (described contents) 0 (sources_in contents)) v
 Does devices (sweep image script arrival from to steps memory) contents v = v ≡ swept (scenario_in devices contents) (asking (slice_index_or contents 2 []) from to steps memory)
 Does devices (timeline image script steps names) contents v = v ≡ timed steps (names_by names contents) (scenario_in devices contents)
 Does devices (live image script name) contents v = v ≡ lived (scenario_in devices contents) (slice_index_or contents 2 [])
 Does devices (picture image script out steps names) contents v = v ≡ drawn out steps image (names_by names contents) (scenario_in devices contents)
 Does devices (lcov app script out steps) contents v =
-    (image : Picture) × IsBuilt contents image × (v ≡ traced out steps (sections (described contents) (sources_in contents)) (scenario_of image (script_in contents) devices))
+    (image : ImageData) × IsBuilt contents image × (v ≡ traced out steps (sections (described contents) (sources_in contents)) (scenario_of image (script_in contents) devices))
 Does devices (help about) contents v = v ≡ helped about
 
 -- ## the verdict on words and contents, where they are seen as far as they count and a run has these devices

@@ -8,7 +8,7 @@ ghost use Rattle.board_run.specs.Text.{trace_text};
 ghost use Rattle.command_line.specs.CommandLine.{build as build_job, run as run_job, go as go_job};
 ghost use Rattle.command_line.specs.declared.job.Detail.{Detail};
 ghost use Rattle.trace_cli.specs.Words.{job_in};
-ghost use Rattle.trace_cli.specs.Contents.{image_refusal, script_refusal, picture_of, scenario_of};
+ghost use Rattle.trace_cli.specs.Contents.{image_refusal, script_refusal, image_data_of, scenario_of};
 ghost use Rattle.trace_cli.specs.Verdict.{Verdict, IsVerdict, line_alone, status_of, level_of, memory_if};
 ghost use Rattle.trace_cli.specs.Answer.{HasPut};
 
@@ -19,7 +19,7 @@ pub fn run_tells_the_abstract_run()
     ensures { (devices : List DeviceData) (words : List (List ℕ)) (seen : List ℕ → Option (List ℕ)) (image_name script_name image script : List ℕ) (n : ℕ) (detail : Detail) (v : Verdict)
         → job_in words ≡ Some (run_job image_name script_name n detail) → seen image_name ≡ Some image → seen script_name ≡ Some script
         → image_refusal image ≡ None → script_refusal script ≡ None
-        → let x = scenario_of (picture_of image) script devices in
+        → let x = scenario_of (image_data_of image) script devices in
         let r = run (level_of detail) x n (start_of x) in
         IsVerdict devices words seen v ↔ (v ≡ line_alone (status_of r.end) (trace_text r ++ memory_if detail.memory x.setup r.last)) }
 {}

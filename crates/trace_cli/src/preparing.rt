@@ -3,7 +3,7 @@ ghost use Rattle.std.specs.Prelude.{ℕ, List, map, IfOk, IfErr};
 ghost use Rattle.kernel_abi.specs.Devices.{AreFresh};
 ghost use Rattle.app_toml.specs.Apps.{AppData};
 ghost use Rattle.app_toml.specs.Held.{app_of};
-ghost use Rattle.image_format.specs.Images.{picture};
+ghost use Rattle.image_format.specs.Images.{image_data};
 ghost use Rattle.board_model.specs.Script.{Scenario};
 ghost use Rattle.run_script.specs.Events.{script_data};
 ghost use Rattle.command_line.specs.CommandLine.{Asked, go as go_job};
@@ -14,7 +14,7 @@ ghost use Rattle.trace_cli.specs.FileFaults.{IsNamedFaultOf};
 ghost use Rattle.trace_cli.specs.Verdict.{Verdict, ran};
 ghost use Rattle.trace_cli.specs.Ready.{IsImageFile, IsScriptFile, IsSet, IsRunSet, TakesImage, RunsImage, TakesApp, RunsApp, IsReady, IsAppReady, IsAppSet, IsNamedFaultIn};
 
-use crate::building::{BuiltApp, built_app};
+use crate::commands::build::{BuiltApp, built_app};
 use crate::file_faults::{NamedFault, fault_named};
 use crate::sources::{FILE_LIMIT, image_in, read_contents, script_in};
 use board_core::Board;
@@ -26,7 +26,7 @@ use std::alloc::Global;
 
 /// The image under a name.
 pub fn read_image<F: Files>(alloc: Global, files: &mut F, name: &str) -> Result<Image, NamedFault>
-    ensures image { IfOk result (λ i. IsImageFile (F.seen files.old).contents name.now (picture i)) }
+    ensures image { IfOk result (λ i. IsImageFile (F.seen files.old).contents name.now (image_data i)) }
     ensures named_fault { IfErr result (IsNamedFaultOf (F.seen files.old) (F.seen files.new) (image_file name.now)) }
     ensures only_reads { OnlyReads (F.seen files.old) (F.seen files.new) }
 {
@@ -96,7 +96,7 @@ pub fn prepare_run<F: Files>(
     ensures only_reads { OnlyReads (F.seen files.old) (F.seen files.new) }
 {
     match read_image(alloc, files, image) {
-        Ok(picture) => set_up(alloc, files, &picture, script, devices),
+        Ok(image_data) => set_up(alloc, files, &image_data, script, devices),
         Err(named_fault) => Err(named_fault),
     }
 }

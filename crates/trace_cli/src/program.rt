@@ -8,23 +8,23 @@ ghost use Rattle.trace_cli.specs.Words.{texts_of, job_in, out_of};
 ghost use Rattle.trace_cli.specs.Verdict.{Verdict, IsVerdict, usage_line};
 ghost use Rattle.trace_cli.specs.Answer.{Answers, AnswersEach, IsComplete, TellsEach, GoesOn, IsDone, HasDone, HasRefused, HasUnread, HasFront};
 
-use crate::auditing::audit_file;
-use crate::building::build_file;
-use crate::covering::cover_files;
-use crate::debugging::debug_files;
-use crate::drawing::picture_files;
-use crate::helping::help;
-use crate::listing::list_file;
-use crate::live::live_files;
-use crate::migrating::migrate_file;
-use crate::resuming::resume_files;
-use crate::running::{go_files, run_files};
-use crate::sampling::run_sample;
-use crate::saving::save_file;
-use crate::sweeping::sweep_files;
-use crate::telling::tell_usage;
-use crate::timeline::timeline_files;
-use crate::tracing::lcov_files;
+use crate::commands::audit::audit_file;
+use crate::commands::build::build_file;
+use crate::commands::cover::cover_files;
+use crate::commands::debug::debug_files;
+use crate::commands::picture::picture_files;
+use crate::commands::help::help;
+use crate::commands::list::list_file;
+use crate::commands::live::live_files;
+use crate::commands::migrate::migrate_file;
+use crate::commands::resume::resume_files;
+use crate::commands::run::{go_files, run_files};
+use crate::commands::sample::run_sample;
+use crate::commands::save::save_file;
+use crate::commands::sweep::sweep_files;
+use crate::lines::tell_usage;
+use crate::commands::timeline::timeline_files;
+use crate::commands::lcov::lcov_files;
 use command_line::{Job, Refusal, read_words};
 use devices::Device;
 use outside_io::{Files, Sink};
@@ -130,7 +130,7 @@ fn answer<F: Files, S: Sink>(
             },
         ) => live_files(alloc, image, script, commands, files, out, devices),
         Ok(
-            Job::Picture {
+            Job::ImageData {
                 image,
                 script,
                 out: name,

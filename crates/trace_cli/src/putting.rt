@@ -3,7 +3,7 @@ ghost use Rattle.std.specs.Prelude.{◌≡◌, ◌≤◌, Some};
 ghost use Rattle.trace_cli.specs.Answer.{Tells};
 ghost use Rattle.trace_cli.specs.Verdict.{Verdict};
 
-use crate::telling::tell;
+use crate::lines::tell;
 use outside_io::{Files, Sink};
 
 /// Puts bytes under a name, and tells this line of them.

@@ -2,10 +2,10 @@
 ghost use Rattle.std.specs.Prelude.{◌≡◌, ◌≤◌, ◌<◌, length, None, Ok, IfOk, IfErr};
 ghost use Rattle.app_toml.specs.Held.{app_of};
 ghost use Rattle.app_toml.specs.Reading.{read_app};
-ghost use Rattle.image_format.specs.Images.{picture};
+ghost use Rattle.image_format.specs.Images.{image_data};
 ghost use Rattle.run_script.specs.Events.{script_data};
 ghost use Rattle.outside_io.specs.Seen.{OnlyReads};
-ghost use Rattle.trace_cli.specs.Contents.{file_limit, image_refusal, picture_of, script_refusal, script_of, fault_in};
+ghost use Rattle.trace_cli.specs.Contents.{file_limit, image_refusal, image_data_of, script_refusal, script_of, fault_in};
 ghost use Rattle.trace_cli.specs.Sources.{MayBe};
 ghost use Rattle.trace_cli.specs.FileFaults.{IsFaultFor, CannotTake};
 
@@ -43,7 +43,7 @@ pub fn read_contents<F: Files>(
 pub fn image_in(alloc: Global, bytes: &[u8]) -> Result<Image, FileFault>
     requires { length bytes.now ≤ file_limit }
     ensures accepted { IfOk result (λ i. image_refusal bytes.now ≡ None) }
-    ensures image { IfOk result (λ i. picture i ≡ picture_of bytes.now) }
+    ensures image { IfOk result (λ i. image_data i ≡ image_data_of bytes.now) }
     ensures file_fault { IfErr result (IsFaultFor (image_refusal bytes.now)) }
 {
     match Image::read(alloc, bytes) {

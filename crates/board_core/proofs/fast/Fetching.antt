@@ -29,18 +29,18 @@ module _ {X : Type 0} {H : X → Type 0} (shown : Shows X H) (g : Setup) (m : Ma
   unfolding register
   even_pc at is = rw is (r.sane.steady.tasks t.state.current r.sane.steady.current).even
 
-  fetched_here : (at : ℕ) → fetched (refusals (setup_of m.reach.kernel) (current_of m.reach.kernel)) (shown_by shown m.reach) at ≡ fetched (refusals g t.state.current) (held t.state) at
+  fetched_here : (at : ℕ) → fetched (refusals (setup_of m.space.kernel) (current_of m.space.kernel)) (shown_by shown m.space) at ≡ fetched (refusals g t.state.current) (held t.state) at
   fetched_here at =
-      let k = m.reach.kernel in
+      let k = m.space.kernel in
       let h = r.holds in
       let rest = rest_of h.saved t m.glider.runner.processor h.is in
-      ap (λ (x : Setup). fetched (refusals x (current_of k)) (shown_by shown m.reach) at) h.holds.kernel.setup
-      ∙ ap (λ (i : ℕ). fetched (refusals g i) (shown_by shown m.reach) at) (current_seen shown g m t r)
-      ∙ ap (λ (x : Memory). fetched (refusals g t.state.current) (held_in x (data_of shown m.reach.devices)) at) (h.holds.kernel.memory ∙ sym rest.memory)
+      ap (λ (x : Setup). fetched (refusals x (current_of k)) (shown_by shown m.space) at) h.holds.kernel.setup
+      ∙ ap (λ (i : ℕ). fetched (refusals g i) (shown_by shown m.space) at) (current_seen shown g m t r)
+      ∙ ap (λ (x : Memory). fetched (refusals g t.state.current) (held_in x (data_of shown m.space.devices)) at) (h.holds.kernel.memory ∙ sym rest.memory)
       ∙ ap (λ (ds : List DeviceData). fetched (refusals g t.state.current) (held_in t.state.memory ds) at) (h.holds.devices ∙ sym rest.devices)
 
   -- what the bus of the current task fetches, carried out, is the instruction of the turn
-  pub fetched_stepped : (level : Level) (at : ℕ) (x y : Result Fetched Fault) → at ≡ register t.state t.state.current 15 → x ≡ fetched (refusals (setup_of m.reach.kernel) (current_of m.reach.kernel)) (shown_by shown m.reach) at → x ≡ y →
+  pub fetched_stepped : (level : Level) (at : ℕ) (x y : Result Fetched Fault) → at ≡ register t.state t.state.current 15 → x ≡ fetched (refusals (setup_of m.space.kernel) (current_of m.space.kernel)) (shown_by shown m.space) at → x ≡ y →
       stepped_by level g t.state.current at y t ≡ stepped level g t.state.current t
   unfolding stepped
   fetched_stepped level at x y is from same =

@@ -27,7 +27,7 @@ use Rattle.board_model.proofs.Outside.{nothing_due, due_later, no_event, begun_s
 use Rattle.board_core.proofs.Turning.{HasTurned, rested, stands_after, choice_kept, few_events}
 use Rattle.board_core.specs.Data.{Shows}
 
-pub current_seen : {X : Type 0} {H : X → Type 0} (shown : Shows X H) (g : Setup) (m : Machine X H) (t : Turn) → IsReady shown g m t → current_of m.reach.kernel ≡ t.state.current
+pub current_seen : {X : Type 0} {H : X → Type 0} (shown : Shows X H) (g : Setup) (m : Machine X H) (t : Turn) → IsReady shown g m t → current_of m.space.kernel ≡ t.state.current
 current_seen shown g m t r = let rest = rest_of r.holds.saved t m.glider.runner.processor r.holds.is in r.holds.holds.kernel.current ∙ sym rest.current
 
 -- ## a turn in which nothing is due
@@ -52,12 +52,12 @@ midway_now shown x s b st none ne few =
       machine = subst A (no_event x s nothing) record { holds = rested_begun shown x s b none st.holds.machine; sane = begun_sane x.setup s st.sane };
       choice = subst C same st.holds.choice;
       script = st.holds.script;
-      ports = st.holds.ports;
+      io_regions = st.holds.io_regions;
       due = due_later x.script s.turn b.due st.holds.due later;
     }
 
 -- the board after a turn in which nothing was due and that noted nothing
-pub stands_so : {X : Type 0} {H : X → Type 0} (shown : Shows X H) (x : Scenario) (s : State) (b : Board X H) (m : Machine X H) (n : ℕ) → Stands shown x b s → IsMidway shown x b s → HasTurned shown Calls x s m → kernel_notes m.reach.kernel ≡ [] → n ≡ turns_of b + 1 →
+pub stands_so : {X : Type 0} {H : X → Type 0} (shown : Shows X H) (x : Scenario) (s : State) (b : Board X H) (m : Machine X H) (n : ℕ) → Stands shown x b s → IsMidway shown x b s → HasTurned shown Calls x s m → kernel_notes m.space.kernel ≡ [] → n ≡ turns_of b + 1 →
     Stands shown x record b { machine = m; turns = n } (turn Calls x s).state
 stands_so shown x s b m n st mid h none more =
     let after = stands_after shown Calls x s m st.sane h in
@@ -69,7 +69,7 @@ stands_so shown x s b m n st mid h none more =
         turns = let a = st.holds.turns in omega (arith, next, a, more);
         choice = choice_kept shown Calls x s m b.choice st.sane h mid.choice (rw none (omega arith));
         script = mid.script;
-        ports = mid.ports;
+        io_regions = mid.io_regions;
         due = subst N (sym next) mid.due;
       };
       sane = after.sane;
@@ -159,7 +159,7 @@ below_limit until from to limit within stays less left = by (leb from until) ref
     by true e = let h = within (leb-true from until e) in omega (arith, h, less)
     by false e = let h = stays (let gt = leb-false from until e in omega (arith, gt)) in omega (arith, h, left)
 
--- the fast way stops before a turn, or has come to it
+-- the fast path stops before a turn, or has come to it
 pub either_way : (to until : ℕ) (P Q : Type 0) → (to < until → P) → (until ≤ to → Q) → Q ⊎ P
 either_way to until P Q before there = by (ltb to until) refl
   where

@@ -21,8 +21,8 @@ use Rattle.board_core.specs.Data.{Shows, data_of}
 use Rattle.board_core.specs.fast.Sights.{Sight, IsFetchedAt, refused_at, held_at, moved_at, GoesOnBeside, Polls, IsAtLimit}
 use Rattle.board_core.specs.fast.Gliding.{TellsCall}
 use Rattle.board_core.specs.fast.Polling.{sight_of, effect_on, Did, IsPut, IsTaken}
-use Rattle.board_core.specs.declared.fast_way.poller.Poller.{Poller}
-use Rattle.board_core.specs.declared.fast_way.poller.Seen.{Seen}
+use Rattle.board_core.specs.declared.fast_path.poller.Poller.{Poller}
+use Rattle.board_core.specs.declared.fast_path.poller.Seen.{Seen}
 
 -- ## one instruction
 
@@ -31,17 +31,17 @@ record HasMoved {X : Type 0} {H : X → Type 0} (shown : Shows X H) (p : Seen X 
   seen : sight_of shown q ≡ fold moved_at (sight_of shown p) ms
   inside : AreInside (view_of p.window) ms
   keeps : Keeps (view_of p.window) (view_of q.window)
-  ports : q.ports ≡ p.ports
+  io_regions : q.io_regions ≡ p.io_regions
 
 module _ {X : Type 0} {H : X → Type 0} (shown : Shows X H) where
   put_seen : (p q : Seen X H) (s : Store) → IsPut p s.addr s.bytes s.value q → sight_of shown q ≡ moved_at (sight_of shown p) (Puts s)
   put_seen p q s put =
-      ap (λ (r : Seen X H). record { view = view_of q.window; devices = data_of shown r.devices; ports = r.ports.items }) put.rest
+      ap (λ (r : Seen X H). record { view = view_of q.window; devices = data_of shown r.devices; io_regions = r.io_regions.items }) put.rest
       ∙ ap (λ (v : View). record (sight_of shown p) { view = v }) put.window.after
 
   taken_seen : (p q : Seen X H) (a n : ℕ) → IsTaken shown p a q → sight_of shown q ≡ moved_at (sight_of shown p) (Takes a n)
   taken_seen p q a n took =
-      ap (λ (r : Seen X H). record { view = view_of r.window; devices = data_of shown q.devices; ports = r.ports.items }) took.rest
+      ap (λ (r : Seen X H). record { view = view_of r.window; devices = data_of shown q.devices; io_regions = r.io_regions.items }) took.rest
       ∙ ap (λ (ds : List DeviceData). record (sight_of shown p) { devices = ds }) took.devices
       ∙ by (is_device a)
     where
@@ -54,7 +54,7 @@ module _ {X : Type 0} {H : X → Type 0} (shown : Shows X H) where
     seen = ap (sight_of shown) e;
     inside = λ x (i, lt, same). absurd (omega (arith, lt));
     keeps = kept _ _ (ap (λ (r : Seen X H). view_of r.window) e);
-    ports = ap (λ (r : Seen X H). r.ports) e;
+    io_regions = ap (λ (r : Seen X H). r.io_regions) e;
   }
   moves_on (Puts s ∷ ms) p q e =
       let rest = moves_on ms e.0 q e.2 in
@@ -63,7 +63,7 @@ module _ {X : Type 0} {H : X → Type 0} (shown : Shows X H) where
         seen = rest.seen ∙ ap (λ (o : Sight). fold moved_at o ms) one;
         inside = puts_inside s ms (view_of p.window) (view_of e.0.window) (e.1.window.size, e.1.window.inside) e.1.window.keeps rest.inside;
         keeps = kept_on (view_of p.window) (view_of e.0.window) (view_of q.window) e.1.window.keeps rest.keeps;
-        ports = rest.ports ∙ ap (λ (r : Seen X H). r.ports) e.1.rest;
+        io_regions = rest.io_regions ∙ ap (λ (r : Seen X H). r.io_regions) e.1.rest;
       }
     where
       puts_inside : (s : Store) (ms : List Move) (v w : View) → IsInside v (Puts s) → Keeps v w → AreInside w ms → AreInside v (Puts s ∷ ms)
@@ -77,7 +77,7 @@ module _ {X : Type 0} {H : X → Type 0} (shown : Shows X H) where
         seen = rest.seen ∙ ap (λ (o : Sight). fold moved_at o ms) one;
         inside = takes_inside a n ms (view_of p.window) (view_of e.0.window) k rest.inside;
         keeps = kept_on (view_of p.window) (view_of e.0.window) (view_of q.window) k rest.keeps;
-        ports = rest.ports ∙ ap (λ (r : Seen X H). r.ports) e.1.rest;
+        io_regions = rest.io_regions ∙ ap (λ (r : Seen X H). r.io_regions) e.1.rest;
       }
     where
       takes_inside : (a n : ℕ) (ms : List Move) (v w : View) → Keeps v w → AreInside w ms → AreInside v (Takes a n ∷ ms)
@@ -88,12 +88,12 @@ module _ {X : Type 0} {H : X → Type 0} (shown : Shows X H) where
   pub record WentOn (p : Seen X H) (c d : Cpu) (q : Seen X H) : Type 0 where
     pub beside : GoesOnBeside (sight_of shown p) c (sight_of shown q) d
     pub keeps : Keeps (view_of p.window) (view_of q.window)
-    pub ports : q.ports ≡ p.ports
+    pub io_regions : q.io_regions ≡ p.io_regions
 
   pub went_on : (c d : Cpu) (p q : Seen X H) (e : Effect) → step_effect (refused_at (sight_of shown p)) (held_at (sight_of shown p)) c ≡ e → Acts IsPut (IsTaken shown) c d p q outcome.Next e → WentOn p c d q
   went_on c d p q (Next x ms) is h =
       let m = moves_on ms p q h.2 in
-      record { beside = record { moves = ms; effect = is ∙ ap (λ (y : Cpu). Next y ms) (sym h.1); inside = m.inside; after = m.seen }; keeps = m.keeps; ports = m.ports }
+      record { beside = record { moves = ms; effect = is ∙ ap (λ (y : Cpu). Next y ms) (sym h.1); inside = m.inside; after = m.seen }; keeps = m.keeps; io_regions = m.io_regions }
   went_on c d p q Syscall is h = absurd (cc h.0)
   went_on c d p q (Trap f) is h = absurd (cc h.0)
 
@@ -133,9 +133,9 @@ module _ {X : Type 0} {H : X → Type 0} (shown : Shows X H) where
 
     -- by the answer
     pub wide_keeps : (d : Cpu) (q : Seen X H) (i : Insn) → decoded_of first (Some second) ≡ Wide i → (r : Bool) → (r ≡ true → Acts IsPut (IsTaken shown) a.processor d a.seen q outcome.Next (effect_on shown a i)) → (r ≡ false → q ≡ a.seen) →
-        Keeps (view_of a.seen.window) (view_of q.window) × (q.ports ≡ a.seen.ports)
-    wide_keeps d q i is true goes stays = let w = wide_goes d q i is (goes refl) in (w.keeps, w.ports)
-    wide_keeps d q i is false goes stays = let e = stays refl in (kept (view_of a.seen.window) (view_of q.window) (ap (λ (r : Seen X H). view_of r.window) e), ap (λ (r : Seen X H). r.ports) e)
+        Keeps (view_of a.seen.window) (view_of q.window) × (q.io_regions ≡ a.seen.io_regions)
+    wide_keeps d q i is true goes stays = let w = wide_goes d q i is (goes refl) in (w.keeps, w.io_regions)
+    wide_keeps d q i is false goes stays = let e = stays refl in (kept (view_of a.seen.window) (view_of q.window) (ap (λ (r : Seen X H). view_of r.window) e), ap (λ (r : Seen X H). r.io_regions) e)
 
 -- ## what is fetched
 
@@ -148,9 +148,9 @@ in_sight o a (Some half) beside apart f = record { may = rw beside (fetched_may 
 -- ## instructions on end
 
 -- those within the window, whatever devices there are beside it
-pub glides_polls : (n : ℕ) (v w : View) (c d : Cpu) (ds : List DeviceData) (ports : List Region) → Glides v c n w d → Polls record { view = v; devices = ds; ports = ports } c n record { view = w; devices = ds; ports = ports } d
-glides_polls zero v w c d ds ports on = (ap (λ (u : View). record { view = u; devices = ds; ports = ports }) on.0, on.1)
-glides_polls (suc n) v w c d ds ports on = (record { view = on.0; devices = ds; ports = ports }, on.1, glides_polls n v on.0 c on.1 ds ports on.2, inl record { window = on.3; rest = refl })
+pub glides_polls : (n : ℕ) (v w : View) (c d : Cpu) (ds : List DeviceData) (io_regions : List Region) → Glides v c n w d → Polls record { view = v; devices = ds; io_regions = io_regions } c n record { view = w; devices = ds; io_regions = io_regions } d
+glides_polls zero v w c d ds io_regions on = (ap (λ (u : View). record { view = u; devices = ds; io_regions = io_regions }) on.0, on.1)
+glides_polls (suc n) v w c d ds io_regions on = (record { view = on.0; devices = ds; io_regions = io_regions }, on.1, glides_polls n v on.0 c on.1 ds io_regions on.2, inl record { window = on.3; rest = refl })
 
 pub apart_on : (w u : View) → Keeps w u → IsApart w → IsApart u
 apart_on w u k h = record {
@@ -172,14 +172,14 @@ pub record HaveBeen {X : Type 0} {H : X → Type 0} (shown : Shows X H) (p : Pol
   pub polls : Polls (sight_of shown p.seen) p.processor (most - left) (sight_of shown q.seen) q.processor
   pub within : left ≤ most
   pub fixed : Keeps (view_of p.seen.window) (view_of q.seen.window)
-  pub ports : q.seen.ports ≡ p.seen.ports
+  pub io_regions : q.seen.io_regions ≡ p.seen.io_regions
   pub apart : IsApart (view_of q.seen.window)
   pub size : places ≡ code_places (view_of q.seen.window)
 
 module _ {X : Type 0} {H : X → Type 0} (shown : Shows X H) where
   pub been_on : (p q r : Poller X H) (most left places : ℕ) → HaveBeen shown p most left places q → 0 < left →
-      GoesOnBeside (sight_of shown q.seen) q.processor (sight_of shown r.seen) r.processor → Keeps (view_of q.seen.window) (view_of r.seen.window) → r.seen.ports ≡ q.seen.ports → HaveBeen shown p most (left - 1) places r
-  been_on p q r most left places h some goes keeps ports =
+      GoesOnBeside (sight_of shown q.seen) q.processor (sight_of shown r.seen) r.processor → Keeps (view_of q.seen.window) (view_of r.seen.window) → r.seen.io_regions ≡ q.seen.io_regions → HaveBeen shown p most (left - 1) places r
+  been_on p q r most left places h some goes keeps io_regions =
       let made : ℕ = most - left in
       let one_more : suc made ≡ most - (left - 1) = omega (arith, some, h.within) in
       let whole : Polls (sight_of shown p.seen) p.processor (suc made) (sight_of shown r.seen) r.processor = (sight_of shown q.seen, q.processor, h.polls, inr goes) in
@@ -187,7 +187,7 @@ module _ {X : Type 0} {H : X → Type 0} (shown : Shows X H) where
         polls = subst (λ (k : ℕ). Polls (sight_of shown p.seen) p.processor k (sight_of shown r.seen) r.processor) one_more whole;
         within = omega (arith, h.within);
         fixed = kept_on (view_of p.seen.window) (view_of q.seen.window) (view_of r.seen.window) h.fixed keeps;
-        ports = ports ∙ h.ports;
+        io_regions = io_regions ∙ h.io_regions;
         apart = apart_on (view_of q.seen.window) (view_of r.seen.window) keeps h.apart;
         size = h.size ∙ ap (λ (n : ℕ). n - 1) (sym keeps.code_size);
       }

@@ -36,10 +36,10 @@ use Rattle.board_model.proofs.Outside.{no_event, begun_state}
 use Rattle.board_model.proofs.Quiet.{quiet-turn}
 use Rattle.board_model.proofs.Counts.{counted_turn}
 use Rattle.board_model.proofs.Further.{last_turn}
-use Rattle.board_core.specs.fast.Sights.{Sight, is_read, in_port, refused_at, held_at, moved_at, GoesOnWithin, GoesOnBeside, Polls}
+use Rattle.board_core.specs.fast.Sights.{Sight, is_read, in_io_region, refused_at, held_at, moved_at, GoesOnWithin, GoesOnBeside, Polls}
 use Rattle.board_core.specs.fast.Windowed.{IsSight, IsBeside, IsFetchedIn, runner, later, with_window, AreTurns}
 use Rattle.board_core.proofs.fast.WindowCovers.{all_there, granted, held_same, fetched_same}
-use Rattle.board_core.proofs.fast.Ports.{read_there}
+use Rattle.board_core.proofs.fast.IoRegions.{read_there}
 use Rattle.board_core.proofs.fast.WindowTurns.{carried_next, first_inside, rest_inside, move_keeps, HasPlaces, places_of, places_on, own_memory, own_again, own_same, own_beside, beside_still, one_put, window_again, plain_turn, acted_notes, one_turn, fetched_there, code_still}
 
 -- ## what a task sees it may use so
@@ -48,12 +48,12 @@ module _ (g : Setup) (c : ℕ) (s : State) (o : Sight) (sight : IsSight g c s o)
   granted_at : (a n : ℕ) (r : Right) → refused_at o a n r ≡ None → refusals g c a n r ≡ None
   granted_at a n r e = by (is_device a) e
     where
-      read : (r : Right) → is_read r ≡ true → in_port o.ports a n ≡ true → refusals g c a n r ≡ None
-      read Read h there = read_there g c o.ports sight.ports a n there
+      read : (r : Right) → is_read r ≡ true → in_io_region o.io_regions a n ≡ true → refusals g c a n r ≡ None
+      read Read h there = read_there g c o.io_regions sight.io_regions a n there
       read Write h there = absurd (false≢true h)
       read Execute h there = absurd (false≢true h)
 
-      by : (b : Bool) → cond b (given (is_read r && in_port o.ports a n) a) (refused_by o.view a n r) ≡ None → refusals g c a n r ≡ None
+      by : (b : Bool) → cond b (given (is_read r && in_io_region o.io_regions a n) a) (refused_by o.view a n r) ≡ None → refusals g c a n r ≡ None
       by true e = let two = and_parts _ _ (all_there _ a e) in read r two.0 two.1
       by false e = granted g c s.memory o.view sight.window a n r e
 
@@ -63,14 +63,14 @@ module _ (g : Setup) (c : ℕ) (s : State) (o : Sight) (sight : IsSight g c s o)
   same_at : (a n : ℕ) → refused_at o a n Read ≡ None → held_at o a n ≡ held s a n
   same_at a n e = by (is_device a) refl e
     where
-      by : (b : Bool) → is_device a ≡ b → cond b (given (true && in_port o.ports a n) a) (refused_by o.view a n Read) ≡ None → held_at o a n ≡ held s a n
+      by : (b : Bool) → is_device a ≡ b → cond b (given (true && in_io_region o.io_regions a n) a) (refused_by o.view a n Read) ≡ None → held_at o a n ≡ held s a n
       by true is e = rw is (held_there a n)
       by false is e = rw is (held_same g c s o.view sight.window placed a n e ∙ held_in_memory s a n is)
 
   fetches_at : (a : ℕ) → refused_at o a 2 Execute ≡ None → held_at o a 2 ≡ held s a 2
   fetches_at a e = by (is_device a) refl e
     where
-      by : (b : Bool) → is_device a ≡ b → cond b (given (false && in_port o.ports a 2) a) (refused_by o.view a 2 Execute) ≡ None → held_at o a 2 ≡ held s a 2
+      by : (b : Bool) → is_device a ≡ b → cond b (given (false && in_io_region o.io_regions a 2) a) (refused_by o.view a 2 Execute) ≡ None → held_at o a 2 ≡ held s a 2
       by true is e = absurd cc
       by false is e = rw is (fetched_same g c s o.view sight.window placed a e ∙ held_in_memory s a 2 is)
 
@@ -111,11 +111,11 @@ move_seen m (Puts x) o t h is ds one = let p = one_put m x o.view t h is one in 
 move_seen m (Takes a n) o t h is ds one = took_at m o t a n is ds
 
 -- a move changes what is seen by what it does to the window, and keeps the ports
-view_at : (o : Sight) (x : Move) → ((moved_at o x).view ≡ lands o.view x) × ((moved_at o x).ports ≡ o.ports)
+view_at : (o : Sight) (x : Move) → ((moved_at o x).view ≡ lands o.view x) × ((moved_at o x).io_regions ≡ o.io_regions)
 view_at o (Puts x) = (refl, refl)
 view_at o (Takes a n) = by (is_device a)
   where
-    by : (b : Bool) → ((cond b record o { devices = devices_loaded o.devices a } o).view ≡ o.view) × ((cond b record o { devices = devices_loaded o.devices a } o).ports ≡ o.ports)
+    by : (b : Bool) → ((cond b record o { devices = devices_loaded o.devices a } o).view ≡ o.view) × ((cond b record o { devices = devices_loaded o.devices a } o).io_regions ≡ o.io_regions)
     by true = (refl, refl)
     by false = (refl, refl)
 
@@ -123,10 +123,10 @@ view_at o (Takes a n) = by (is_device a)
 record HasMovedOn (m : Memory) (o p : Sight) (t u : Turn) : Type 0 where
   seen : HasSeen (own_memory m p.view) p.devices t u
   keeps : Keeps o.view p.view
-  ports : p.ports ≡ o.ports
+  io_regions : p.io_regions ≡ o.io_regions
 
 moves_seen : (m : Memory) (ms : List Move) (o : Sight) (t : Turn) → HasPlaces m o.view → t.state.memory ≡ own_memory m o.view → t.state.devices ≡ o.devices → AreInside o.view ms → HasMovedOn m o (fold moved_at o ms) t (fold moved t ms)
-moves_seen m [] o t h is ds all = record { seen = record { memory = is; devices = ds; notes = refl }; keeps = kept o.view o.view refl; ports = refl }
+moves_seen m [] o t h is ds all = record { seen = record { memory = is; devices = ds; notes = refl }; keeps = kept o.view o.view refl; io_regions = refl }
 moves_seen m (x ∷ xs) o t h is ds all =
     let one = first_inside o.view x xs all in
     let v = view_at o x in
@@ -136,7 +136,7 @@ moves_seen m (x ∷ xs) o t h is ds all =
     record {
       seen = record { memory = rest.seen.memory; devices = rest.seen.devices; notes = rest.seen.notes ∙ here.notes };
       keeps = kept_on o.view (moved_at o x).view _ k rest.keeps;
-      ports = rest.ports ∙ v.1;
+      io_regions = rest.io_regions ∙ v.1;
     }
 
 -- ## the turn
@@ -146,7 +146,7 @@ pub record HasGoneOn (x : Scenario) (s : State) (c : ℕ) (o p : Sight) (d : Cpu
   pub state : (turn Calls x s).state ≡ later record s { current = c; devices = p.devices } c d (own_memory s.memory p.view) 1
   pub notes : (turn Calls x s).notes ≡ []
   pub keeps : Keeps o.view p.view
-  pub ports : p.ports ≡ o.ports
+  pub io_regions : p.io_regions ≡ o.io_regions
 
 acted_beside : (g : Setup) (c : ℕ) (s : State) (d : Cpu) (ms : List Move) (m : Memory) (ds : List DeviceData) → (fold moved (begun s) ms).state.memory ≡ m → (fold moved (begun s) ms).state.devices ≡ ds → (ended (acted g c (Next d ms) (begun s))).state ≡ later record s { devices = ds } c d m 1
 unfolding ended begun with_processor with_task task_at
@@ -161,7 +161,7 @@ module _ (x : Scenario) (s : State) (c : ℕ) (o p : Sight) (d : Cpu) (is : chos
   turn_beside on =
       let g : Setup = x.setup in
       let y : State = record s { current = c } in
-      let over : IsSight g c (begun y).state o = record { window = sight.window; devices = sight.devices; ports = sight.ports } in
+      let over : IsSight g c (begun y).state o = record { window = sight.window; devices = sight.devices; io_regions = sight.io_regions } in
       let whole : turn Calls x s ≡ ended (acted g c (Next d on.moves) (begun y)) = plain_turn x s c is nothing ∙ ap ended (stepped_beside g c (begun y) o p d over placed on) in
       let put = moves_seen s.memory on.moves o (begun y) (places_of g c s.memory o.view sight.window) (own_same g c s.memory o.view sight.window) (sym sight.devices) on.inside in
       let E : Sight → Type 0 = λ q. (turn Calls x s).state ≡ later record s { current = c; devices = q.devices } c d (own_memory s.memory q.view) 1 in
@@ -169,7 +169,7 @@ module _ (x : Scenario) (s : State) (c : ℕ) (o p : Sight) (d : Cpu) (is : chos
         state = subst E (sym on.after) (ap (λ (t : Turn). t.state) whole ∙ acted_beside g c y d on.moves _ _ put.seen.memory put.seen.devices);
         notes = ap (λ (t : Turn). t.notes) whole ∙ acted_notes g c y d on.moves put.seen.notes;
         keeps = subst (λ (q : Sight). Keeps o.view q.view) (sym on.after) put.keeps;
-        ports = ap (λ (q : Sight). q.ports) on.after ∙ put.ports;
+        io_regions = ap (λ (q : Sight). q.io_regions) on.after ∙ put.io_regions;
       }
 
   turn_within : GoesOnWithin o (cpu_of (task_at s c)) p d → HasGoneOn x s c o p d
@@ -180,7 +180,7 @@ module _ (x : Scenario) (s : State) (c : ℕ) (o p : Sight) (d : Cpu) (is : chos
         state = one.state ∙ ap (λ (ds : List DeviceData). later record s { current = c; devices = ds } c d (own_memory s.memory p.view) 1) same;
         notes = one.notes;
         keeps = one.same;
-        ports = ap (λ (q : Sight). q.ports) on.rest;
+        io_regions = ap (λ (q : Sight). q.io_regions) on.rest;
       }
 
   pub turn_on : GoesOnWithin o (cpu_of (task_at s c)) p d ⊎ GoesOnBeside o (cpu_of (task_at s c)) p d → HasGoneOn x s c o p d
@@ -192,7 +192,7 @@ module _ (x : Scenario) (s : State) (c : ℕ) (o p : Sight) (d : Cpu) (is : chos
 fetched_at : (o : Sight) (at : ℕ) (f : Fetched) → fetched (refused_at o) (held_at o) at ≡ Ok f → has_code o.view at 2 ≡ true
 fetched_at o at f is = by (is_device at) (has_code o.view at 2) is
   where
-    by : (b code : Bool) → unless_barred (cond b (given (false && in_port o.ports at 2) at) (given code at)) at (fetched_by (refused_at o) (held_at o) at (held_at o at 2)) ≡ Ok f → code ≡ true
+    by : (b code : Bool) → unless_barred (cond b (given (false && in_io_region o.io_regions at 2) at) (given code at)) at (fetched_by (refused_at o) (held_at o) at (held_at o at 2)) ≡ Ok f → code ≡ true
     by true code e = absurd cc
     by false true e = refl
     by false false e = absurd cc
@@ -244,7 +244,7 @@ at_bases m v w k = rw (k.ram_base, k.area_base, k.second_base) refl
 pub record HasGone (x : Scenario) (s : State) (c : ℕ) (o : Sight) (n : ℕ) (p : Sight) (d : Cpu) : Type 0 where
   pub state : state_after Calls x n s ≡ later record s { current = runner n c s.current; devices = p.devices } c d (own_memory s.memory p.view) n
   pub keeps : Keeps o.view p.view
-  pub ports : p.ports ≡ o.ports
+  pub io_regions : p.io_regions ≡ o.io_regions
   pub sane : Sane x.setup (state_after Calls x n s)
   pub chosen : chosen x.setup (state_after Calls x n s) ≡ Some c
   pub down : is_down (state_after Calls x n s) ≡ is_down s
@@ -254,7 +254,7 @@ pub record HasGone (x : Scenario) (s : State) (c : ℕ) (o : Sight) (n : ℕ) (p
 -- what is seen after n turns, and the processor after them
 pub record IsLeft (x : Scenario) (s : State) (c : ℕ) (o : Sight) (n : ℕ) (p : Sight) (d : Cpu) : Type 0 where
   pub keeps : Keeps o.view p.view
-  pub ports : p.ports ≡ o.ports
+  pub io_regions : p.io_regions ≡ o.io_regions
   pub sight : IsSight x.setup c (state_after Calls x n s) p
   pub processor : cpu_of (task_at (state_after Calls x n s) c) ≡ d
 
@@ -266,12 +266,12 @@ module _ (x : Scenario) (s : State) (c : ℕ) (o : Sight) (sane : Sane x.setup s
   there = (chosen_is s c sane is).inside
 
   -- what is seen where they have come to
-  sight_then : (n : ℕ) (p : Sight) (d : Cpu) → Keeps o.view p.view → p.ports ≡ o.ports → IsSight x.setup c (later record s { current = runner n c s.current; devices = p.devices } c d (own_memory s.memory p.view) n) p
+  sight_then : (n : ℕ) (p : Sight) (d : Cpu) → Keeps o.view p.view → p.io_regions ≡ o.io_regions → IsSight x.setup c (later record s { current = runner n c s.current; devices = p.devices } c d (own_memory s.memory p.view) n) p
   unfolding with_task
-  sight_then n p d keeps ports = record {
+  sight_then n p d keeps io_regions = record {
     window = window_again x.setup c s.memory o.view p.view sight.window keeps;
     devices = refl;
-    ports = λ r here. sight.ports r (subst (λ (rs : List Region). Contains rs r) ports here);
+    io_regions = λ r here. sight.io_regions r (subst (λ (rs : List Region). Contains rs r) io_regions here);
   }
 
   -- one more from there
@@ -283,7 +283,7 @@ module _ (x : Scenario) (s : State) (c : ℕ) (o : Sight) (sane : Sane x.setup s
       let C : State → Type 0 = λ y. chosen x.setup y ≡ Some c in
       let from : State = record s { current = runner n c s.current; devices = p.devices } in
       let own = cpu_after from c d m n there in
-      subst P (sym h.state) (turn_on x (later from c d m n) c p q e (subst C h.state h.chosen) nothing (sight_then n p d h.keeps h.ports) (subst (λ (y : State). ArePlaced x.setup y.memory) h.state h.sane.steady.placed) (subst (λ (k : Cpu). GoesOnSo p k q e) (sym own) on))
+      subst P (sym h.state) (turn_on x (later from c d m n) c p q e (subst C h.state h.chosen) nothing (sight_then n p d h.keeps h.io_regions) (subst (λ (y : State). ArePlaced x.setup y.memory) h.state h.sane.steady.placed) (subst (λ (k : Cpu). GoesOnSo p k q e) (sym own) on))
 
   -- a turn that notes nothing leaves the choice
   chosen_next : (y : State) → Sane x.setup y → chosen x.setup y ≡ Some c → events_of x.script y.turn ≡ [] → (turn Calls x y).notes ≡ [] → (chosen x.setup (turn Calls x y).state ≡ Some c) × (is_down (turn Calls x y).state ≡ is_down y) × ((i : ℕ) → is_ready (turn Calls x y).state i ≡ is_ready y i)
@@ -308,7 +308,7 @@ module _ (x : Scenario) (s : State) (c : ℕ) (o : Sight) (sane : Sane x.setup s
       record {
         state = same ∙ g.state ∙ ap (λ (z : State). later record z { current = c; devices = q.devices } c e (own_memory y.memory q.view) 1) h.state ∙ again s c d e m (own_memory y.memory q.view) p.devices q.devices n (runner n c s.current) there ∙ ap (λ (z : Memory). later record s { current = c; devices = q.devices } c e z (suc n)) memory;
         keeps = kept_on o.view p.view q.view h.keeps g.keeps;
-        ports = g.ports ∙ h.ports;
+        io_regions = g.io_regions ∙ h.io_regions;
         sane = subst (λ (z : State). Sane x.setup z) (sym same) (sane-after Calls x y h.sane);
         chosen = ap (chosen x.setup) same ∙ ch.0;
         down = ap is_down same ∙ ch.1 ∙ h.down;
@@ -322,7 +322,7 @@ module _ (x : Scenario) (s : State) (c : ℕ) (o : Sight) (sane : Sane x.setup s
       let start : HasGone x s c o zero o (cpu_of (task_at s c)) = record {
         state = unmoved s c ∙ ap (λ (z : Memory). later s c (cpu_of (task_at s c)) z 0) (own_same x.setup c s.memory o.view sight.window) ∙ ap (λ (ds : List DeviceData). later record s { devices = ds } c (cpu_of (task_at s c)) (own_memory s.memory o.view) 0) (sym sight.devices);
         keeps = kept o.view o.view refl;
-        ports = refl;
+        io_regions = refl;
         sane = sane;
         chosen = is;
         down = refl;
@@ -386,7 +386,7 @@ module _ (x : Scenario) (s : State) (c : ℕ) (o : Sight) (sane : Sane x.setup s
       let h = gone n p d nothing on in
       record {
         keeps = h.keeps;
-        ports = h.ports;
-        sight = subst (λ (y : State). IsSight x.setup c y p) (sym h.state) (sight_then n p d h.keeps h.ports);
+        io_regions = h.io_regions;
+        sight = subst (λ (y : State). IsSight x.setup c y p) (sym h.state) (sight_then n p d h.keeps h.io_regions);
         processor = processor_then n p d h;
       }

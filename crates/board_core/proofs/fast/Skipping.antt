@@ -115,7 +115,7 @@ skipped shown x s b (suc k) st quiet none later few =
     subst (λ (v : State). Stands shown x record b { turns = turns_of b + suc k } v) (sym (ap (λ (t : Turn). t.state) (last_turn Calls x k s))) (subst (λ (n : ℕ). Stands shown x record b { turns = n } (turn Calls x u).state) e one)
 
 -- a board whose turn has begun notes nothing, and stands for the same states
-pub quiet_begun : {X : Type 0} {H : X → Type 0} (shown : Shows X H) (x : Scenario) (s : State) (m : Machine X H) → MachineHolds shown x.setup m (begun s) → kernel_notes m.reach.kernel ≡ []
+pub quiet_begun : {X : Type 0} {H : X → Type 0} (shown : Shows X H) (x : Scenario) (s : State) (m : Machine X H) → MachineHolds shown x.setup m (begun s) → kernel_notes m.space.kernel ≡ []
 unfolding begun
 quiet_begun shown x s m h = noted_in shown x.setup m (begun s) h
 
@@ -130,7 +130,7 @@ begun_board shown x s b m st h =
         choice = st.holds.choice;
         script = st.holds.script;
         due = st.holds.due;
-        ports = st.holds.ports;
+        io_regions = st.holds.io_regions;
       };
       sane = st.sane;
       counted = st.counted;

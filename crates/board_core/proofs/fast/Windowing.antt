@@ -41,7 +41,7 @@ use Rattle.board_model.proofs.Outside.{due_later}
 use Rattle.board_model.proofs.TurnChains.{chosen_is, whole_cpu}
 use Rattle.task_table.specs.model.Sane.{Sane}
 use Rattle.board_core.specs.fast.Reached.{is_flash_at, is_ram_at, is_area, is_second, no_region, unwatched, IsStackRegion, MakeWindow}
-use Rattle.board_core.specs.declared.fast_way.regions.WindowRegions.{WindowRegions}
+use Rattle.board_core.specs.declared.fast_path.regions.WindowRegions.{WindowRegions}
 use Rattle.board_core.specs.fast.Breakpoints.{IsStretch, is_hit}
 use Rattle.board_core.specs.fast.Stops.{Stops}
 use Rattle.board_core.specs.fast.Windowed.{IsWindow, IsWholeWindow, IsAllOf, IsBeyond, IsBeside, IsSight, IsAtEnd, MustStop, IsFetchedIn, AreTurns, runner, later, with_window}
@@ -49,19 +49,19 @@ use Rattle.board_core.proofs.fast.WindowTurns.{fetched_there}
 use Rattle.board_core.proofs.fast.SightTurns.{IsLeft, are_turns, seen_then}
 use Rattle.board_core.proofs.fast.WindowCovers.{widens}
 use Rattle.board_core.proofs.fast.LaidOut.{found_first}
-use Rattle.board_core.proofs.fast.Ports.{each_byte, own_ports}
+use Rattle.board_core.proofs.fast.IoRegions.{each_byte, own_ports}
 use Rattle.board_core.proofs.fast.Polled.{glides_polls}
 use Rattle.board_core.proofs.Reaching.{holds_devices}
-use Rattle.board_core.specs.fast.Sights.{Sight, is_read, ports_of, sight_by, refused_at, held_at, Polls, IsAtLimit}
-use Rattle.board_core.specs.declared.fast_way.poller.Poller.{Poller}
+use Rattle.board_core.specs.fast.Sights.{Sight, is_read, io_regions_of, sight_by, refused_at, held_at, Polls, IsAtLimit}
+use Rattle.board_core.specs.declared.fast_path.poller.Poller.{Poller}
 use Rattle.board_core.specs.fast.Polling.{HasPolled}
 use Rattle.board_core.specs.declared.machine.Machine.{Machine}
-use Rattle.board_core.specs.declared.reach.Reach.{Reach}
+use Rattle.board_core.specs.declared.space.AddressSpace.{AddressSpace}
 use Rattle.board_core.specs.Machine.{IsLoaded, HoldsBy, HasContext, MachineHolds, MachineStands, with_cpu}
-use Rattle.board_core.specs.declared.fast_way.glider.Glider.{Glider}
+use Rattle.board_core.specs.declared.fast_path.glider.Glider.{Glider}
 use Rattle.board_core.specs.fast.Gliding.{lent_view, TellsCall, HasWorked, IsGlided, HasGlided}
 use Rattle.board_core.specs.declared.board.Board.{Board}
-use Rattle.board_core.specs.fast.Ports.{AllPorts}
+use Rattle.board_core.specs.fast.IoRegions.{AllIoRegions}
 use Rattle.board_core.specs.Stands.{Stands, turns_of}
 use Rattle.board_core.specs.fast.Advanced.{HasGlidden, IsCallPast}
 use Rattle.board_core.proofs.Loading.{rest_of, context_cpu, context_memory, loaded_by}
@@ -368,8 +368,8 @@ holds_beside g k t ds h = holds_devices g (kept_of k) t ds h
 abbrev written_over : Memory → WindowRegions → List ℕ → List ℕ → List ℕ → Memory
 written_over m w xs ys zs = with_bytes (with_bytes (with_bytes m w.ram.base xs) w.area.base ys) w.second.base zs
 
-pub lent_loaded : {X : Type 0} {H : X → Type 0} (shown : Shows X H) (g : Setup) (m : Machine X H) (r' : Reach X H) (cpu' : Cpu) (c : ℕ) (t : Turn) (w : WindowRegions) (xs ys zs : List ℕ) (ds : List DeviceData) (n : ℕ) → HasContext shown g m c t → c < length t.state.tasks → data_of shown r'.devices ≡ ds →
-    ((u : Turn) → Holds g m.reach.kernel u → Holds g r'.kernel (with_current c (overlaid_all w.ram xs w.area ys w.second zs u))) → IsLoaded shown g r' cpu' record t { state = later record t.state { current = c; devices = ds } c cpu' (written_over t.state.memory w xs ys zs) n }
+pub lent_loaded : {X : Type 0} {H : X → Type 0} (shown : Shows X H) (g : Setup) (m : Machine X H) (r' : AddressSpace X H) (cpu' : Cpu) (c : ℕ) (t : Turn) (w : WindowRegions) (xs ys zs : List ℕ) (ds : List DeviceData) (n : ℕ) → HasContext shown g m c t → c < length t.state.tasks → data_of shown r'.devices ≡ ds →
+    ((u : Turn) → Holds g m.space.kernel u → Holds g r'.kernel (with_current c (overlaid_all w.ram xs w.area ys w.second zs u))) → IsLoaded shown g r' cpu' record t { state = later record t.state { current = c; devices = ds } c cpu' (written_over t.state.memory w xs ys zs) n }
 lent_loaded shown g m r' cpu' c t w xs ys zs ds n h inside same f =
     let cpu : Cpu = m.glider.runner.processor in
     let saved : Turn = with_current c h.saved in
@@ -410,7 +410,7 @@ lent_none g k k' w xs ys zs ram area second is_ram is_area is_second f u h =
 
 -- ## what was done with a window
 
-pub context_devices : {X : Type 0} {H : X → Type 0} (shown : Shows X H) (g : Setup) (m : Machine X H) (c : ℕ) (t : Turn) → HasContext shown g m c t → data_of shown m.reach.devices ≡ t.state.devices
+pub context_devices : {X : Type 0} {H : X → Type 0} (shown : Shows X H) (g : Setup) (m : Machine X H) (c : ℕ) (t : Turn) → HasContext shown g m c t → data_of shown m.space.devices ≡ t.state.devices
 context_devices shown g m c t h = h.holds.devices ∙ sym (rest_of (with_current c h.saved) (with_current c t) m.glider.runner.processor h.is).devices
 
 -- instructions on end over what a task sees, at most so many
@@ -422,7 +422,7 @@ pub record IsWork (g : Setup) (c : ℕ) (before left : View) (devices ds : List 
 -- where a task may read no device it sees its window alone
 module _ (v : View) (ds : List DeviceData) where
   abbrev alone : Sight
-  alone = record { view = v; devices = ds; ports = [] }
+  alone = record { view = v; devices = ds; io_regions = [] }
 
   beyond_alone : (a n : ℕ) (r : Right) → refused_at alone a n r ≡ None → (is_device a ≡ false) × (refused_by v a n r ≡ None)
   beyond_alone a n r = by (is_device a) (is_read r)
@@ -450,21 +450,21 @@ module _ (v : View) (ds : List DeviceData) where
       by (Trap f) is = tt
 
 -- what the glider did
-pub glider_work : (g : Setup) (c : ℕ) (a b : Glider) (flash ram area second after area_after second_after : List ℕ) (devices : List DeviceData) (from : Cpu) (most : ℕ) → ports_of g c ≡ [] → a.runner.processor ≡ from → a.most ≡ most → IsApart (lent_view a.runner.window flash ram area second) → HasWorked a flash ram area second b after area_after second_after →
+pub glider_work : (g : Setup) (c : ℕ) (a b : Glider) (flash ram area second after area_after second_after : List ℕ) (devices : List DeviceData) (from : Cpu) (most : ℕ) → io_regions_of g c ≡ [] → a.runner.processor ≡ from → a.most ≡ most → IsApart (lent_view a.runner.window flash ram area second) → HasWorked a flash ram area second b after area_after second_after →
     IsWork g c (lent_view a.runner.window flash ram area second) (lent_view a.runner.window flash after area_after second_after) devices devices from b.runner.processor most b.made b.at_syscall
 glider_work g c a b flash ram area second after area_after second_after devices from most none own limit apart work =
     let v : View = lent_view a.runner.window flash ram area second in
     let w : View = lent_view a.runner.window flash after area_after second_after in
     subst (λ (k : ℕ). IsWork g c v w devices devices from b.runner.processor k b.made b.at_syscall) limit record {
-      polls = subst (λ (x : Cpu). Polls (sight_by g c v devices) x b.made (sight_by g c w devices) b.runner.processor) own (glides_polls b.made _ _ _ _ devices (ports_of g c) work.glides);
-      far = λ lt even. subst (λ (ports : List Region). Halts (step_effect (refused_at record { view = w; devices = devices; ports = ports }) (held_at record { view = w; devices = devices; ports = ports }) b.runner.processor)) (sym none) (limit_alone w devices b.runner.processor (work.far apart lt));
+      polls = subst (λ (x : Cpu). Polls (sight_by g c v devices) x b.made (sight_by g c w devices) b.runner.processor) own (glides_polls b.made _ _ _ _ devices (io_regions_of g c) work.glides);
+      far = λ lt even. subst (λ (io_regions : List Region). Halts (step_effect (refused_at record { view = w; devices = devices; io_regions = io_regions }) (held_at record { view = w; devices = devices; io_regions = io_regions }) b.runner.processor)) (sym none) (limit_alone w devices b.runner.processor (work.far apart lt));
       tells = work.tells;
     }
 
 -- what the poller did
-pub poller_work : {X : Type 0} {H : X → Type 0} (shown : Shows X H) (g : Setup) (c : ℕ) (a b : Poller X H) (flash ram area second after area_after second_after : List ℕ) (devices : List DeviceData) (from : Cpu) (most : ℕ) → a.seen.ports.items ≡ ports_of g c → a.processor ≡ from → a.most ≡ most → data_of shown a.seen.devices ≡ devices → IsApart (lent_view a.seen.window flash ram area second) → HasPolled shown a flash ram area second b after area_after second_after →
+pub poller_work : {X : Type 0} {H : X → Type 0} (shown : Shows X H) (g : Setup) (c : ℕ) (a b : Poller X H) (flash ram area second after area_after second_after : List ℕ) (devices : List DeviceData) (from : Cpu) (most : ℕ) → a.seen.io_regions.items ≡ io_regions_of g c → a.processor ≡ from → a.most ≡ most → data_of shown a.seen.devices ≡ devices → IsApart (lent_view a.seen.window flash ram area second) → HasPolled shown a flash ram area second b after area_after second_after →
     IsWork g c (lent_view a.seen.window flash ram area second) (lent_view a.seen.window flash after area_after second_after) devices (data_of shown b.seen.devices) from b.processor most b.made b.at_syscall
-poller_work shown g c a b flash ram area second after area_after second_after devices from most ports own limit same apart work =
+poller_work shown g c a b flash ram area second after area_after second_after devices from most io_regions own limit same apart work =
     let v : View = lent_view a.seen.window flash ram area second in
     let w : View = lent_view a.seen.window flash after area_after second_after in
     let e : List DeviceData = data_of shown b.seen.devices in
@@ -472,23 +472,23 @@ poller_work shown g c a b flash ram area second after area_after second_after de
       polls =
           subst (λ (x : Cpu). Polls (sight_by g c v devices) x b.made (sight_by g c w e) b.processor) own
           (subst (λ (ds : List DeviceData). Polls (sight_by g c v ds) a.processor b.made (sight_by g c w e) b.processor) same
-          (subst (λ (rs : List Region). Polls record { view = v; devices = data_of shown a.seen.devices; ports = rs } a.processor b.made record { view = w; devices = e; ports = rs } b.processor) ports work.polls));
-      far = λ lt. subst (λ (rs : List Region). IsAtLimit record { view = w; devices = e; ports = rs } b.processor) ports (work.far apart lt);
+          (subst (λ (rs : List Region). Polls record { view = v; devices = data_of shown a.seen.devices; io_regions = rs } a.processor b.made record { view = w; devices = e; io_regions = rs } b.processor) io_regions work.polls));
+      far = λ lt. subst (λ (rs : List Region). IsAtLimit record { view = w; devices = e; io_regions = rs } b.processor) io_regions (work.far apart lt);
       tells = work.tells;
     }
 
 -- the devices show what they showed, and the kernel stands for what it stood for
-same_shown : {X : Type 0} {H : X → Type 0} (shown : Shows X H) (loaded : Bool) (g : Setup) (r r' : Reach X H) (cpu : Cpu) (t : Turn) → data_of shown r'.devices ≡ data_of shown r.devices → ((u : Turn) → Holds g r.kernel u → Holds g r'.kernel u) → HoldsBy shown loaded g r cpu t → HoldsBy shown loaded g r' cpu t
+same_shown : {X : Type 0} {H : X → Type 0} (shown : Shows X H) (loaded : Bool) (g : Setup) (r r' : AddressSpace X H) (cpu : Cpu) (t : Turn) → data_of shown r'.devices ≡ data_of shown r.devices → ((u : Turn) → Holds g r.kernel u → Holds g r'.kernel u) → HoldsBy shown loaded g r cpu t → HoldsBy shown loaded g r' cpu t
 same_shown shown true g r r' cpu t same f h = record { saved = h.saved; holds = record { kernel = f h.saved h.holds.kernel; devices = same ∙ h.holds.devices }; ready = h.ready; is = h.is }
 same_shown shown false g r r' cpu t same f h = record { kernel = f t h.kernel; devices = same ∙ h.devices }
 
 -- a window of a task was opened for somebody who has the task's processor, and did such work in it
 module _ {X : Type 0} {H : X → Type 0} (shown : Shows X H) (stops : Stops) (g : Setup) (m : Machine X H) (task most : ℕ) (t : Turn) (w : WindowRegions) (pc sp : ℕ) {B : Type 0} (did : Doing B) (user user' : B) (a : Window) (k' : Kernel)
-    (h : HasContext shown g m task t) (inside : task < length t.state.tasks) (reached : MakeWindow stops.watched (setup_at (setup_of m.reach.kernel) task).regions pc sp w)
+    (h : HasContext shown g m task t) (inside : task < length t.state.tasks) (reached : MakeWindow stops.watched (setup_at (setup_of m.space.kernel) task).regions pc sp w)
     (pc_is : pc ≡ register t.state task program_counter) (sp_is : sp ≡ register t.state task stack_pointer) (aim : IsAimed stops.breakpoints pc w a)
-    (opened : IsWindowOpened did m.reach.kernel w.flash w.ram w.area w.second user user' k') where
+    (opened : IsWindowOpened did m.space.kernel w.flash w.ram w.area w.second user user' k') where
   abbrev old : Memory
-  old = memory_of m.reach.kernel
+  old = memory_of m.space.kernel
 
   abbrev pub before : View
   before = lent_view a (bytes_of old (span_of w.flash)) (bytes_of old (span_of w.ram)) (bytes_of old (span_of w.area)) (bytes_of old (span_of w.second))
@@ -511,12 +511,12 @@ module _ {X : Type 0} {H : X → Type 0} (shown : Shows X H) (stops : Stops) (g 
 
   -- instructions were made: the task is the current one from now on
   pub has_run : (ds : List DeviceData) (cpu : Cpu) (made : ℕ) (calls : Bool) → IsWork g task before left t.state.devices ds (cpu_of (task_at t.state task)) cpu most made calls →
-      (m' : Machine X H) → 0 < made → m'.loaded ≡ true → m'.glider.runner.processor ≡ cpu → data_of shown m'.reach.devices ≡ ds → ((u : Turn) → Holds g k' u → Holds g m'.reach.kernel (with_current task u)) → IsGlided shown stops g m' task t most made calls
+      (m' : Machine X H) → 0 < made → m'.loaded ≡ true → m'.glider.runner.processor ≡ cpu → data_of shown m'.space.devices ≡ ds → ((u : Turn) → Holds g k' u → Holds g m'.space.kernel (with_current task u)) → IsGlided shown stops g m' task t most made calls
   has_run ds cpu made calls work m' some loaded processor same f =
       let xs : List ℕ = opened.window.after in
       let ys : List ℕ = opened.window.area_after in
       let zs : List ℕ = opened.window.second_after in
-      let L : Memory → Type 0 = λ y. IsLoaded shown g m'.reach m'.glider.runner.processor record t { state = later record t.state { current = task; devices = ds } task m'.glider.runner.processor y made } in
+      let L : Memory → Type 0 = λ y. IsLoaded shown g m'.space m'.glider.runner.processor record t { state = later record t.state { current = task; devices = ds } task m'.glider.runner.processor y made } in
       let places : written_over t.state.memory w xs ys zs ≡ with_window t.state.memory before left = rw (aim.ram, aim.area, aim.second) refl in
       record {
         window = before;
@@ -528,23 +528,23 @@ module _ {X : Type 0} {H : X → Type 0} (shown : Shows X H) (stops : Stops) (g 
         apart = apart_here;
         tells = subst (λ (y : Cpu). TellsCall most made before left y calls) (sym processor) work.tells;
         stays = λ none. absurd (omega (arith, some, none));
-        goes = λ lt. loaded_by shown m'.loaded g m'.reach m'.glider.runner.processor _ loaded (subst L places (lent_loaded shown g m m'.reach m'.glider.runner.processor task t w xs ys zs ds made h inside same (λ u held. f (overlaid_all w.ram xs w.area ys w.second zs u) (opened.holds g u held))));
+        goes = λ lt. loaded_by shown m'.loaded g m'.space m'.glider.runner.processor _ loaded (subst L places (lent_loaded shown g m m'.space m'.glider.runner.processor task t w xs ys zs ds made h inside same (λ u held. f (overlaid_all w.ram xs w.area ys w.second zs u) (opened.holds g u held))));
       }
 
   -- a sight that is left as it was
-  none_here : (ds : List DeviceData) (cpu : Cpu) → Polls (sight_by g task before t.state.devices) (cpu_of (task_at t.state task)) 0 (sight_by g task left ds) cpu → (sight_by g task left ds ≡ sight_by g task before t.state.devices) × (cpu ≡ m.glider.runner.processor) × (ds ≡ data_of shown m.reach.devices)
+  none_here : (ds : List DeviceData) (cpu : Cpu) → Polls (sight_by g task before t.state.devices) (cpu_of (task_at t.state task)) 0 (sight_by g task left ds) cpu → (sight_by g task left ds ≡ sight_by g task before t.state.devices) × (cpu ≡ m.glider.runner.processor) × (ds ≡ data_of shown m.space.devices)
   none_here ds cpu e = (e.0, e.1 ∙ sym (context_cpu shown g m task t h inside), ap (λ (o : Sight). o.devices) e.0 ∙ sym (context_devices shown g m task t h))
 
   -- none was made: all is as it was
   pub has_stayed : (ds : List DeviceData) (cpu : Cpu) (made : ℕ) (calls : Bool) → IsWork g task before left t.state.devices ds (cpu_of (task_at t.state task)) cpu most made calls →
-      (m' : Machine X H) → made ≡ 0 → m'.loaded ≡ m.loaded → m'.glider.runner.processor ≡ cpu → m'.reach.kernel ≡ k' → data_of shown m'.reach.devices ≡ ds → MachineHolds shown g m t → IsGlided shown stops g m' task t most made calls
+      (m' : Machine X H) → made ≡ 0 → m'.loaded ≡ m.loaded → m'.glider.runner.processor ≡ cpu → m'.space.kernel ≡ k' → data_of shown m'.space.devices ≡ ds → MachineHolds shown g m t → IsGlided shown stops g m' task t most made calls
   has_stayed ds cpu made calls work m' none loaded processor kernel devices holds =
       let N : ℕ → Type 0 = λ n. Polls (sight_by g task before t.state.devices) (cpu_of (task_at t.state task)) n (sight_by g task left ds) cpu in
       let same = none_here ds cpu (subst N none work.polls) in
       let kept : m'.glider.runner.processor ≡ m.glider.runner.processor = processor ∙ same.1 in
       let o = opened.window in
-      let f = lent_none g m.reach.kernel k' w o.after o.area_after o.second_after o.ram_there o.area_there o.second_there (ap (λ (s : Sight). s.view.ram) same.0) (ap (λ (s : Sight). s.view.area) same.0) (ap (λ (s : Sight). s.view.second) same.0) (opened.holds g) in
-      let K : (u : Turn) → Holds g m.reach.kernel u → Holds g m'.reach.kernel u = λ u held. subst (λ (k : Kernel). Holds g k u) (sym kernel) (f u held) in
+      let f = lent_none g m.space.kernel k' w o.after o.area_after o.second_after o.ram_there o.area_there o.second_there (ap (λ (s : Sight). s.view.ram) same.0) (ap (λ (s : Sight). s.view.area) same.0) (ap (λ (s : Sight). s.view.second) same.0) (opened.holds g) in
+      let K : (u : Turn) → Holds g m.space.kernel u → Holds g m'.space.kernel u = λ u held. subst (λ (k : Kernel). Holds g k u) (sym kernel) (f u held) in
       record {
         window = before;
         after = left;
@@ -554,7 +554,7 @@ module _ {X : Type 0} {H : X → Type 0} (shown : Shows X H) (stops : Stops) (g 
         far = λ lt. subst (λ (y : Cpu). IsAtLimit (sight_by g task left ds) y) (sym processor) (work.far lt);
         apart = apart_here;
         tells = subst (λ (y : Cpu). TellsCall most made before left y calls) (sym processor) work.tells;
-        stays = λ e. rw (loaded, kept) (same_shown shown m.loaded g m.reach m'.reach m.glider.runner.processor t (devices ∙ same.2) K holds);
+        stays = λ e. rw (loaded, kept) (same_shown shown m.loaded g m.space m'.space m.glider.runner.processor t (devices ∙ same.2) K holds);
         goes = λ lt. absurd (omega (arith, lt, none));
       }
 
@@ -589,7 +589,7 @@ not_hit breakpoints base size pc c v (Ran task at) s h = let i = in_stretch v at
 module _ {X : Type 0} {H : X → Type 0} (shown : Shows X H) (stops : Stops) (x : Scenario) (u : State) (b : Board X H) (m : Machine X H) (task most n until : ℕ) (calls : Bool)
     (st : Stands shown x b u) (next : b.choice.next ≡ Some task) (up : b.choice.down ≡ false)
     (few : until ≤ 1000000000) (within : turns_of b + n ≤ until) (later_due : (turn : ℕ) → turn < until → b.due ≢ Some turn)
-    (none : kernel_notes m.reach.kernel ≡ []) where
+    (none : kernel_notes m.space.kernel ≡ []) where
   nothing : (k : ℕ) → k < n → events_of x.script (u.turn + k) ≡ []
   nothing k lt = let e = st.holds.turns in quiet_before x.script u.turn until b.due st.holds.due later_due few (u.turn + k) (omega arith) (omega (arith, e, lt, within))
 
@@ -608,7 +608,7 @@ module _ {X : Type 0} {H : X → Type 0} (shown : Shows X H) (stops : Stops) (x 
             choice = st.holds.choice;
             script = st.holds.script;
             due = st.holds.due;
-            ports = st.holds.ports;
+            io_regions = st.holds.io_regions;
           };
           sane = st.sane;
           counted = st.counted;
@@ -622,7 +622,7 @@ module _ {X : Type 0} {H : X → Type 0} (shown : Shows X H) (stops : Stops) (x 
 
   -- what the task sees
   seen : (h : IsGlided shown stops x.setup m task (rested b.machine u) most n calls) → IsSight x.setup task u (sight_by x.setup task h.window u.devices)
-  seen h = record { window = h.whole.is; devices = refl; ports = own_ports x.setup task }
+  seen h = record { window = h.whole.is; devices = refl; io_regions = own_ports x.setup task }
 
   turns_are : (h : IsGlided shown stops x.setup m task (rested b.machine u) most n calls) → AreTurns x u task (sight_by x.setup task h.window u.devices) n (sight_by x.setup task h.after h.devices) m.glider.runner.processor
   turns_are h = are_turns x u task (sight_by x.setup task h.window u.devices) st.sane is_chosen (seen h) n (sight_by x.setup task h.after h.devices) m.glider.runner.processor nothing h.polls
@@ -674,7 +674,7 @@ module _ {X : Type 0} {H : X → Type 0} (shown : Shows X H) (stops : Stops) (x 
             };
             script = st.holds.script;
             due = subst (λ (k : ℕ). IsNext x.script k b.due) (sym turns) (due_later_on x.script u.turn n b.due st.holds.due (λ k lt. later_due (u.turn + k) (omega (arith, a, lt, within))));
-            ports = st.holds.ports;
+            io_regions = st.holds.io_regions;
           };
           sane = are.sane;
           counted = are.counted st.counted;
@@ -764,13 +764,13 @@ module _ {X : Type 0} {H : X → Type 0} (shown : Shows X H) (stops : Stops) (x 
 
 -- the same of a board once its machine's turn has begun
 pub made_by : {X : Type 0} {H : X → Type 0} (shown : Shows X H) (stops : Stops) (x : Scenario) (u : State) (b : Board X H) (m m' : Machine X H) (task n until : ℕ) (calls : Bool) → Stands shown x b u → MachineHolds shown x.setup m (begun u) → b.choice.next ≡ Some task → b.choice.down ≡ false → until ≤ 1000000000 →
-    turns_of b < until → n ≤ until - turns_of b → ((turn : ℕ) → turn < until → b.due ≢ Some turn) → note_count m'.reach.kernel ≡ note_count m.reach.kernel →
+    turns_of b < until → n ≤ until - turns_of b → ((turn : ℕ) → turn < until → b.due ≢ Some turn) → note_count m'.space.kernel ≡ note_count m.space.kernel →
     ((t : Turn) → MachineStands shown x.setup m t → task < length t.state.tasks → is_ready t.state task ≡ true → HasGlided shown stops x.setup m' task t (until - turns_of b) n calls) → IsMade shown stops x u task until b record b { machine = m'; turns = turns_of b + n } calls
 made_by {X} {H} shown stops x u b0 m m' task n until calls st0 holds next up few left within later_due count glided =
     let b : Board X H = record b0 { machine = m } in
     let b' : Board X H = record b0 { machine = m'; turns = turns_of b0 + n } in
     let st : Stands shown x b u = begun_board shown x u b0 m st0 holds in
-    let none : kernel_notes m'.reach.kernel ≡ [] = none_of m m' (quiet_begun shown x u m holds) count in
+    let none : kernel_notes m'.space.kernel ≡ [] = none_of m m' (quiet_begun shown x u m holds) count in
     let over : turns_of b0 + n ≤ until = omega (arith, left, within) in
     let most : ℕ = until - turns_of b0 in
     let is = chosen_is u task st.sane (sym st.holds.choice.next ∙ next) in
@@ -792,14 +792,14 @@ no_list v e = nil_from_length v.items (sym v.ok.0 ∙ eqb-true (vec_len v) 0 (sy
 
 module _ {X : Type 0} {H : X → Type 0} (shown : Shows X H) (x : Scenario) (s : State) (b : Board X H) (st : Stands shown x b s) where
   -- there is a list for each task
-  pub ports_inside : (c : ℕ) → c < length s.tasks → c < vec_len b.ports
-  ports_inside c inside = let long = b.ports.ok.0 in let all = st.holds.ports.count in let same = length-map b.ports.items vec_items in let many = st.sane.steady.as_many in omega (arith, long, all, same, many, inside)
+  pub ports_inside : (c : ℕ) → c < length s.tasks → c < vec_len b.io_regions
+  ports_inside c inside = let long = b.io_regions.ok.0 in let all = st.holds.io_regions.count in let same = length-map b.io_regions.items vec_items in let many = st.sane.steady.as_many in omega (arith, long, all, same, many, inside)
 
-  pub own_list : (c : ℕ) (v d : Vec Region Global) → c < length s.tasks → v ≡ get_or b.ports.items c d → v.items ≡ ports_of x.setup c
-  own_list c v d inside is = let long = b.ports.ok.0 in let in_len = ports_inside c inside in let lt : c < length b.ports.items = omega (arith, in_len, long) in let many = st.sane.steady.as_many in ap vec_items is ∙ sym (get_or-map vec_items b.ports.items c d [] lt) ∙ st.holds.ports.each c (omega (arith, many, inside))
+  pub own_list : (c : ℕ) (v d : Vec Region Global) → c < length s.tasks → v ≡ get_or b.io_regions.items c d → v.items ≡ io_regions_of x.setup c
+  own_list c v d inside is = let long = b.io_regions.ok.0 in let in_len = ports_inside c inside in let lt : c < length b.io_regions.items = omega (arith, in_len, long) in let many = st.sane.steady.as_many in ap vec_items is ∙ sym (get_or-map vec_items b.io_regions.items c d [] lt) ∙ st.holds.io_regions.each c (omega (arith, many, inside))
 
-pub glidden_ports : {X : Type 0} {H : X → Type 0} (shown : Shows X H) (stops : Stops) (x : Scenario) (s : State) (n : ℕ) (b : Board X H) (p : Vec (Vec Region Global) Global) → HasGlidden shown stops x s n b → AllPorts x.setup (map vec_items p.items) → HasGlidden shown stops x s n record b { ports = p }
-glidden_ports shown stops x s n b p h ports = record {
+pub glidden_ports : {X : Type 0} {H : X → Type 0} (shown : Shows X H) (stops : Stops) (x : Scenario) (s : State) (n : ℕ) (b : Board X H) (p : Vec (Vec Region Global) Global) → HasGlidden shown stops x s n b → AllIoRegions x.setup (map vec_items p.items) → HasGlidden shown stops x s n record b { io_regions = p }
+glidden_ports shown stops x s n b p h io_regions = record {
   stands = record {
     holds = record {
       machine = h.stands.holds.machine;
@@ -807,7 +807,7 @@ glidden_ports shown stops x s n b p h ports = record {
       choice = h.stands.holds.choice;
       script = h.stands.holds.script;
       due = h.stands.holds.due;
-      ports = ports;
+      io_regions = io_regions;
     };
     sane = h.stands.sane;
     counted = h.stands.counted;

@@ -14,7 +14,7 @@ use Rattle.board_model.specs.Run.{ending, turn_after, state_after}
 use Rattle.board_core.specs.fast.Breakpoints.{is_hit}
 use Rattle.board_core.specs.fast.Stops.{Stops}
 use Rattle.board_core.specs.fast.Windowed.{MustStop, IsCalling}
-use Rattle.board_core.specs.Stands.{Stands, Stood, notes_of, turns_of}
+use Rattle.board_core.specs.Stands.{Stands, StandsForSome, notes_of, turns_of}
 use Rattle.board_core.specs.Data.{Shows}
 
 -- the board stands for the state after n turns and one more, and tells the notes of that one: the n
@@ -44,7 +44,7 @@ pub record HasMade {X : Type 0} {H : X → Type 0} (shown : Shows X H) (level : 
 abbrev pub IsStopped : Scenario → State → Type 0
 IsStopped x s = (events_of x.script s.turn ≢ []) ⊎ (ending x 1 s ≢ None)
 
--- a task that runs from a state goes no further the fast way than to another one, where it is known or not to make a system call
+-- a task that runs from a state goes no further on the fast path than to another one, where it is known or not to make a system call
 abbrev pub IsFar : Stops → Scenario → ℕ → State → State → Bool → Type 0
 IsFar stops x c s u calls = MustStop stops x.setup c (register s c program_counter) (register s c stack_pointer) u calls
 
@@ -61,11 +61,11 @@ state_now x old s new = state_after Calls x (turns_of new - turns_of old) s
 abbrev pub state_before : {X : Type 0} {H : X → Type 0} → Scenario → Board X H → State → Board X H → State
 state_before x old s new = state_after Calls x (turns_of new - turns_of old - 1) s
 
--- the next turn of the task that is chosen from a state on is a whole one: something happens in it, or the fast way ends
+-- the next turn of the task that is chosen from a state on is a whole one: something happens in it, or the fast path ends
 abbrev pub NeedsTurn : Stops → Scenario → ℕ → State → State → Type 0
 NeedsTurn stops x c s u = (events_of x.script u.turn ≢ []) ⊎ ((calls : Bool) × IsFar stops x c s u calls)
 
--- the task that is chosen went on to turn `until`, or as far as the fast way goes
+-- the task that is chosen went on to turn `until`, or as far as the fast path goes
 abbrev pub WentFar : {X : Type 0} {H : X → Type 0} → Shows X H → Stops → ℕ → Board X H → Board X H → Bool → Type 0
 WentFar shown stops until old new calls =
     (x : Scenario) (s : State) (c : ℕ) → Stands shown x old s → chosen x.setup s ≡ Some c → old.choice.down ≡ false →
@@ -80,11 +80,11 @@ pub record IsCallPast (stops : Stops) (x : Scenario) (s : State) (c : ℕ) : Typ
 abbrev pub IsToCall : {X : Type 0} {H : X → Type 0} → Shows X H → Stops → ℕ → Board X H → Board X H → Type 0
 IsToCall shown stops task old new = (x : Scenario) (s : State) → Stands shown x old s → IsCallPast stops x (state_now x old s new) task
 
--- ## the fast way
+-- ## the fast path
 
--- turns before turn `until` may be made the fast way: nothing is due in them
+-- turns before turn `until` may be made on the fast path: nothing is due in them
 pub record MayGoFast {X : Type 0} {H : X → Type 0} (shown : Shows X H) (b : Board X H) (until : ℕ) : Type 0 where
-  pub stood : Stood shown b
+  pub stood : StandsForSome shown b
   pub few : until ≤ 1000000000
   pub later : (turn : ℕ) → turn < until → b.due ≢ Some turn
 
@@ -95,7 +95,7 @@ pub record MayGoFastBy {X : Type 0} {H : X → Type 0} (shown : Shows X H) (b : 
   pub up : b.choice.down ≡ false
   pub left : turns_of b < until
 
--- turns before turn `until` were made the fast way
+-- turns before turn `until` were made on the fast path
 pub record WentFast {X : Type 0} {H : X → Type 0} (shown : Shows X H) (stops : Stops) (until : ℕ) (old new : Board X H) : Type 0 where
   pub glided : (x : Scenario) (s : State) → Stands shown x old s → HasGlidden shown stops x s (turns_of new - turns_of old) new
   pub more : turns_of old ≤ turns_of new

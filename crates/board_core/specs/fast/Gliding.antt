@@ -13,10 +13,10 @@ use Rattle.task_table.specs.model.State.{Setup, Turn}
 use Rattle.task_table.specs.model.Reading.{task_at, setup_at, register, is_ready}
 use Rattle.board_model.specs.Turn.{cpu_of}
 use Rattle.board_core.specs.fast.Reached.{is_flash_at}
-use Rattle.board_core.specs.fast.Sights.{sight_by, ports_of, Polls, IsAtLimit}
+use Rattle.board_core.specs.fast.Sights.{sight_by, io_regions_of, Polls, IsAtLimit}
 use Rattle.board_core.specs.fast.Stops.{Stops}
 use Rattle.board_core.specs.fast.Windowed.{IsWholeWindow, later, with_window}
-use Rattle.board_core.specs.declared.fast_way.glider.Glider.{Glider}
+use Rattle.board_core.specs.declared.fast_path.glider.Glider.{Glider}
 use Rattle.board_core.specs.declared.machine.Machine.{Machine}
 use Rattle.board_core.specs.Machine.{MachineHolds, MachineStands}
 use Rattle.board_core.specs.Data.{Shows}
@@ -87,6 +87,6 @@ HasGlided shown stops g m c t most n calls = IsGlided shown stops g m c t most n
 
 -- what a machine comes to from a turn in which a task is ready that may read devices by these regions
 abbrev pub GlidesFrom : {X : Type 0} {H : X → Type 0} → Shows X H → Stops → List Region → ℕ → ℕ → Machine X H → Machine X H → ℕ → Bool → Type 0
-GlidesFrom shown stops ports task most old new made calls =
+GlidesFrom shown stops io_regions task most old new made calls =
     (g : Setup) (t : Turn) → MachineStands shown g old t → task < length t.state.tasks → is_ready t.state task ≡ true →
-    ports_of g task ≡ ports → HasGlided shown stops g new task t most made calls
+    io_regions_of g task ≡ io_regions → HasGlided shown stops g new task t most made calls

@@ -12,12 +12,12 @@ use Rattle.board_model.specs.Turn.{is_device}
 use Rattle.board_core.specs.Data.{Shows, data_of}
 use Rattle.board_core.specs.fast.Gliding.{lent_view, TellsCall}
 use Rattle.board_core.specs.fast.Sights.{Sight, Polls, IsAtLimit, refused_at, held_at}
-use Rattle.board_core.specs.declared.fast_way.poller.Poller.{Poller}
-use Rattle.board_core.specs.declared.fast_way.poller.Seen.{Seen}
+use Rattle.board_core.specs.declared.fast_path.poller.Poller.{Poller}
+use Rattle.board_core.specs.declared.fast_path.poller.Seen.{Seen}
 
 -- what it sees
 abbrev pub sight_of : {X : Type 0} {H : X → Type 0} → Shows X H → Seen X H → Sight
-sight_of shown p = record { view = view_of p.window; devices = data_of shown p.devices; ports = p.ports.items }
+sight_of shown p = record { view = view_of p.window; devices = data_of shown p.devices; io_regions = p.io_regions.items }
 
 -- after a store in the window, which is all that changed
 pub record IsPut {X : Type 0} {H : X → Type 0} (p : Seen X H) (a n v : ℕ) (q : Seen X H) : Type 0 where
@@ -45,11 +45,11 @@ Did shown a d r b = ⊥
 
 -- what it sees while it has these bytes
 abbrev pub lent_sight : {X : Type 0} {H : X → Type 0} → Shows X H → Poller X H → List ℕ → List ℕ → List ℕ → List ℕ → Sight
-lent_sight shown p flash ram area second = record { view = lent_view p.seen.window flash ram area second; devices = data_of shown p.seen.devices; ports = p.seen.ports.items }
+lent_sight shown p flash ram area second = record { view = lent_view p.seen.window flash ram area second; devices = data_of shown p.seen.devices; io_regions = p.seen.io_regions.items }
 
 -- what is left to see
 abbrev pub left_sight : {X : Type 0} {H : X → Type 0} → Shows X H → Poller X H → List ℕ → Poller X H → List ℕ → List ℕ → List ℕ → Sight
-left_sight shown a flash b after area_after second_after = record { view = lent_view a.seen.window flash after area_after second_after; devices = data_of shown b.seen.devices; ports = a.seen.ports.items }
+left_sight shown a flash b after area_after second_after = record { view = lent_view a.seen.window flash after area_after second_after; devices = data_of shown b.seen.devices; io_regions = a.seen.io_regions.items }
 
 -- it made instructions on end, over its window and the devices
 pub record HasPolled {X : Type 0} {H : X → Type 0} (shown : Shows X H) (a : Poller X H) (flash ram area second : List ℕ) (b : Poller X H) (after area_after second_after : List ℕ) : Type 0 where
@@ -58,4 +58,4 @@ pub record HasPolled {X : Type 0} {H : X → Type 0} (shown : Shows X H) (a : Po
   -- it stopped before that many only where it had to
   pub far : IsApart (lent_view a.seen.window flash ram area second) → b.made < a.most → IsAtLimit (left_sight shown a flash b after area_after second_after) b.processor
   pub tells : TellsCall a.most b.made (lent_view a.seen.window flash ram area second) (lent_view a.seen.window flash after area_after second_after) b.processor b.at_syscall
-  pub ports : b.seen.ports ≡ a.seen.ports
+  pub io_regions : b.seen.io_regions ≡ a.seen.io_regions

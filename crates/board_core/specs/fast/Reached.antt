@@ -5,7 +5,7 @@ use Rattle.region_check.specs.declared.Region.{Region}
 use Rattle.region_check.specs.Spans.{spans}
 use Rattle.mem_banks.specs.Windows.{IsNoRegion}
 use Rattle.task_table.specs.kept.Openable.{span_of}
-use Rattle.board_core.specs.declared.fast_way.regions.WindowRegions.{WindowRegions}
+use Rattle.board_core.specs.declared.fast_path.regions.WindowRegions.{WindowRegions}
 
 -- a region of the flash that has the instruction at an address, and may be executed
 abbrev pub is_flash_at : ℕ → Region → Bool

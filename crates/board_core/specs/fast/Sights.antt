@@ -20,18 +20,18 @@ abbrev pub is_port : Region → Bool
 is_port r = r.rights.device && r.rights.read
 
 -- those of a task
-abbrev pub ports_of : Setup → ℕ → List Region
-ports_of g c = filter is_port (setup_at g c).regions
+abbrev pub io_regions_of : Setup → ℕ → List Region
+io_regions_of g c = filter is_port (setup_at g c).regions
 
 -- a window, the devices as they stand, and ports to them
 pub record Sight : Type 0 where
   pub view : View
   pub devices : List DeviceData
-  pub ports : List Region
+  pub io_regions : List Region
 
 -- what a task sees of a window and of these devices
 abbrev pub sight_by : Setup → ℕ → View → List DeviceData → Sight
-sight_by g c v ds = record { view = v; devices = ds; ports = ports_of g c }
+sight_by g c v ds = record { view = v; devices = ds; io_regions = io_regions_of g c }
 
 -- ## What it may do with which bytes
 
@@ -41,12 +41,12 @@ is_read Write = false
 is_read Execute = false
 
 -- whether one of the ports has all of n bytes
-abbrev pub in_port : List Region → ℕ → ℕ → Bool
-in_port ports a n = list_any (λ r. spans r a n) ports
+abbrev pub in_io_region : List Region → ℕ → ℕ → Bool
+in_io_region io_regions a n = list_any (λ r. spans r a n) io_regions
 
 -- where devices lie the bytes of a port may be read, and nothing else may be done; elsewhere it is as within the window
 abbrev pub refused_at : Sight → Refusals
-refused_at o a n right = if is_device a then given (is_read right && in_port o.ports a n) a else refused_by o.view a n right
+refused_at o a n right = if is_device a then given (is_read right && in_io_region o.io_regions a n) a else refused_by o.view a n right
 
 abbrev pub held_at : Sight → Contents
 held_at o a n = if is_device a then or_zero (device_number o.devices a n) else held_by o.view a n

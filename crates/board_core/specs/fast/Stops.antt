@@ -1,4 +1,4 @@
--- Where the fast way ends though the task would go on: at breakpoints, and where it would touch a region with a byte that is watched.
+-- Where the fast path ends though the task would go on: at breakpoints, and where it would touch a region with a byte that is watched.
 use Rattle.std.specs.Prelude.{ℕ, List, Option}
 
 pub record Stops : Type 0 where

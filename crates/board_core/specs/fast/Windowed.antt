@@ -12,7 +12,7 @@ use Rattle.thumb_exec.specs.Effect.{Halts}
 use Rattle.thumb_exec.specs.Fetch.{fetched, step_effect}
 use Rattle.thumb_insn.specs.declared.Insn.TheVariants.{Svc}
 use Rattle.thumb_step.specs.Windows.{View, has_code, is_at_syscall}
-use Rattle.board_core.specs.declared.fast_way.regions.WindowRegions.{WindowRegions}
+use Rattle.board_core.specs.declared.fast_path.regions.WindowRegions.{WindowRegions}
 use Rattle.board_core.specs.fast.Reached.{is_flash_at, MakeWindow}
 use Rattle.board_core.specs.fast.Sights.{Sight, is_port, sight_by, refused_at, held_at}
 use Rattle.board_core.specs.fast.Breakpoints.{IsStretch}
@@ -92,7 +92,7 @@ pub record IsCalling (g : Setup) (c : ℕ) (s : State) : Type 0 where
 pub record IsSight (g : Setup) (c : ℕ) (s : State) (o : Sight) : Type 0 where
   pub window : IsWindow g c s.memory o.view
   pub devices : o.devices ≡ s.devices
-  pub ports : (r : Region) → Contains o.ports r → Contains (setup_at g c).regions r × (is_port r ≡ true)
+  pub io_regions : (r : Region) → Contains o.io_regions r → Contains (setup_at g c).regions r × (is_port r ≡ true)
 
 -- the task that is chosen sees so much, and nothing happens in n turns from now on
 abbrev pub IsUndisturbed : Scenario → State → ℕ → Sight → ℕ → Type 0

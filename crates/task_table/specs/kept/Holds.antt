@@ -211,5 +211,5 @@ pub record Stands (g : Setup) (k : Kernel) (t : Turn) : Type 0 where
   pub sane : Sane g t.state
 
 -- the kernel stands for some turn
-abbrev pub Stood : Kernel → Type 0
-Stood k = (g : Setup) × (t : Turn) × Stands g k t
+abbrev pub StandsForSome : Kernel → Type 0
+StandsForSome k = (g : Setup) × (t : Turn) × Stands g k t

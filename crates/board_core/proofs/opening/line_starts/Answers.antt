@@ -1,7 +1,7 @@
 use Rattle.std.proofs.Common.{◌≡◌, ◌∙◌, ◌<◌, ◌+◌, ◌++◌, ℕ, List, [], ◌∷◌, ap, arith, get_or, length, map, sym, take}
 use Rattle.std.proofs.lemmas.List.{map-append, take_more}
-use Rattle.image_format.specs.Images.{picture}
-use Rattle.image_format.specs.Picture.{no_line}
+use Rattle.image_format.specs.Images.{image_data}
+use Rattle.image_format.specs.ImageData.{no_line}
 use Rattle.task_table.specs.kept.Parts.{line_setup}
 use Rattle.board_core.specs.Opened.{setup_of_line}
 use Rattle.board_core.proofs.opening.line_starts.Goals as goal
@@ -14,6 +14,6 @@ one_more f g front a all k d within before same =
 
 pub loop-k-preserved : goal.loop-k-preserved
 loop-k-preserved c =
-    let lines = (picture c.args.image.now).lines in
+    let lines = (image_data c.args.image.now).lines in
     ap (map line_setup) c.in_ok-push.ensures.items
     ∙ one_more line_setup setup_of_line c.loop-k.lines.items c.line_start.result lines c.loop-k.k no_line (omega (arith, c.line_count-k-end.ensures, c.loop-k-test.true)) c.loop-k.invariant c.line_start.ensures

@@ -1,7 +1,7 @@
 use Rattle.std.proofs.Common.{◌≡◌, ℕ, List, length, subst, arith, ap, ◌∙◌}
 use Rattle.std.proofs.lemmas.Bool.{not-true, not-false}
 use Rattle.region_check.specs.declared.Region.{Region}
-use Rattle.image_format.specs.Images.{picture}
+use Rattle.image_format.specs.Images.{image_data}
 use Rattle.board_core.proofs.Opens.{HaveFirst, none_first, places_step, pushed_more, device_more, places_kept, places_further}
 use Rattle.board_core.proofs.opening.push_places.Goals.{then-not-region+in_ok-push, else-not-region}
 use Rattle.board_core.proofs.opening.push_places.Goals as goal
@@ -11,7 +11,7 @@ loop-k-init c = record { are = c.requires.places; before = c.requires.before; ow
 
 pub loop-k-preserved : goal.loop-k-preserved
 loop-k-preserved c =
-    let p = picture c.args.image.now in
+    let p = image_data c.args.image.now in
     let inv = c.loop-k.invariant in
     let region = c.index-region.result.now in
     let lt = c.loop-k-test.true in
@@ -34,7 +34,7 @@ loop-k-preserved c =
 
 pub returns-clause-all : goal.returns-clause-all
 returns-clause-all c =
-    let p = picture c.args.image.now in
+    let p = image_data c.args.image.now in
     let inv = c.loop-k.invariant in
     let regions : List Region = c.in_ok-regions.regions.items in
     let places : List (ℕ × ℕ) = c.loop-k.places.items in

@@ -11,7 +11,7 @@ pub turns-init : goal.turns-init
 turns-init g c =
     let shown = boxed (λ p. (goal.Device-dyn g p).shown p.1) in
     record {
-      midway = λ x s st. midway_start shown g.T.Teller.heard c.args.level x _ s _ (c.hears_in_parts.ensures.nothing _) st;
+      midway = λ x s st. midway_start shown g.T.Observer.heard c.args.level x _ s _ (c.hears_in_parts.ensures.nothing _) st;
       stood = c.requires.stood;
       turns = omega arith;
       due = omega arith;
@@ -22,36 +22,36 @@ pub returns-in-Some-clause-told : goal.returns-in-Some-clause-told
 returns-in-Some-clause-told g c =
     let shown = boxed (λ p. (goal.Device-dyn g p).shown p.1) in
     λ x s st.
-    all_told shown g.T.Teller.heard c.args.level x c.args.limit _ _ s c.turns.board c.in-Some.end c.turns.invariant.turns (λ t u. sym (c.in-Some.ensures.end x t u)) (c.turns.invariant.midway x s st)
+    all_told shown g.T.Observer.heard c.args.level x c.args.limit _ _ s c.turns.board c.in-Some.end c.turns.invariant.turns (λ t u. sym (c.in-Some.ensures.end x t u)) (c.turns.invariant.midway x s st)
 
 pub returns-in-Some-clause-end : goal.returns-in-Some-clause-end
 returns-in-Some-clause-end g c =
     let shown = boxed (λ p. (goal.Device-dyn g p).shown p.1) in
     λ x s st.
-    (end_is shown g.T.Teller.heard c.args.level x c.args.limit _ _ s c.turns.board c.in-Some.end c.turns.invariant.turns (λ t u. sym (c.in-Some.ensures.end x t u)) (c.turns.invariant.midway x s st)).0
+    (end_is shown g.T.Observer.heard c.args.level x c.args.limit _ _ s c.turns.board c.in-Some.end c.turns.invariant.turns (λ t u. sym (c.in-Some.ensures.end x t u)) (c.turns.invariant.midway x s st)).0
 
 pub returns-in-Some-clause-last : goal.returns-in-Some-clause-last
 returns-in-Some-clause-last g c =
     let shown = boxed (λ p. (goal.Device-dyn g p).shown p.1) in
     λ x s st.
-    (end_is shown g.T.Teller.heard c.args.level x c.args.limit _ _ s c.turns.board c.in-Some.end c.turns.invariant.turns (λ t u. sym (c.in-Some.ensures.end x t u)) (c.turns.invariant.midway x s st)).1
+    (end_is shown g.T.Observer.heard c.args.level x c.args.limit _ _ s c.turns.board c.in-Some.end c.turns.invariant.turns (λ t u. sym (c.in-Some.ensures.end x t u)) (c.turns.invariant.midway x s st)).1
 
 pub returns-in-Some-clause-whole : goal.returns-in-Some-clause-whole
 returns-in-Some-clause-whole g c =
     let shown = boxed (λ p. (goal.Device-dyn g p).shown p.1) in
     λ x s st.
-    whole_notes c.args.level x shown g.T.Teller.heard c.args.limit _ _ s c.turns.board c.in-Some.end c.turns.invariant.turns (λ t u. sym (c.in-Some.ensures.end x t u)) (c.turns.invariant.midway x s st)
+    whole_notes c.args.level x shown g.T.Observer.heard c.args.limit _ _ s c.turns.board c.in-Some.end c.turns.invariant.turns (λ t u. sym (c.in-Some.ensures.end x t u)) (c.turns.invariant.midway x s st)
 
 pub returns-in-Some-clause-noted : goal.returns-in-Some-clause-noted
 returns-in-Some-clause-noted g c =
     let shown = boxed (λ p. (goal.Device-dyn g p).shown p.1) in
     λ x s st.
-    all_few shown g.T.Teller.heard c.args.level x c.args.limit _ _ s c.turns.board c.in-Some.end c.turns.invariant.turns (λ t u. sym (c.in-Some.ensures.end x t u)) (c.turns.invariant.midway x s st)
+    all_few shown g.T.Observer.heard c.args.level x c.args.limit _ _ s c.turns.board c.in-Some.end c.turns.invariant.turns (λ t u. sym (c.in-Some.ensures.end x t u)) (c.turns.invariant.midway x s st)
 
 pub returns-in-Some-clause-midway : goal.returns-in-Some-clause-midway
 returns-in-Some-clause-midway g c =
     let shown = boxed (λ p. (goal.Device-dyn g p).shown p.1) in
-    λ x s st. midway_board shown g.T.Teller.heard c.args.level x _ _ s c.turns.board (c.turns.invariant.midway x s st)
+    λ x s st. midway_board shown g.T.Observer.heard c.args.level x _ _ s c.turns.board (c.turns.invariant.midway x s st)
 
 pub turns-preserved : goal.turns-preserved
 turns-preserved g c =
@@ -71,7 +71,7 @@ turns-preserved g c =
             turns = omega arith;
             few = c.advance.ensures.noted;
           } in
-          midway_turn shown g.T.Teller.heard c.args.level x c.hears_in_parts.ensures.parts n _ _ _ _ s b b' (notes_of b') h (omega arith) c.in_ok-due.ensures.told (c.turns.invariant.midway x s st);
+          midway_turn shown g.T.Observer.heard c.args.level x c.hears_in_parts.ensures.parts n _ _ _ _ s b b' (notes_of b') h (omega arith) c.in_ok-due.ensures.told (c.turns.invariant.midway x s st);
       stood = (stood.0, (turn_after c.args.level stood.0 n stood.1).state, a.stands);
       turns = omega (arith, c.advance.ensures.within, c.turns.invariant.due);
       due = c.in_ok-due.ensures.within;
@@ -93,7 +93,7 @@ returns-in_err-due-clause-midway g c =
       turns = omega arith;
       few = c.advance.ensures.noted;
     } in
-    turned_board shown g.T.Teller.heard c.args.level x n _ _ s b b' (notes_of b') h (c.turns.invariant.midway x s st)
+    turned_board shown g.T.Observer.heard c.args.level x n _ _ s b b' (notes_of b') h (c.turns.invariant.midway x s st)
 
 pub returns-in_err-due-clause-broken : goal.returns-in_err-due-clause-broken
 returns-in_err-due-clause-broken g c =
@@ -111,4 +111,4 @@ returns-in_err-due-clause-broken g c =
       turns = omega arith;
       few = c.advance.ensures.noted;
     } in
-    rw (p.1) (breaks_in_turn c.args.level x shown g.T.Teller.heard g.T.Teller.broke n _ _ _ _ s b b' (notes_of b') h (omega arith) c.in_err-due.ensures.told (c.turns.invariant.midway x s st))
+    rw (p.1) (breaks_in_turn c.args.level x shown g.T.Observer.heard g.T.Observer.broke n _ _ _ _ s b b' (notes_of b') h (omega arith) c.in_err-due.ensures.told (c.turns.invariant.midway x s st))

@@ -10,7 +10,7 @@ ending-requires boxes c = (c.requires.0, c.requires.1, c.requires.2, c.requires.
 
 pub returns : goal.returns
 returns boxes c = λ x turn h.
-    let turns = c.turns.ensures ∙ turns_at _ x c.args.timeline.now turn h in
+    let turns = c.turns.ensures ∙ turns_at _ x c.args.replay.now turn h in
     let now = c.now.ensures x h.state.0 h.state.1 ∙ same_now h.state.0 (state_at x turn) h.state.2 in
     let end = c.ending.ensures.end x turn h h.most in
     λ i. At (turns i) (now i) (end i)

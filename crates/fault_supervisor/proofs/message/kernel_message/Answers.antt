@@ -7,6 +7,6 @@ returns c =
     record {
       stands = λ g t h ready.
           let inside : c.args.caller < length t.state.tasks = omega (arith, c.requires.there, h.holds.count) in
-          record { holds = c.take_request.ensures.holds g t h; sane = sane-requested c.args.caller t h.sane inside };
-      frame = c.take_request.ensures.frame;
+          record { holds = c.kernel_message_rows.ensures.holds g t h; sane = sane-requested c.args.caller t h.sane inside };
+      frame = c.kernel_message_rows.ensures.frame;
     }

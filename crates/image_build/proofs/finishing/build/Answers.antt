@@ -4,7 +4,7 @@ use Rattle.std.proofs.lemmas.List.{get_or-map, length-map}
 use Rattle.std.proofs.lemmas.Result.{IfOk-weaker}
 use Rattle.app_toml.specs.Apps.{AppData}
 use Rattle.app_toml.specs.Held.{app_of}
-use Rattle.image_format.specs.Images.{picture}
+use Rattle.image_format.specs.Images.{image_data}
 use Rattle.image_build.specs.Built.{Built}
 use Rattle.image_build.specs.Accepted.{HasAccepted}
 use Rattle.image_build.proofs.Whole.{all_accepted, each_accepted, next_is, one_more, refuses_next}
@@ -58,7 +58,7 @@ accepted c = each_accepted _ c.loop-source.source-index c.loop-source.builder (d
 pub returns-clause-built : goal.returns-clause-built
 returns-clause-built c =
     let all : List (List ℕ) = map (λ v. v.items) c.args.sources.now in
-    IfOk-weaker c.finish.result _ _ (λ i h. subst (λ (a : AppData). Built a all (picture i)) c.loop-source.invariant.same (h all (accepted c))) c.finish.ensures.built
+    IfOk-weaker c.finish.result _ _ (λ i h. subst (λ (a : AppData). Built a all (image_data i)) c.loop-source.invariant.same (h all (accepted c))) c.finish.ensures.built
 
 pub returns-clause-accepted : goal.returns-clause-accepted
 returns-clause-accepted c =

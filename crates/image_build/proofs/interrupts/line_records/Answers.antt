@@ -1,7 +1,7 @@
 use Rattle.std.proofs.Common.{◌∙◌, ◌==◌, ◌++◌, List, ap, arith, filter, map}
 use Rattle.app_toml.specs.Apps.{InterruptData}
 use Rattle.app_toml.specs.Held.{app_of}
-use Rattle.image_format.specs.Picture.{line_record}
+use Rattle.image_format.specs.ImageData.{line_record}
 use Rattle.image_build.specs.Built.{line_built, lines_at}
 use Rattle.image_build.proofs.Finding.{lines_end, lines_more, owned_in}
 use Rattle.image_build.proofs.interrupts.line_records.Goals as goal

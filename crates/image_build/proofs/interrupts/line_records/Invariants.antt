@@ -1,7 +1,7 @@
 use Rattle.std.proofs.Common.{◌≡◌, ◌++◌, ◌-◌, map}
 use Rattle.std.specs.List.{flat_map, range_with_len}
 use Rattle.app_toml.specs.Held.{app_of}
-use Rattle.image_format.specs.Picture.{line_record}
+use Rattle.image_format.specs.ImageData.{line_record}
 use Rattle.image_build.specs.Built.{lines_at, lines_built}
 use Rattle.image_build.proofs.interrupts.line_records.Given as goal
 

@@ -1,7 +1,7 @@
 use Rattle.std.proofs.Common.{◌≡◌, ◌++◌, ◌==◌, drop, filter, map}
 use Rattle.app_toml.specs.Held.{app_of}
 use Rattle.app_toml.specs.Sites.{interrupt_of}
-use Rattle.image_format.specs.Picture.{line_record}
+use Rattle.image_format.specs.ImageData.{line_record}
 use Rattle.image_build.specs.Built.{line_built}
 use Rattle.image_build.proofs.interrupts.push_line.Given as goal
 

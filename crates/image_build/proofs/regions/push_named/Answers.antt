@@ -2,7 +2,7 @@ use Rattle.std.proofs.Common.{◌∙◌, ap, arith, rules}
 use Rattle.std.proofs.lemmas.Grind.{common_steps}
 use Rattle.app_toml.specs.Held.{app_of}
 use Rattle.app_toml.specs.Places.{Text}
-use Rattle.image_format.specs.Picture.{region_record}
+use Rattle.image_format.specs.ImageData.{region_record}
 use Rattle.image_build.specs.Layout.{named}
 use Rattle.image_build.proofs.Recorded.{named_more}
 use Rattle.image_build.proofs.regions.push_named.Goals as goal

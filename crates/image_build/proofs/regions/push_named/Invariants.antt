@@ -1,6 +1,6 @@
 use Rattle.std.proofs.Common.{◌≡◌, ◌++◌, drop, map, string_bytes}
 use Rattle.app_toml.specs.Held.{app_of}
-use Rattle.image_format.specs.Picture.{region_record}
+use Rattle.image_format.specs.ImageData.{region_record}
 use Rattle.image_build.specs.Layout.{named}
 use Rattle.image_build.proofs.regions.push_named.Given as goal
 

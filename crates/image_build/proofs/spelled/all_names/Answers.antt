@@ -4,7 +4,7 @@ use Rattle.std.specs.List.{flat_map}
 use Rattle.app_toml.specs.Apps.{TaskData}
 use Rattle.app_toml.specs.Held.{app_of}
 use Rattle.app_toml.specs.Sites.{task_of}
-use Rattle.image_format.specs.Picture.{names_bytes}
+use Rattle.image_format.specs.ImageData.{names_bytes}
 use Rattle.image_build.proofs.EachName.{bytes_more, flat_map_twice, names_built, short_in}
 use Rattle.image_build.proofs.spelled.all_names.Goals as goal
 

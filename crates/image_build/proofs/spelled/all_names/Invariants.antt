@@ -1,7 +1,7 @@
 use Rattle.std.proofs.Common.{◌≡◌, ◌++◌, drop, map, string_bytes}
 use Rattle.std.specs.List.{flat_map}
 use Rattle.app_toml.specs.Held.{app_of}
-use Rattle.image_format.specs.Picture.{all_names, names_bytes}
+use Rattle.image_format.specs.ImageData.{all_names, names_bytes}
 use Rattle.image_build.specs.Built.{tasks_from}
 use Rattle.image_build.proofs.spelled.all_names.Given as goal
 

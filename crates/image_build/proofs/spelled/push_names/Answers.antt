@@ -1,6 +1,6 @@
 use Rattle.std.proofs.Common.{◌++◌, List, ℕ, ap, arith, length, rules, string_bytes, sym}
 use Rattle.std.proofs.lemmas.Grind.{common_steps}
-use Rattle.image_format.specs.Picture.{name_bytes}
+use Rattle.image_format.specs.ImageData.{name_bytes}
 use Rattle.image_build.proofs.EachName.{bytes_more, flat_map_twice}
 use Rattle.image_build.proofs.spelled.push_names.Goals as goal
 

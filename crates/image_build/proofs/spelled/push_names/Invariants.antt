@@ -1,6 +1,6 @@
 use Rattle.std.proofs.Common.{◌≡◌, ◌++◌, drop, map, string_bytes}
 use Rattle.std.specs.List.{flat_map}
-use Rattle.image_format.specs.Picture.{name_bytes, names_bytes}
+use Rattle.image_format.specs.ImageData.{name_bytes, names_bytes}
 use Rattle.image_build.proofs.spelled.push_names.Given as goal
 
 abbrev pub invariant-loop-name : goal.invariant-loop-name

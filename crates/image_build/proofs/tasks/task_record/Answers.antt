@@ -1,6 +1,6 @@
 use Rattle.std.proofs.Common.{◌≡◌, ◌+◌, ap, length, rules}
 use Rattle.app_toml.specs.Held.{app_of}
-use Rattle.image_format.specs.Picture.{bit}
+use Rattle.image_format.specs.ImageData.{bit}
 use Rattle.image_build.proofs.Finding.{same_record}
 use Rattle.image_build.proofs.tasks.task_record.Goals as goal
 

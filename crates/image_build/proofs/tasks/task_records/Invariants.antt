@@ -1,6 +1,6 @@
 use Rattle.std.proofs.Common.{◌≡◌, ◌++◌, drop, map}
 use Rattle.app_toml.specs.Held.{app_of}
-use Rattle.image_format.specs.Picture.{task_record}
+use Rattle.image_format.specs.ImageData.{task_record}
 use Rattle.image_build.specs.Built.{tasks_from}
 use Rattle.image_build.proofs.tasks.task_records.Given as goal
 

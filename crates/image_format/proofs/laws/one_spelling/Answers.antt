@@ -1,5 +1,5 @@
 use Rattle.std.proofs.Common.{inr, refl}
-use Rattle.image_format.specs.Picture.{spelling}
+use Rattle.image_format.specs.ImageData.{spelling}
 use Rattle.image_format.proofs.Spellings.{same_image}
 use Rattle.image_format.proofs.laws.one_spelling.Goals as goal
 

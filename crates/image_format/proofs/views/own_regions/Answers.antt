@@ -1,7 +1,7 @@
 use Rattle.std.proofs.Common.{◌≡◌, ◌∙◌, ◌+◌, ◌-◌, ◌<◌, ℕ, List, length, drop, take, map, arith, ap, sym}
 use Rattle.image_format.specs.declared.records.TaskRecord.{TaskRecord}
 use Rattle.image_format.specs.declared.records.RegionRecord.{RegionRecord}
-use Rattle.image_format.specs.Picture.{region_of}
+use Rattle.image_format.specs.ImageData.{region_of}
 use Rattle.image_format.specs.Steps.{counted}
 use Rattle.image_format.proofs.Chunks.{blank}
 use Rattle.image_format.proofs.Limits.{few_tasks}

@@ -1,7 +1,7 @@
 use Rattle.std.proofs.Common.{◌∙◌, ◌<◌, length, arith, ap, sym, ◌==◌}
 use Rattle.std.proofs.lemmas.List.{get_or_default}
 use Rattle.image_format.specs.declared.records.TaskRecord.{TaskRecord}
-use Rattle.image_format.specs.Picture.{TaskPicture}
+use Rattle.image_format.specs.ImageData.{ImageTask}
 use Rattle.image_format.proofs.Chunks.{blank}
 use Rattle.image_format.proofs.Lookups.{task_looked}
 use Rattle.image_format.proofs.Shape.{tasks_length}
@@ -16,8 +16,8 @@ returns c =
     let e = c.index.ensures ∙ get_or_default tasks c.args.i c.index.result.now blank lt in
     let t = sym (task_looked tasks regions names c.args.i lt) in
     record {
-      priority = ap (λ (r : TaskRecord). r.priority) e ∙ ap (λ (p : TaskPicture). p.priority) t;
-      started = ap (λ (r : TaskRecord). r.flags == 1) e ∙ ap (λ (p : TaskPicture). p.started) t;
-      entry = ap (λ (r : TaskRecord). r.entry) e ∙ ap (λ (p : TaskPicture). p.entry) t;
-      sp = ap (λ (r : TaskRecord). r.sp) e ∙ ap (λ (p : TaskPicture). p.sp) t;
+      priority = ap (λ (r : TaskRecord). r.priority) e ∙ ap (λ (p : ImageTask). p.priority) t;
+      started = ap (λ (r : TaskRecord). r.flags == 1) e ∙ ap (λ (p : ImageTask). p.started) t;
+      entry = ap (λ (r : TaskRecord). r.entry) e ∙ ap (λ (p : ImageTask). p.entry) t;
+      sp = ap (λ (r : TaskRecord). r.sp) e ∙ ap (λ (p : ImageTask). p.sp) t;
     }

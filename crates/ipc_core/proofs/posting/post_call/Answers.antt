@@ -7,6 +7,6 @@ returns c =
     record {
       stands = λ g t h ready.
           let inside : c.args.caller < length t.state.tasks = omega (arith, c.requires.there, h.holds.count) in
-          record { holds = c.post_bits.ensures.holds g t h.holds; sane = sane-post_made c.args.caller t h.sane inside };
-      frame = c.post_bits.ensures.frame;
+          record { holds = c.post_rows.ensures.holds g t h.holds; sane = sane-post_made c.args.caller t h.sane inside };
+      frame = c.post_rows.ensures.frame;
     }

@@ -7,6 +7,6 @@ returns c =
     record {
       stands = λ g t h ready.
           let inside : c.args.caller < length t.state.tasks = omega (arith, c.requires.there, h.holds.count) in
-          record { holds = c.answer_present_id.ensures.holds g t h.holds; sane = sane-refreshed c.args.caller t h.sane inside };
-      frame = c.answer_present_id.ensures.frame;
+          record { holds = c.refresh_rows.ensures.holds g t h.holds; sane = sane-refreshed c.args.caller t h.sane inside };
+      frame = c.refresh_rows.ensures.frame;
     }

@@ -7,6 +7,6 @@ returns c =
     record {
       stands = λ g t h ready.
           let inside : c.args.caller < length t.state.tasks = omega (arith, c.requires.there, h.holds.count) in
-          record { holds = c.reply_fault_of.ensures.holds g t h; sane = sane-reply_faulted c.args.caller t h.sane inside };
-      frame = c.reply_fault_of.ensures.frame;
+          record { holds = c.reply_fault_rows.ensures.holds g t h; sane = sane-reply_faulted c.args.caller t h.sane inside };
+      frame = c.reply_fault_rows.ensures.frame;
     }

@@ -1,5 +1,5 @@
 use Rattle.std.proofs.Common.{◌≡◌, ℕ, ap, subst, arith}
-use Rattle.run_lanes.specs.declared.word.Word.{Word}
+use Rattle.run_lanes.specs.declared.activity.Activity.{Activity}
 use Rattle.run_lanes.specs.Counted.{Changed, counted}
 use Rattle.run_lanes.specs.Timeline.{word_at}
 use Rattle.run_lanes.proofs.Changes.{changed_here, changed_none}
@@ -15,7 +15,7 @@ loop-i-preserved c =
     let i = c.loop-i.i in
     let old = c.args.cells.now in
     changed_here (λ x. counted x c.word_at.result) (λ i x. counted x (word_at c.args.words.now i)) old c.loop-i.cells at i c.count.new.cell (omega arith) h c.count.ensures
-    (λ x. ap (λ (w : Word). counted x w) c.word_at.ensures)
+    (λ x. ap (λ (w : Activity). counted x w) c.word_at.ensures)
 
 pub returns : goal.returns
 returns c =

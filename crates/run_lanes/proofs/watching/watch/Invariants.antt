@@ -2,7 +2,7 @@ use Rattle.std.proofs.Common.{◌≡◌, ◌-◌, ◌≤◌, length}
 use Rattle.task_table.specs.model.State.{State}
 use Rattle.board_model.specs.Script.{Scenario}
 use Rattle.board_core.specs.Data.{boxed}
-use Rattle.board_core.specs.Stands.{Stands, Stood, turns_of}
+use Rattle.board_core.specs.Stands.{Stands, StandsForSome, turns_of}
 use Rattle.run_lanes.specs.Seen.{Paired, HasWatched}
 use Rattle.run_lanes.proofs.watching.watch.Given as goal
 
@@ -11,7 +11,7 @@ invariant-turns g l =
     let shown = boxed (λ p. (goal.Device-dyn g p).shown p.1) in
     record {
       seen : (x : Scenario) (s : State) → Stands shown x l.fn.board s → HasWatched shown (Paired g.W.Watcher.saw) x (l.fn.watcher, l.fn.out) (l.watcher, l.out) s l.board;
-      stood : Stood shown l.board;
+      stood : StandsForSome shown l.board;
       turns : turns_of l.board ≤ l.limit;
       one_each : (x : Scenario) (s : State) → Stands shown x l.fn.board s → length l.words ≡ length x.setup.tasks;
     }

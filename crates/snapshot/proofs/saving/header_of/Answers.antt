@@ -1,5 +1,5 @@
 use Rattle.std.proofs.Common.{◌∙◌}
-use Rattle.snapshot.proofs.Stood.{header_stood}
+use Rattle.snapshot.proofs.StandsForSome.{header_stood}
 use Rattle.snapshot.proofs.saving.header_of.Goals as goal
 
 pub returns : goal.returns

@@ -4,7 +4,7 @@ use Rattle.kernel_abi.specs.Devices.{DeviceData, device_at}
 use Rattle.snapshot.specs.declared.records.DeviceRecord.{DeviceRecord}
 use Rattle.snapshot.specs.Records.{device_bytes}
 use Rattle.snapshot.specs.Saved.{device_told}
-use Rattle.snapshot.proofs.Stood.{as_long}
+use Rattle.snapshot.proofs.StandsForSome.{as_long}
 use Rattle.snapshot.proofs.Written.{written_more, each_by_index}
 use Rattle.snapshot.proofs.saving.save_devices.Goals as goal
 

@@ -5,7 +5,7 @@ use Rattle.board_model.specs.Alike.{reduced}
 use Rattle.snapshot.specs.declared.records.Header.{Header}
 use Rattle.snapshot.specs.Records.{task_bytes, device_bytes, header_bytes}
 use Rattle.snapshot.specs.Saved.{parts_of}
-use Rattle.snapshot.proofs.Stood.{as_long, large_stood, spelling_long, spells}
+use Rattle.snapshot.proofs.StandsForSome.{as_long, large_stood, spelling_long, spells}
 use Rattle.snapshot.proofs.Written.{five_written}
 use Rattle.snapshot.proofs.saving.save_into.Goals as goal
 

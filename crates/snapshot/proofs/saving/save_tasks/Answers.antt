@@ -3,7 +3,7 @@ use Rattle.std.specs.List.{flat_map, range_with_len}
 use Rattle.board_model.specs.Alike.{reduced}
 use Rattle.snapshot.specs.Records.{task_bytes}
 use Rattle.snapshot.specs.Saved.{record_of}
-use Rattle.snapshot.proofs.Stood.{as_long}
+use Rattle.snapshot.proofs.StandsForSome.{as_long}
 use Rattle.snapshot.proofs.Written.{written_more}
 use Rattle.snapshot.proofs.saving.save_tasks.Goals as goal
 

@@ -1,5 +1,5 @@
 use Rattle.std.proofs.Common.{arith}
-use Rattle.snapshot.proofs.Stood.{spelling_long}
+use Rattle.snapshot.proofs.StandsForSome.{spelling_long}
 use Rattle.snapshot.proofs.saving.saved_len.Goals as goal
 
 pub returns : goal.returns

@@ -7,6 +7,6 @@ returns c =
     record {
       stands = λ g t h ready.
           let inside : c.args.caller < length t.state.tasks = omega (arith, c.requires.there, h.holds.count) in
-          record { holds = c.tell_status.ensures.holds g t h.holds; sane = sane-irq_answered c.args.caller t h.sane inside };
-      frame = c.tell_status.ensures.frame;
+          record { holds = c.irq_status_rows.ensures.holds g t h.holds; sane = sane-irq_answered c.args.caller t h.sane inside };
+      frame = c.irq_status_rows.ensures.frame;
     }

@@ -7,6 +7,6 @@ returns c =
     record {
       stands = λ g t h ready.
           let inside : c.args.caller < length t.state.tasks = omega (arith, c.requires.there, h.holds.count) in
-          record { holds = c.control_lines.ensures.holds g t h.holds; sane = sane-irq_controlled c.args.caller t h.sane inside };
-      frame = c.control_lines.ensures.frame;
+          record { holds = c.irq_control_rows.ensures.holds g t h.holds; sane = sane-irq_controlled c.args.caller t h.sane inside };
+      frame = c.irq_control_rows.ensures.frame;
     }

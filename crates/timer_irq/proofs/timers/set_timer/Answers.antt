@@ -7,6 +7,6 @@ returns c =
     record {
       stands = λ g t h ready.
           let inside : c.args.caller < length t.state.tasks = omega (arith, c.requires.there, h.holds.count) in
-          record { holds = c.start_timer.ensures.holds g t h.holds; sane = sane-timer_set c.args.caller t h.sane inside };
-      frame = c.start_timer.ensures.frame;
+          record { holds = c.set_timer_rows.ensures.holds g t h.holds; sane = sane-timer_set c.args.caller t h.sane inside };
+      frame = c.set_timer_rows.ensures.frame;
     }

@@ -1,24 +1,24 @@
 use Rattle.std.proofs.lemmas.Result.{IfOk-weaker, IfErr-weaker}
-use Rattle.image_format.specs.Images.{picture}
+use Rattle.image_format.specs.Images.{image_data}
 use Rattle.trace_cli.proofs.Readying.{image_ready, set_there, script_faults, image_faults}
 use Rattle.outside_io.proofs.OnlyReading.{reads_more}
 use Rattle.trace_cli.proofs.preparing.prepare_run.Goals as goal
 
 pub returns-in-Ok-clause-ready : goal.returns-in-Ok-clause-ready
 returns-in-Ok-clause-ready g c = λ job verdict runs.
-    IfOk-weaker c.set_up.result _ _ (λ b h. image_ready (g.F.Files.seen c.args.files.now).contents job verdict c.args.image.now c.args.script.now (picture c.in-Ok.picture) b runs c.in-Ok.ensures.image
+    IfOk-weaker c.set_up.result _ _ (λ b h. image_ready (g.F.Files.seen c.args.files.now).contents job verdict c.args.image.now c.args.script.now (image_data c.in-Ok.image_data) b runs c.in-Ok.ensures.image
     (set_there c.in-Ok.ensures.only_reads.contents h)) c.set_up.ensures.set
 
 pub returns-in-Ok-clause-set : goal.returns-in-Ok-clause-set
 returns-in-Ok-clause-set g c =
-    IfOk-weaker c.set_up.result _ _ (λ b h. record { picture = picture c.in-Ok.picture; of_image = c.in-Ok.ensures.image; set = set_there c.in-Ok.ensures.only_reads.contents h }) c.set_up.ensures.set
+    IfOk-weaker c.set_up.result _ _ (λ b h. record { image_data = image_data c.in-Ok.image_data; of_image = c.in-Ok.ensures.image; set = set_there c.in-Ok.ensures.only_reads.contents h }) c.set_up.ensures.set
 
 pub returns-in-Ok-clause-named_fault : goal.returns-in-Ok-clause-named_fault
 returns-in-Ok-clause-named_fault g c = λ job takes.
     let a = g.F.Files.seen c.args.files.now in
     let b = g.F.Files.seen c.read_image.new.files in
     let e = g.F.Files.seen c.set_up.new.files in
-    IfErr-weaker c.set_up.result _ _ (λ h is. script_faults a b e job c.args.image.now c.args.script.now (picture c.in-Ok.picture) h takes c.in-Ok.ensures.image c.in-Ok.ensures.only_reads.contents c.in-Ok.ensures.only_reads.later is) c.set_up.ensures.named_fault
+    IfErr-weaker c.set_up.result _ _ (λ h is. script_faults a b e job c.args.image.now c.args.script.now (image_data c.in-Ok.image_data) h takes c.in-Ok.ensures.image c.in-Ok.ensures.only_reads.contents c.in-Ok.ensures.only_reads.later is) c.set_up.ensures.named_fault
 
 pub returns-in-Err-clause-named_fault : goal.returns-in-Err-clause-named_fault
 returns-in-Err-clause-named_fault g c = λ job takes.

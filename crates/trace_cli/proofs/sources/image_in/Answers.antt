@@ -1,14 +1,14 @@
 use Rattle.std.proofs.Common.{sym, subst, ℕ}
-use Rattle.image_format.specs.Images.{picture}
+use Rattle.image_format.specs.Images.{image_data}
 use Rattle.trace_cli.specs.FileFaults.{IsFaultFor}
 use Rattle.trace_cli.proofs.Refusals.{image_taken, image_refused}
 use Rattle.trace_cli.proofs.sources.image_in.Goals as goal
 
 pub returns-in-Ok-clause-accepted : goal.returns-in-Ok-clause-accepted
-returns-in-Ok-clause-accepted c = (image_taken c.args.bytes.now (picture c.in-Ok.image) c.requires c.in-Ok.ensures.ok).0
+returns-in-Ok-clause-accepted c = (image_taken c.args.bytes.now (image_data c.in-Ok.image) c.requires c.in-Ok.ensures.ok).0
 
 pub returns-in-Ok-clause-image : goal.returns-in-Ok-clause-image
-returns-in-Ok-clause-image c = (image_taken c.args.bytes.now (picture c.in-Ok.image) c.requires c.in-Ok.ensures.ok).1
+returns-in-Ok-clause-image c = (image_taken c.args.bytes.now (image_data c.in-Ok.image) c.requires c.in-Ok.ensures.ok).1
 
 pub returns-in-Err-Refused-clause-file_fault : goal.returns-in-Err-Refused-clause-file_fault
 returns-in-Err-Refused-clause-file_fault c =

@@ -31,7 +31,7 @@ happen-requires-clause-stands boxes c =
         turns = st.holds.turns;
         choice = (s, st.sane, st.holds.choice);
         script = st.holds.script;
-        ports = st.holds.ports;
+        io_regions = st.holds.io_regions;
         counted = st.counted;
         nothing = c.begin.ensures.count;
       },
@@ -45,7 +45,7 @@ returns-then-is_due-clause-midway boxes c = λ x s st.
       turns = st.holds.turns;
       choice = (s, st.sane, st.holds.choice);
       script = st.holds.script;
-      ports = st.holds.ports;
+      io_regions = st.holds.io_regions;
       counted = st.counted;
       nothing = c.begin.ensures.count;
     }
@@ -66,7 +66,7 @@ returns-else-is_due-clause-midway boxes c =
       machine = subst A (no_event x s none) (begun_stands _ x s b c.begin.new.self st (c.begin.ensures.holds x.setup (rested b.machine s)));
       choice = subst C same st.holds.choice;
       script = st.holds.script;
-      ports = st.holds.ports;
+      io_regions = st.holds.io_regions;
       due = due_later x.script s.turn b.due st.holds.due later;
     }
 

@@ -1,5 +1,5 @@
 use Rattle.std.specs.Prelude.{map, vec_items}
-use Rattle.board_core.specs.fast.Ports.{AllPorts}
+use Rattle.board_core.specs.fast.IoRegions.{AllIoRegions}
 use Rattle.std.proofs.Common.{ℕ, Option, sym, ◌∙◌, ap, subst, arith}
 use Rattle.run_script.specs.Events.{script_data}
 use Rattle.run_script.specs.Scripts.{IsNext}
@@ -64,7 +64,7 @@ returns-clause-made boxes c =
           turns = let a = st.holds.turns in let r = c.renew.ensures.turns in omega (arith, more, a, r);
           choice = c.renew.ensures.choice x.setup (rested m (turn Calls x s).state) after ((after_events x s).state, sane-after_events x s st.sane, mid.choice) (λ none. choice_kept shown Calls x s m _ st.sane h mid.choice (omega (arith, none)));
           script = ap (λ (script : Script). script_data script) c.renew.ensures.script ∙ mid.script;
-          ports = subst (λ ports. AllPorts x.setup (map vec_items ports.items)) (sym c.renew.ensures.ports) mid.ports;
+          io_regions = subst (λ io_regions. AllIoRegions x.setup (map vec_items io_regions.items)) (sym c.renew.ensures.io_regions) mid.io_regions;
           due = subst D (sym c.renew.ensures.due) (subst N (sym more) mid.due);
         };
         sane = after.sane;

@@ -24,7 +24,7 @@ glide-glided-requires boxes c =
     let x = c.requires.may.stood.0 in
     let s = c.requires.may.stood.1 in
     let st = c.requires.may.stood.2 in
-    below _ _ x.setup c.begin.new.self.reach _ _ c.args.task (c.begin.ensures.holds x.setup (rested b.machine s) st.holds.machine) (chosen_is s c.args.task st.sane (sym st.holds.choice.next ∙ c.requires.next)).inside
+    below _ _ x.setup c.begin.new.self.space _ _ c.args.task (c.begin.ensures.holds x.setup (rested b.machine s) st.holds.machine) (chosen_is s c.args.task st.sane (sym st.holds.choice.next ∙ c.requires.next)).inside
 
 pub returns : goal.returns
 returns boxes c =

@@ -35,13 +35,13 @@ returns-clause-midway boxes c =
     let A : Turn → Type 0 = λ t. MachineStands shown g c.happen_all.new.self t in
     let after : MachineStands shown g c.happen_all.new.self (after_events x s) = subst A (all_events x s) (subst T due.turns (subst S due.script (c.happen_all.ensures.stands g (begun s) due.machine))) in
     let saved = c.save_context.ensures.holds g (after_events x s) after.holds in
-    let stands : Stands g c.save_context.new.self.reach.kernel (after_events x s) = record { holds = saved.kernel; sane = after.sane } in
+    let stands : Stands g c.save_context.new.self.space.kernel (after_events x s) = record { holds = saved.kernel; sane = after.sane } in
     let N : ScriptData → Type 0 = λ script. IsNext script (b.turns + 1) c.next_from-self.result in
     let M : ℕ → Type 0 = λ turn. IsNext x.script (turn + 1) c.next_from-self.result in
     record {
       machine = unloaded_stands _ g m (after_events x s) c.save_context.ensures.unloaded stands saved.devices;
       choice = c.renew_choice.ensures g (after_events x s) stands.holds due.choice;
       script = due.script;
-      ports = due.ports;
+      io_regions = due.io_regions;
       due = subst M due.turns (subst N due.script c.next_from-self.ensures);
     }

@@ -3,9 +3,9 @@ use Rattle.task_table.specs.model.State.{State}
 use Rattle.std.specs.Prelude.{map, vec_items}
 use Rattle.task_table.specs.model.Start.{begun}
 use Rattle.board_model.proofs.TurnChains.{chosen_is}
-use Rattle.board_core.specs.fast.Ports.{AllPorts}
+use Rattle.board_core.specs.fast.IoRegions.{AllIoRegions}
 use Rattle.board_core.proofs.Loading.{below}
-use Rattle.board_core.proofs.fast.Ports.{same_again}
+use Rattle.board_core.proofs.fast.IoRegions.{same_again}
 use Rattle.board_core.proofs.Turning.{rested}
 use Rattle.board_model.specs.Script.{Scenario}
 use Rattle.board_core.specs.Stands.{Stands}
@@ -14,8 +14,8 @@ use Rattle.board_core.proofs.fast.Windowing.{IsMade, made_by, ports_inside, own_
 use Rattle.board_core.specs.fast.Stops.{stops_at}
 use Rattle.board_core.proofs.board.Board.poll_on.Goals as goal
 
-pub index_mut-ports-requires : goal.index_mut-ports-requires
-index_mut-ports-requires boxes c =
+pub index_mut-io_regions-requires : goal.index_mut-io_regions-requires
+index_mut-io_regions-requires boxes c =
     let s = c.requires.may.stood.1 in
     let st = c.requires.may.stood.2 in
     ports_inside _ _ s c.args.self.now st c.args.task (chosen_is s c.args.task st.sane (sym st.holds.choice.next ∙ c.requires.next)).inside
@@ -27,7 +27,7 @@ poll-glided-requires boxes c =
     let x = c.requires.may.stood.0 in
     let s = c.requires.may.stood.1 in
     let st = c.requires.may.stood.2 in
-    below _ _ x.setup c.begin.new.self.reach _ _ c.args.task (c.begin.ensures.holds x.setup (rested b.machine s) st.holds.machine) (chosen_is s c.args.task st.sane (sym st.holds.choice.next ∙ c.requires.next)).inside
+    below _ _ x.setup c.begin.new.self.space _ _ c.args.task (c.begin.ensures.holds x.setup (rested b.machine s) st.holds.machine) (chosen_is s c.args.task st.sane (sym st.holds.choice.next ∙ c.requires.next)).inside
 
 pub returns : goal.returns
 returns boxes c =
@@ -38,12 +38,12 @@ returns boxes c =
     let calls = c.poll-glided.result.at_syscall in
     let made : (x : Scenario) (s : State) → Stands shown x b s → IsMade shown (stops_at c.args.breakpoints.now c.args.watched) x s c.args.task c.args.until b _ calls = λ x s st.
     let inside = (chosen_is s c.args.task st.sane (sym st.holds.choice.next ∙ r.next)).inside in
-    let own = own_list _ x s b st c.args.task _ _ inside c.index_mut-ports.ensures.value in
+    let own = own_list _ x s b st c.args.task _ _ inside c.index_mut-io_regions.ensures.value in
     made_by shown _ x s b c.begin.new.self c.poll-glided.new.self c.args.task c.poll-glided.result.made c.args.until calls st (c.begin.ensures.holds x.setup (rested b.machine s) st.holds.machine) r.next r.up r.may.few r.left glided.within r.may.later glided.count (λ t stands here ready. glided.glided x.setup t stands here ready (sym own)) in
-    let same = sym (same_again b.ports.items c.args.task c.poll-glided.new.ports _ (glided.ports ∙ c.index_mut-ports.ensures.value)) in
+    let same = sym (same_again b.io_regions.items c.args.task c.poll-glided.new.io_regions _ (glided.io_regions ∙ c.index_mut-io_regions.ensures.value)) in
     record {
       fast = record {
-        glided = λ x s st. glidden_ports _ _ x s _ _ _ (made x s st).glidden (subst (λ lists. AllPorts x.setup (map vec_items lists)) same st.holds.ports);
+        glided = λ x s st. glidden_ports _ _ x s _ _ _ (made x s st).glidden (subst (λ lists. AllIoRegions x.setup (map vec_items lists)) same st.holds.io_regions);
         more = omega arith;
         within = λ less. omega (arith, r.left, glided.within);
       };

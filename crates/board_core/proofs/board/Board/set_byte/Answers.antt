@@ -23,9 +23,9 @@ returns-clause-holds boxes c = λ x s h.
     let y : Scenario = with_flash u.memory.flash x in
     let saved = c.save_context.ensures.holds x.setup (rested b.machine s) h.machine in
     let K : List ℕ → Type 0 = λ flash. KernelHolds (with_flash flash x).setup c.set_byte.new.self (rested b.machine u) in
-    let flash = flash_set x.setup c.save_context.new.self.reach.kernel c.set_byte.new.self (rested b.machine s) c.args.addr bytes saved.kernel c.set_byte.ensures.memory in
+    let flash = flash_set x.setup c.save_context.new.self.space.kernel c.set_byte.new.self (rested b.machine s) c.args.addr bytes saved.kernel c.set_byte.ensures.memory in
     let kernel : KernelHolds y.setup c.set_byte.new.self (rested b.machine u) = subst K flash (c.set_byte.ensures.holds x.setup (rested b.machine s) saved.kernel) in
-    holds_told _ x y s u b _ h refl refl record { kernel = kernel; devices = saved.devices } c.save_context.ensures.unloaded (choice_stays x.setup s b.choice u.memory.flash u.memory u.turn u.now u.next_call u.lines h.choice) refl refl refl record { count = h.ports.count; each = h.ports.each }
+    holds_told _ x y s u b _ h refl refl record { kernel = kernel; devices = saved.devices } c.save_context.ensures.unloaded (choice_stays x.setup s b.choice u.memory.flash u.memory u.turn u.now u.next_call u.lines h.choice) refl refl refl record { count = h.io_regions.count; each = h.io_regions.each }
 
 pub returns-clause-ram : goal.returns-clause-ram
 returns-clause-ram boxes c = λ high x s h.
@@ -33,5 +33,5 @@ returns-clause-ram boxes c = λ high x s h.
     let bytes = c.args.v ∷ [] in
     let u : State = record s { memory = with_bytes s.memory c.args.addr bytes } in
     let saved = c.save_context.ensures.holds x.setup (rested b.machine s) h.machine in
-    let flash = flash_stays x.setup c.save_context.new.self.reach.kernel (rested b.machine s) c.args.addr bytes saved.kernel high in
+    let flash = flash_stays x.setup c.save_context.new.self.space.kernel (rested b.machine s) c.args.addr bytes saved.kernel high in
     same_flash _ x _ u u.memory.flash flash (returns-clause-holds boxes c x s h)

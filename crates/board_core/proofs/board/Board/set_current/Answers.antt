@@ -10,4 +10,4 @@ returns-clause-holds boxes c = λ x s h.
     let u : State = record s { current = c.args.v } in
     let saved = c.save_context.ensures.holds x.setup (rested b.machine s) h.machine in
     let kernel = c.set_current.ensures.holds x.setup (rested b.machine s) saved.kernel in
-    holds_told _ x x s u b _ h refl refl record { kernel = kernel; devices = saved.devices } c.save_context.ensures.unloaded (c.choice_of-self.ensures x.setup (rested b.machine u) kernel) refl refl refl h.ports
+    holds_told _ x x s u b _ h refl refl record { kernel = kernel; devices = saved.devices } c.save_context.ensures.unloaded (c.choice_of-self.ensures x.setup (rested b.machine u) kernel) refl refl refl h.io_regions

@@ -29,5 +29,5 @@ returns-clause-holds boxes c = λ x s h.
     let set : List DeviceData → List DeviceData = λ ds. with_device ds c.args.k record (device_at ds c.args.k) { count = c.args.count; queue = c.args.queue.now } in
     let u : State = record s { devices = set s.devices } in
     let saved = c.save_context.ensures.holds x.setup (rested b.machine s) h.machine in
-    let kernel = holds_devices x.setup (kept_of c.save_context.new.self.reach.kernel) (rested b.machine s) (set s.devices) saved.kernel in
-    holds_told _ x x s u b _ h refl refl record { kernel = kernel; devices = c.set.ensures ∙ ap set saved.devices } c.save_context.ensures.unloaded (choice_of_devices x.setup s b.choice u.devices h.choice) refl refl refl h.ports
+    let kernel = holds_devices x.setup (kept_of c.save_context.new.self.space.kernel) (rested b.machine s) (set s.devices) saved.kernel in
+    holds_told _ x x s u b _ h refl refl record { kernel = kernel; devices = c.set.ensures ∙ ap set saved.devices } c.save_context.ensures.unloaded (choice_of_devices x.setup s b.choice u.devices h.choice) refl refl refl h.io_regions

@@ -14,4 +14,4 @@ returns-clause-holds boxes c = λ x s h.
     let u : State = record s { lines = set s.lines c.args.k line } in
     let saved = c.save_context.ensures.holds x.setup (rested b.machine s) h.machine in
     let kernel = c.set_line.ensures.holds x.setup (rested b.machine s) saved.kernel in
-    holds_told _ x x s u b _ h refl refl record { kernel = kernel; devices = saved.devices } c.save_context.ensures.unloaded (choice_stays x.setup s b.choice x.setup.flash u.memory u.turn u.now u.next_call u.lines h.choice) refl refl refl h.ports
+    holds_told _ x x s u b _ h refl refl record { kernel = kernel; devices = saved.devices } c.save_context.ensures.unloaded (choice_stays x.setup s b.choice x.setup.flash u.memory u.turn u.now u.next_call u.lines h.choice) refl refl refl h.io_regions

@@ -21,4 +21,4 @@ returns-clause-holds boxes c = λ x s h.
     let saved = c.save_context.ensures.holds x.setup (rested b.machine s) h.machine in
     let K : Slot → Type 0 = λ slot. KernelHolds x.setup c.set_task.new.self (changed (with_slot i slot) (rested b.machine s)) in
     let kernel : KernelHolds x.setup c.set_task.new.self (rested b.machine u) = subst K c.slot.ensures (c.set_task.ensures.holds x.setup (rested b.machine s) saved.kernel) in
-    holds_told _ x x s u b _ h refl (turn-with_slot i told s) record { kernel = kernel; devices = saved.devices ∙ sym (devices-with_slot i told s) } c.save_context.ensures.unloaded (c.choice_of-self.ensures x.setup (rested b.machine u) kernel) refl refl refl h.ports
+    holds_told _ x x s u b _ h refl (turn-with_slot i told s) record { kernel = kernel; devices = saved.devices ∙ sym (devices-with_slot i told s) } c.save_context.ensures.unloaded (c.choice_of-self.ensures x.setup (rested b.machine u) kernel) refl refl refl h.io_regions

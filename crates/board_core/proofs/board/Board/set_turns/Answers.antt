@@ -11,10 +11,10 @@ returns-clause-holds boxes c = λ x s h.
     let n = c.args.v in
     let N : ScriptData → Type 0 = λ d. IsNext d n c.next-self.result in
     record {
-      machine = between_by _ b.machine.loaded x.setup b.machine.reach b.machine.glider.runner.processor (rested b.machine s) n h.machine;
+      machine = between_by _ b.machine.loaded x.setup b.machine.space b.machine.glider.runner.processor (rested b.machine s) n h.machine;
       turns = refl;
       choice = choice_stays x.setup s b.choice x.setup.flash s.memory n s.now s.next_call s.lines h.choice;
       script = h.script;
-      ports = h.ports;
+      io_regions = h.io_regions;
       due = subst N h.script c.next-self.ensures;
     }

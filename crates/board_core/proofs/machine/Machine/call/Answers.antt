@@ -15,7 +15,7 @@ load_context-requires boxes c =
     let t = c.requires.next.1 in
     let n = c.requires.next.2 in
     let is = chosen_is t.state c.args.task n.stands.sane (sym n.is) in
-    below _ _ g c.args.self.now.reach _ t c.args.task n.stands.holds is.inside
+    below _ _ g c.args.self.now.space _ t c.args.task n.stands.holds is.inside
 
 pub syscall-requires : goal.syscall-requires
 syscall-requires boxes c =

@@ -1,6 +1,6 @@
 use Rattle.std.proofs.Common.{sym, ◌∙◌, ap, arith}
 use Rattle.task_table.specs.kept.Holds.{note_count}
-use Rattle.board_core.specs.declared.reach.Reach.{Reach}
+use Rattle.board_core.specs.declared.space.AddressSpace.{AddressSpace}
 use Rattle.board_core.specs.Machine.{MachineHolds}
 use Rattle.board_core.proofs.Running.{moves_hold, moves_notes, was_next, was_syscall, was_trap, moves_few}
 use Rattle.board_model.proofs.Stepping.{trap_known}
@@ -32,7 +32,7 @@ syscall-requires boxes c =
     let w = was_syscall _ _ _ _ _ _ _ c.exec.ensures c.in-Call.is in
     record {
       ready = (may.ready.0, may.ready.1, ready_same _ _ _ _ _ _ w.1 w.2 may.ready.2, may.ready.3);
-      room = let same = ap (λ (r : Reach _ _). note_count r.kernel) w.1 in let room = may.room in omega (arith, room, same);
+      room = let same = ap (λ (r : AddressSpace _ _). note_count r.kernel) w.1 in let room = may.room in omega (arith, room, same);
     }
 
 pub returns-in-Next : goal.returns-in-Next
@@ -57,7 +57,7 @@ returns-in-Call boxes c =
     let shown = boxed (λ p. (goal.Device-dyn boxes p).shown p.1) in
     let w = was_syscall _ _ _ _ _ _ _ c.exec.ensures c.in-Call.is in
     let few = c.syscall.ensures.count in
-    let same = ap (λ (r : Reach _ _). note_count r.kernel) w.1 in
+    let same = ap (λ (r : AddressSpace _ _). note_count r.kernel) w.1 in
     record {
       holds = λ g t r.
           let here = effect_loaded _ g _ _ t c.args.insn.now r.holds r.sane.steady.current in
@@ -70,7 +70,7 @@ returns-in-Trap boxes c =
     let shown = boxed (λ p. (goal.Device-dyn boxes p).shown p.1) in
     let w = was_trap _ _ _ _ _ _ _ _ c.exec.ensures c.in-Trap.is in
     let few = c.fault.ensures.count in
-    let same = ap (λ (r : Reach _ _). note_count r.kernel) w.1 in
+    let same = ap (λ (r : AddressSpace _ _). note_count r.kernel) w.1 in
     record {
       holds = λ g t r.
           let here = effect_loaded _ g _ _ t c.args.insn.now r.holds r.sane.steady.current in

@@ -20,7 +20,7 @@ pub returns-in-Tick-clause-stands : goal.returns-in-Tick-clause-stands
 returns-in-Tick-clause-stands boxes c =
     let shown = boxed (λ p. (goal.Device-dyn boxes p).shown p.1) in
     λ g t st.
-    let m : Machine _ _ = record c.save_context.new.self { reach = record c.save_context.new.self.reach { kernel = c.tick.new.k } } in
+    let m : Machine _ _ = record c.save_context.new.self { space = record c.save_context.new.self.space { kernel = c.tick.new.k } } in
     let P : Event → Type 0 = λ event. MachineStands shown g m (happened g t event) in
     let h = c.save_context.ensures.holds g t st.holds in
     subst P (sym c.in-Tick.is) (unloaded_stands _ g m (ticked t) c.save_context.ensures.unloaded (c.tick.ensures.stands g t record { holds = h.kernel; sane = st.sane }) (h.devices ∙ sym (devices-ticked t)))
@@ -29,7 +29,7 @@ pub returns-in-Irq-clause-stands : goal.returns-in-Irq-clause-stands
 returns-in-Irq-clause-stands boxes c =
     let shown = boxed (λ p. (goal.Device-dyn boxes p).shown p.1) in
     λ g t st.
-    let m : Machine _ _ = record c.save_context.new.self { reach = record c.save_context.new.self.reach { kernel = c.interrupt.new.k } } in
+    let m : Machine _ _ = record c.save_context.new.self { space = record c.save_context.new.self.space { kernel = c.interrupt.new.k } } in
     let P : Event → Type 0 = λ event. MachineStands shown g m (happened g t event) in
     let h = c.save_context.ensures.holds g t st.holds in
     subst P (sym c.in-Irq.is) (unloaded_stands _ g m (interrupted g c.in-Irq.line t) c.save_context.ensures.unloaded (c.interrupt.ensures.stands g t record { holds = h.kernel; sane = st.sane }) (h.devices ∙ sym (aside-interrupted g c.in-Irq.line t).devices))
@@ -38,21 +38,21 @@ pub returns-in-Feed-clause-stands : goal.returns-in-Feed-clause-stands
 returns-in-Feed-clause-stands boxes c =
     let shown = boxed (λ p. (goal.Device-dyn boxes p).shown p.1) in
     λ g t st.
-    let m : Machine _ _ = record c.save_context.new.self { reach = record c.save_context.new.self.reach { kernel = c.note.new.self; devices = c.feed-fed.new.self } } in
+    let m : Machine _ _ = record c.save_context.new.self { space = record c.save_context.new.self.space { kernel = c.note.new.self; devices = c.feed-fed.new.self } } in
     let P : Event → Type 0 = λ event. MachineStands shown g m (happened g t event) in
     let h = c.save_context.ensures.holds g t st.holds in
     let at : ℕ = c.in-Feed.device in
     let byte : ℕ = c.in-Feed.byte in
     let n = note.In at byte c.feed-fed.result in
     let u : Turn = with_devices (devices_fed t.state.devices at byte) t in
-    let told : c.feed-fed.result ≡ feed_answer t.state.devices at = c.feed-fed.ensures.told ∙ ap (λ (i : ℕ). feed_answer (data_of shown c.save_context.new.self.reach.devices) i) c.from.ensures ∙ ap (λ (ds : List DeviceData). feed_answer ds at) h.devices in
+    let told : c.feed-fed.result ≡ feed_answer t.state.devices at = c.feed-fed.ensures.told ∙ ap (λ (i : ℕ). feed_answer (data_of shown c.save_context.new.self.space.devices) i) c.from.ensures ∙ ap (λ (ds : List DeviceData). feed_answer ds at) h.devices in
     let small : byte < 256 = omega arith in
     let same : noted n u ≡ fed at (byte % 256) t = fed_noted at byte c.feed-fed.result t small told in
     let sane : Sane g (fed at (byte % 256) t).state = sane-fed at (byte % 256) t (omega arith) st.sane in
     let S : Turn → Type 0 = λ v. Sane g v.state in
     let Q : Turn → Type 0 = λ v. MachineStands shown g m v in
     let kernel = c.note.ensures.holds g u (holds_devices g _ t (devices_fed t.state.devices at byte) h.kernel) in
-    let devices = c.feed-fed.ensures.after ∙ ap (λ (i : ℕ). devices_fed (data_of shown c.save_context.new.self.reach.devices) i byte) c.from.ensures ∙ ap (λ (ds : List DeviceData). devices_fed ds at byte) h.devices ∙ fed_devices n t (devices_fed t.state.devices at byte) in
+    let devices = c.feed-fed.ensures.after ∙ ap (λ (i : ℕ). devices_fed (data_of shown c.save_context.new.self.space.devices) i byte) c.from.ensures ∙ ap (λ (ds : List DeviceData). devices_fed ds at byte) h.devices ∙ fed_devices n t (devices_fed t.state.devices at byte) in
     subst P (sym c.in-Feed.is) (subst Q same (unloaded_stands _ g m (noted n u) c.save_context.ensures.unloaded record { holds = kernel; sane = subst S (sym same) sane } devices))
 
 pub tick-requires-clause-small : goal.tick-requires-clause-small

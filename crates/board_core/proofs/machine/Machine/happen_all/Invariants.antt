@@ -15,6 +15,6 @@ abbrev pub invariant-loop-k : goal.invariant-loop-k
 invariant-loop-k boxes l =
     let shown = boxed (λ p. (goal.Device-dyn boxes p).shown p.1) in
     record {
-      room : note_count l.self.reach.kernel ≤ syscall_notes * l.k;
+      room : note_count l.self.space.kernel ≤ syscall_notes * l.k;
       stands : (g : Setup) (t : Turn) → MachineStands shown g l.initial.self t → MachineStands shown g l.self (fold (happened g) t (take l.k (events_of (script_data l.script) l.turn)));
     }

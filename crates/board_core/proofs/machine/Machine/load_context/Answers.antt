@@ -14,4 +14,4 @@ pub returns-clause-holds : goal.returns-clause-holds
 returns-clause-holds boxes c = λ g t h0 ready.
     let saved = c.save_context.ensures.holds g t h0 in
     let h = c.set_current.ensures.holds g t saved.kernel in
-    loaded_own _ g record c.save_context.new.self.reach { kernel = c.set_current.new.self } _ (with_current c.args.task t) record { kernel = h; devices = saved.devices } (as_current c.args.task c.args.task t.state ready) (c.load.ensures g (with_current c.args.task t) h)
+    loaded_own _ g record c.save_context.new.self.space { kernel = c.set_current.new.self } _ (with_current c.args.task t) record { kernel = h; devices = saved.devices } (as_current c.args.task c.args.task t.state ready) (c.load.ensures g (with_current c.args.task t) h)

@@ -12,6 +12,6 @@ pub returns-in-All-clause-holds : goal.returns-in-All-clause-holds
 returns-in-All-clause-holds boxes c =
     let shown = boxed (λ p. (goal.Device-dyn boxes p).shown p.1) in
     λ g t h.
-    let m : Machine _ _ = record c.args.self.now { reach = record c.args.self.now.reach { kernel = c.note.new.self } } in
+    let m : Machine _ _ = record c.args.self.now { space = record c.args.self.now.space { kernel = c.note.new.self } } in
     let P : Level → Type 0 = λ level. MachineHolds shown g m (noted_at level note.Idle t) in
-    subst P (sym c.in-All.is) (noted_by _ _ g c.args.self.now.reach m.reach _ note.Idle t refl (λ u hu. c.note.ensures.holds g u hu) h)
+    subst P (sym c.in-All.is) (noted_by _ _ g c.args.self.now.space m.space _ note.Idle t refl (λ u hu. c.note.ensures.holds g u hu) h)

@@ -11,13 +11,13 @@ use Rattle.board_core.specs.Data.{boxed}
 use Rattle.board_core.proofs.machine.Machine.note_insn.Goals as goal
 
 pub overflow_cast-task : goal.overflow_cast-task
-overflow_cast-task boxes c = let few = c.args.self.now.reach.kernel.few in omega (arith, few)
+overflow_cast-task boxes c = let few = c.args.self.now.space.kernel.few in omega (arith, few)
 
 pub returns-in-All-clause-ready : goal.returns-in-All-clause-ready
 returns-in-All-clause-ready boxes c =
     let shown = boxed (λ p. (goal.Device-dyn boxes p).shown p.1) in
     λ g t r.
-    let m : Machine _ _ = record c.args.self.now { reach = record c.args.self.now.reach { kernel = c.note.new.self } } in
+    let m : Machine _ _ = record c.args.self.now { space = record c.args.self.now.space { kernel = c.note.new.self } } in
     let h = r.holds in
     let rest = rest_of h.saved t _ h.is in
     let task = c.current-task.ensures.holds g h.saved h.holds.kernel ∙ sym rest.current in

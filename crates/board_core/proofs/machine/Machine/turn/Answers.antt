@@ -15,7 +15,7 @@ load_context-requires boxes c =
     let t = c.requires.next.1 in
     let n = c.requires.next.2 in
     let is = chosen_is t.state c.in-Some.task n.stands.sane (sym n.is ∙ c.in-Some.is) in
-    below _ _ g c.args.self.now.reach _ t c.in-Some.task n.stands.holds is.inside
+    below _ _ g c.args.self.now.space _ t c.in-Some.task n.stands.holds is.inside
 
 pub step-requires : goal.step-requires
 step-requires boxes c =
@@ -43,7 +43,7 @@ note_task-requires-clause-there boxes c =
     let many = sane.steady.as_many in
     let there = is.inside in
     let inside : task < length u.state.tasks = omega (arith, before, many, there) in
-    below _ _ g c.step.new.self.reach _ u task (c.step.ensures.holds g (with_current task t) ready) inside
+    below _ _ g c.step.new.self.space _ u task (c.step.ensures.holds g (with_current task t) ready) inside
 
 pub overflow_cast-result : goal.overflow_cast-result
 overflow_cast-result boxes c =
@@ -51,8 +51,8 @@ overflow_cast-result boxes c =
     let t = c.requires.next.1 in
     let n = c.requires.next.2 in
     let is = chosen_is t.state c.in-Some.task n.stands.sane (sym n.is ∙ c.in-Some.is) in
-    let there = below _ _ g c.args.self.now.reach _ t c.in-Some.task n.stands.holds is.inside in
-    let few = c.args.self.now.reach.kernel.few in
+    let there = below _ _ g c.args.self.now.space _ t c.in-Some.task n.stands.holds is.inside in
+    let few = c.args.self.now.space.kernel.few in
     omega (arith, there, few)
 
 pub returns-in-Some-clause-holds : goal.returns-in-Some-clause-holds

@@ -7,21 +7,21 @@ use Rattle.debug_core.proofs.debugger.Debugger.back_for.Goals as goal
 pub back_for-requires : goal.back_for-requires
 back_for-requires boxes c =
     let r = c.requires in
-    let here = turns_at _ r.0 c.args.self.now.timeline r.1.cursor r.2.at in
+    let here = turns_at _ r.0 c.args.self.now.replay r.1.cursor r.2.at in
     (r.0, r.1.cursor, r.2.at, omega (arith, here, c.turns.ensures, c.earlier-to.ensures))
 
 pub here-requires : goal.here-requires
 here-requires boxes c =
     let r = c.requires in
     let h = r.2 in
-    let here = turns_at _ r.0 c.args.self.now.timeline r.1.cursor h.at in
+    let here = turns_at _ r.0 c.args.self.now.replay r.1.cursor h.at in
     let low : c.earlier-to.result ≡ r.1.cursor - c.args.turns = omega (arith, here, c.turns.ensures, c.earlier-to.ensures) in
     let went = c.in-None.ensures r.0 r.1.cursor h.at (omega arith) in
     (r.0, r.1.cursor - c.args.turns, at_low _ r.0 r.1 c.args.sought.now c.args.turns c.earlier-to.result low c.back_for.new.self went)
 
 pub returns-in-None-clause-answer : goal.returns-in-None-clause-answer
 returns-in-None-clause-answer boxes c = λ x s h.
-    let here = turns_at _ x c.args.self.now.timeline s.cursor h.at in
+    let here = turns_at _ x c.args.self.now.replay s.cursor h.at in
     let low : c.earlier-to.result ≡ s.cursor - c.args.turns = omega (arith, here, c.turns.ensures, c.earlier-to.ensures) in
     let went = c.in-None.ensures x s.cursor h.at (omega arith) in
     let what = c.args.sought.now in
@@ -32,7 +32,7 @@ returns-in-None-clause-answer boxes c = λ x s h.
 
 pub returns-in-None-clause-session : goal.returns-in-None-clause-session
 returns-in-None-clause-session boxes c = λ x s h.
-    let here = turns_at _ x c.args.self.now.timeline s.cursor h.at in
+    let here = turns_at _ x c.args.self.now.replay s.cursor h.at in
     let low : c.earlier-to.result ≡ s.cursor - c.args.turns = omega (arith, here, c.turns.ensures, c.earlier-to.ensures) in
     let went = c.in-None.ensures x s.cursor h.at (omega arith) in
     let what = c.args.sought.now in
@@ -44,7 +44,7 @@ returns-in-None-clause-session boxes c = λ x s h.
 
 pub returns-in-Some-clause-answer : goal.returns-in-Some-clause-answer
 returns-in-Some-clause-answer boxes c = λ x s h.
-    let here = turns_at _ x c.args.self.now.timeline s.cursor h.at in
+    let here = turns_at _ x c.args.self.now.replay s.cursor h.at in
     let low : c.earlier-to.result ≡ s.cursor - c.args.turns = omega (arith, here, c.turns.ensures, c.earlier-to.ensures) in
     let went = c.in-Some.ensures x s.cursor h.at (omega arith) in
     let what = c.args.sought.now in
@@ -54,7 +54,7 @@ returns-in-Some-clause-answer boxes c = λ x s h.
 
 pub returns-in-Some-clause-session : goal.returns-in-Some-clause-session
 returns-in-Some-clause-session boxes c = λ x s h.
-    let here = turns_at _ x c.args.self.now.timeline s.cursor h.at in
+    let here = turns_at _ x c.args.self.now.replay s.cursor h.at in
     let low : c.earlier-to.result ≡ s.cursor - c.args.turns = omega (arith, here, c.turns.ensures, c.earlier-to.ensures) in
     let went = c.in-Some.ensures x s.cursor h.at (omega arith) in
     let what = c.args.sought.now in
@@ -73,6 +73,6 @@ pub returns-then-not-can_find-clause-session : goal.returns-then-not-can_find-cl
 returns-then-not-can_find-clause-session boxes c = λ x s h.
     let what = c.args.sought.now in
     record {
-      at = if_not _ x s what c.args.self.now.timeline (gone_back s c.args.turns (behind x s c.args.turns what)) (sym (c.if-not-can_find.ensures x s.cursor h.at)) h.at;
+      at = if_not _ x s what c.args.self.now.replay (gone_back s c.args.turns (behind x s c.args.turns what)) (sym (c.if-not-can_find.ensures x s.cursor h.at)) h.at;
       breakpoints = h.breakpoints;
     }

@@ -73,6 +73,6 @@ pub returns-then-not-can_find-clause-session : goal.returns-then-not-can_find-cl
 returns-then-not-can_find-clause-session boxes c = λ x s h.
     let what = c.args.sought.now in
     record {
-      at = if_not _ x s what c.args.self.now.timeline (gone x s c.args.turns (ahead x s c.args.turns what)) (sym (c.if-not-can_find.ensures x s.cursor h.at)) h.at;
+      at = if_not _ x s what c.args.self.now.replay (gone x s c.args.turns (ahead x s c.args.turns what)) (sym (c.if-not-can_find.ensures x s.cursor h.at)) h.at;
       breakpoints = h.breakpoints;
     }

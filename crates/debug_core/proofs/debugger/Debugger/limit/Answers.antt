@@ -4,5 +4,5 @@ use Rattle.debug_core.proofs.debugger.Debugger.limit.Goals as goal
 
 pub returns-clause-limit : goal.returns-clause-limit
 returns-clause-limit boxes c = λ x s h.
-    let here = turns_at _ x c.args.self.now.timeline s.cursor h.at in
+    let here = turns_at _ x c.args.self.now.replay s.cursor h.at in
     omega (arith, here, c.turns.ensures, c.saturating_add.ensures, c.min.ensures)

@@ -1,10 +1,10 @@
 use Rattle.std.proofs.Common.{◌≡◌, ◌∙◌, ap, arith, length, subst, sym}
 use Rattle.app_toml.specs.Held.{app_of}
 use Rattle.image_format.specs.Accepted.{Accepted}
-use Rattle.image_format.specs.Images.{picture}
-use Rattle.image_format.specs.Picture.{Sound}
+use Rattle.image_format.specs.Images.{image_data}
+use Rattle.image_format.specs.ImageData.{Sound}
 use Rattle.image_format.specs.declared.records.Header.{Header}
-use Rattle.image_build.specs.Built.{picture_built}
+use Rattle.image_build.specs.Built.{image_data_built}
 use Rattle.image_build.specs.Layout.{flash_needed}
 use Rattle.image_build.proofs.Sound.{built_as, records_made, sound_built}
 use Rattle.image_build.proofs.builder.Builder.finish.Goals as goal
@@ -24,16 +24,16 @@ of_parts-requires-clause-accepted c =
 whole : (c : goal.After-drop-self-4) → length c.args.self.flash.items ≡ flash_needed (app_of c.args.self.app.now)
 whole c = c.args.self.filled ∙ c.args.self.laid.flash_length
 
-is_built : (c : goal.After-drop-self-4) → picture c.of_parts.result ≡ picture_built (app_of c.args.self.app.now) c.args.self.flash.items
+is_built : (c : goal.After-drop-self-4) → image_data c.of_parts.result ≡ image_data_built (app_of c.args.self.app.now) c.args.self.flash.items
 is_built c =
     let app = app_of c.args.self.app.now in
     let flash = c.args.self.flash.items in
-    c.of_parts.ensures (picture_built app flash)
+    c.of_parts.ensures (image_data_built app flash)
     (records_made app flash _ _ _ _ _ (c.header_of-header.ensures flash (whole c)) c.in_ok-tasks.ensures c.in_ok-regions.ensures c.in_ok-lines.ensures c.in_ok-names.ensures)
 
 pub returns-clause-built : goal.returns-clause-built
 returns-clause-built c = λ sources h.
-    built_as (app_of c.args.self.app.now) sources c.args.self.flash.items (picture c.of_parts.result) (is_built c) (omega (arith, h.next, c.requires)) h.holds
+    built_as (app_of c.args.self.app.now) sources c.args.self.flash.items (image_data c.of_parts.result) (is_built c) (omega (arith, h.next, c.requires)) h.holds
 
 pub returns-clause-sound : goal.returns-clause-sound
 returns-clause-sound c =

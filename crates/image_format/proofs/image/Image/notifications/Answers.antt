@@ -4,9 +4,9 @@ use Rattle.std.proofs.lemmas.Result.{IfOk-weaker}
 use Rattle.text_lines.specs.Names.{is_name}
 use Rattle.image_format.specs.declared.image.Image.{Image}
 use Rattle.image_format.specs.declared.records.TaskRecord.{TaskRecord}
-use Rattle.image_format.specs.Images.{picture, records_in}
+use Rattle.image_format.specs.Images.{image_data, records_in}
 use Rattle.image_format.specs.Names.{after_names, names_of}
-use Rattle.image_format.specs.Picture.{names_in}
+use Rattle.image_format.specs.ImageData.{names_in}
 use Rattle.image_format.proofs.Chunks.{blank}
 use Rattle.image_format.proofs.Holds.{all_named}
 use Rattle.image_format.proofs.Limits.{few_tasks}
@@ -16,7 +16,7 @@ use Rattle.image_format.proofs.image.Image.notifications.Goals as goal
 
 -- the names, as the code finds them
 found : (image : Image) (i before n : ℕ) (tasks : List TaskRecord) (names own : List ℕ) → i < length image.tasks.items → tasks ≡ image.tasks.items → names ≡ image.names.items
-    → before ≡ sum_by (λ t. t.names) (take i tasks) → own ≡ after_names before names → n ≡ (get_or tasks i blank).names → names_in (picture image) i ≡ names_of n own
+    → before ≡ sum_by (λ t. t.names) (take i tasks) → own ≡ after_names before names → n ≡ (get_or tasks i blank).names → names_in (image_data image) i ≡ names_of n own
 found image i before n tasks names own lt is_tasks is_names is_before is_own is_n =
     let ts = image.tasks.items in
     let ns = image.names.items in

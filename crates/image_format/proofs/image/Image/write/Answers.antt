@@ -1,7 +1,7 @@
 use Rattle.std.proofs.Common.{◌∙◌, ap, inr, sym}
 use Rattle.std.proofs.lemmas.Result.{IfOk-weaker}
 use Rattle.image_format.specs.Images.{records_in}
-use Rattle.image_format.specs.Picture.{image_or_fault, pictured}
+use Rattle.image_format.specs.ImageData.{image_or_fault, pictured}
 use Rattle.image_format.specs.Records.{bytes_of}
 use Rattle.image_format.proofs.Again.{plain_second, reads_again}
 use Rattle.image_format.proofs.Shape.{second_again}

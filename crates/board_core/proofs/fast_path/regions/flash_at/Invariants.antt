@@ -1,0 +1,8 @@
+use Rattle.std.proofs.Common.{◌≡◌, false, take}
+use Rattle.std.specs.List.{list_any}
+use Rattle.board_core.specs.fast.Reached.{is_flash_at}
+use Rattle.board_core.proofs.fast_path.regions.flash_at.Given as goal
+
+-- none so far
+abbrev pub invariant-loop-region : goal.invariant-loop-region
+invariant-loop-region l = list_any (is_flash_at l.at) (take l.region-index l.regions) ≡ false

@@ -1,0 +1,19 @@
+use Rattle.command_line.specs.CommandLine.{audit}
+use Rattle.trace_cli.proofs.Readying.{answers_named_fault, answers_audited, audit_faults}
+use Rattle.trace_cli.proofs.commands.audit.audit_file.Goals as goal
+
+pub returns-in-Ok-clause-answer : goal.returns-in-Ok-clause-answer
+returns-in-Ok-clause-answer g c = λ devices.
+    let a = g.F.Files.seen c.args.files.now in
+    let b = g.F.Files.seen c.audit_under.new.files in
+    let w = g.S.Sink.seen c.args.out.now in
+    let w' = g.S.Sink.seen c.tell_audit.new.out in
+    answers_audited a b w w' c.args.trace.now c.in-Ok.verdict c.tell_audit.result c.in-Ok.ensures.only_reads.contents c.in-Ok.ensures.audit c.tell_audit.ensures
+
+pub returns-in-Err-clause-answer : goal.returns-in-Err-clause-answer
+returns-in-Err-clause-answer g c = λ devices.
+    let a = g.F.Files.seen c.args.files.now in
+    let b = g.F.Files.seen c.audit_under.new.files in
+    let w = g.S.Sink.seen c.args.out.now in
+    let w' = g.S.Sink.seen c.tell_named_fault.new.out in
+    answers_named_fault (audit c.args.trace.now) a b w w' c.in-Err.named_fault c.tell_named_fault.result c.in-Err.ensures.only_reads.contents (audit_faults a b c.args.trace.now c.in-Err.named_fault c.in-Err.ensures.named_fault) c.tell_named_fault.ensures

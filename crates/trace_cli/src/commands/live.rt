@@ -1,0 +1,66 @@
+//! Lines that are carried out over a run as they come: from their files to the answers.
+ghost use Rattle.std.specs.Prelude.{map};
+ghost use Rattle.kernel_abi.specs.Devices.{AreFresh};
+ghost use Rattle.board_model.specs.Script.{Scenario, start_of};
+ghost use Rattle.board_core.specs.Data.{boxed};
+ghost use Rattle.board_core.specs.Stands.{Stands};
+ghost use Rattle.command_line.specs.CommandLine.{live as live_job};
+ghost use Rattle.outside_io.specs.Seen.{OnlyReads};
+ghost use Rattle.trace_cli.specs.Pushed.{SaysLive};
+ghost use Rattle.trace_cli.specs.Answer.{AnswersJob};
+
+use crate::preparing::prepare_run;
+use crate::lines::{line_of_unread, tell, tell_named_fault};
+use board_core::Board;
+use debug_core::{Debugger, LiveFault};
+use devices::Device;
+use outside_io::{Files, Sink};
+use std::alloc::Global;
+
+// Lines under a name carried out over the run of a board from its start as they come. The line that says that they cannot be read
+// is made before the first of them, since memory may be short then and not later.
+fn carry_out<F: Files, S: Sink>(
+    alloc: Global,
+    board: Board,
+    files: &mut F,
+    commands: &str,
+    out: &mut S,
+) -> u8
+    requires started { (x : Scenario) × Stands (boxed shown) x board (start_of x) }
+    ensures says { (x : Scenario) → Stands (boxed shown) x board (start_of x) → SaysLive x commands.now (F.seen files.old) (F.seen files.new) (S.seen out.old) (S.seen out.new) result }
+    ensures only_reads { OnlyReads (F.seen files.old) (F.seen files.new) }
+{
+    let unread = match line_of_unread(alloc, commands) {
+        Ok(line) => line,
+        Err(_) => return 5,
+    };
+    let mut debugger = match Debugger::open(alloc, board) {
+        Ok(debugger) => debugger,
+        Err(_) => return 5,
+    };
+    match debugger.carry_out_live(files, commands, out) {
+        Ok(()) => 0,
+        Err(LiveFault::Unread) => tell(unread.as_bytes(), 3, out),
+        Err(LiveFault::Failed) => 4,
+    }
+}
+
+/// `live IMAGE SCRIPT COMMANDS`.
+pub fn live_files<F: Files, S: Sink>(
+    alloc: Global,
+    image: &str,
+    script: &str,
+    commands: &str,
+    files: &mut F,
+    out: &mut S,
+    devices: Vec<Box<dyn Device>>,
+) -> u8
+    requires fresh { AreFresh (map shown devices.items) }
+    ensures answer { AnswersJob (map shown devices.items) (live_job image.now script.now commands.now) (F.seen files.old) (F.seen files.new) (S.seen out.old) (S.seen out.new) result }
+    ensures only_reads { OnlyReads (F.seen files.old) (F.seen files.new) }
+{
+    match prepare_run(alloc, files, image, script, devices) {
+        Ok(board) => carry_out(alloc, board, files, commands, out),
+        Err(named_fault) => tell_named_fault(alloc, &named_fault, out),
+    }
+}

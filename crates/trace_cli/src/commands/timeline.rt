@@ -1,0 +1,65 @@
+//! A run as a timeline, told.
+ghost use Rattle.std.specs.Prelude.{◌≡◌, ◌≤◌, length, map, option_map, string_bytes};
+ghost use Rattle.kernel_abi.specs.Devices.{AreFresh};
+ghost use Rattle.board_model.specs.Script.{Scenario, start_of};
+ghost use Rattle.board_core.specs.Data.{boxed};
+ghost use Rattle.board_core.specs.Stands.{Stands, StandsForSome, count_of, turns_of};
+ghost use Rattle.command_line.specs.CommandLine.{timeline as timeline_job};
+ghost use Rattle.outside_io.specs.Seen.{OnlyReads};
+ghost use Rattle.trace_cli.specs.Pushed.{Says};
+ghost use Rattle.trace_cli.specs.Verdict.{timed};
+ghost use Rattle.trace_cli.specs.Answer.{AnswersJob};
+
+use crate::naming::prepare_named;
+use crate::lines::{status_by, tell_named_fault};
+use board_core::Board;
+use devices::Device;
+use outside_io::{Files, Sink};
+use run_lanes::{TimelineFault, write_timeline};
+use std::alloc::Global;
+
+// The run of a board from its start as events, of tasks with these names.
+fn time_board<S: Sink>(
+    alloc: Global,
+    board: &mut Board,
+    names: &[String],
+    steps: u32,
+    out: &mut S,
+) -> u8
+    requires stood { StandsForSome (boxed shown) board.old }
+    requires fresh { turns_of board.old ≡ 0 }
+    requires few { steps ≤ 1000000000 }
+    requires named { length names.now ≡ count_of board.old }
+    ensures { (x : Scenario) → Stands (boxed shown) x board.old (start_of x) → Says (S.seen out.old) (S.seen out.new) (timed steps (map string_bytes names.now) x) result }
+{
+    match write_timeline(alloc, board, steps, names, out) {
+        Ok(end) => status_by(end),
+        Err(TimelineFault::Memory) => 5,
+        Err(TimelineFault::Failed) => 4,
+    }
+}
+
+/// `timeline IMAGE SCRIPT --steps N [--names APP]`.
+pub fn timeline_files<F: Files, S: Sink>(
+    alloc: Global,
+    image: &str,
+    script: &str,
+    steps: u32,
+    names: Option<&str>,
+    files: &mut F,
+    out: &mut S,
+    devices: Vec<Box<dyn Device>>,
+) -> u8
+    requires fresh { AreFresh (map shown devices.items) }
+    requires few { steps ≤ 1000000000 }
+    ensures answer { AnswersJob (map shown devices.items) (timeline_job image.now script.now steps (option_map (λ n. n.now) names.entry)) (F.seen files.old) (F.seen files.new) (S.seen out.old) (S.seen out.new) result }
+    ensures only_reads { OnlyReads (F.seen files.old) (F.seen files.new) }
+{
+    match prepare_named(alloc, files, image, script, names, devices) {
+        Ok((board, names)) => {
+            let mut board = board;
+            time_board(alloc, &mut board, &names, steps, out)
+        }
+        Err(named_fault) => tell_named_fault(alloc, &named_fault, out),
+    }
+}
