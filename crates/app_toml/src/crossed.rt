@@ -18,7 +18,8 @@ pub(crate) fn cross_fault(
     alloc: Global,
     parts: &Parts,
 ) -> Result<Option<PlacedCause<'static>>, AllocError>
-    ensures { IfOk result (λ found. option_map refusal_of found ≡ cross_fault (parts_of parts.now)) }
+    ensures { IfOk result (λ found. option_map refusal_of found ≡ cross_fault
+        (parts_of parts.now)) }
 {
     let tasks = parts.tasks.as_slice();
     let twice = name_twice(alloc, parts)?;

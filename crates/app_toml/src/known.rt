@@ -1,4 +1,5 @@
-//! Names kept in the order of their bytes, so that one among many is found in few steps, whatever the names are.
+//! Names kept in the order of their bytes, so that one among many is found in few steps, whatever
+//! the names are.
 
 ghost use Rattle.std.specs.Prelude.{◌≡◌, ◌||◌, ◌++◌, ◌∷◌, [], IfOk, List, OnOk, map, not, string_bytes};
 ghost use Rattle.std.specs.BTreeSet.{contains_text};
@@ -27,7 +28,8 @@ pub(crate) fn is_known(known: &Names, name: &str) -> bool
 /// Adds a name, and tells whether it is a new one.
 pub(crate) fn learn(alloc: Global, known: &mut Names, name: &str) -> Result<bool, AllocError>
     ensures new { IfOk result (λ added. added ≡ not (contains_text known.old name.now)) }
-    ensures known { OnOk result ((q : Text) → contains_text known.new q ≡ (bytes_eq name.now q || contains_text known.old q)) }
+    ensures known { OnOk result ((q : Text) →
+        contains_text known.new q ≡ (bytes_eq name.now q || contains_text known.old q)) }
 {
     let added = known.insert(String::from_str(alloc, name)?)?;
     Ok(added)
@@ -54,7 +56,9 @@ pub(crate) fn known_regions(alloc: Global, regions: &[RegionSpec]) -> Result<Nam
 }
 
 fn learn_devices(alloc: Global, known: &mut Names, devices: &[DeviceSpec]) -> Result<(), AllocError>
-    ensures { OnOk result ((q : Text) → contains_text known.new q ≡ (contains_text known.old q || has_device q (map device_of devices.now))) }
+    ensures { OnOk result ((q : Text) →
+        contains_text known.new q ≡ (contains_text known.old q || has_device q
+        (map device_of devices.now))) }
 {
     for device in devices {
         learn(alloc, known, device.name.as_str())?;
@@ -68,7 +72,8 @@ pub(crate) fn known_areas(
     regions: &[RegionSpec],
     devices: &[DeviceSpec],
 ) -> Result<Names, AllocError>
-    ensures { IfOk result (λ known. NamesAreas known (map region_of regions.now) (map device_of devices.now)) }
+    ensures { IfOk result (λ known. NamesAreas known (map region_of regions.now)
+        (map device_of devices.now)) }
 {
     let mut known = known_regions(alloc, regions)?;
     learn_devices(alloc, &mut known, devices)?;
@@ -77,7 +82,8 @@ pub(crate) fn known_areas(
 
 /// Whether a region or a device has the name.
 pub(crate) fn is_area(known: &Names, name: &str) -> bool
-    ensures { (regions : List RegionData) (devices : List DeviceData) → NamesAreas known.now regions devices
+    ensures { (regions : List RegionData) (devices : List DeviceData) →
+        NamesAreas known.now regions devices
         → result ≡ (has_region name.now regions || has_device name.now devices) }
 {
     known.contains(name)
@@ -85,7 +91,8 @@ pub(crate) fn is_area(known: &Names, name: &str) -> bool
 
 /// Adds a task, unless one of its name is there.
 fn keep_task(alloc: Global, kept: &mut TaskNames, task: &TaskSpec) -> Result<(), AllocError>
-    ensures { OnOk result ((tasks : List TaskData) → Keeps kept.old tasks → Keeps kept.new (tasks ++ task_of task.now ∷ [])) }
+    ensures { OnOk result ((tasks : List TaskData) → Keeps kept.old tasks →
+        Keeps kept.new (tasks ++ task_of task.now ∷ [])) }
 {
     if kept.contains_key(task.name.as_str()) {
         return Ok(());
@@ -107,7 +114,8 @@ pub(crate) fn kept_tasks(alloc: Global, tasks: &[TaskSpec]) -> Result<TaskNames,
 
 /// Whether a task of the name has the notification.
 pub(crate) fn has_bit(kept: &TaskNames, task: &str, bit: &str) -> bool
-    ensures { (tasks : List TaskData) → Keeps kept.now tasks → result ≡ is_among bit.now (notifications_of task.now tasks) }
+    ensures { (tasks : List TaskData) → Keeps kept.now tasks →
+        result ≡ is_among bit.now (notifications_of task.now tasks) }
 {
     match kept.get(task) {
         Some(bits) => is_known(bits, bit),

@@ -114,8 +114,8 @@ fn copies_of<T: Item + Drop>(alloc: Global, items: &[T]) -> Result<Vec<T>, Alloc
 }
 
 impl App {
-    /// The description that says just what these tables say, whose values have their forms and which no
-    /// cause refuses (docs/FORMATS.md, Application). Sizes are in bytes.
+    /// The description that says just what these tables say, whose values have their forms and
+    /// which no cause refuses (docs/FORMATS.md, Application). Sizes are in bytes.
     ///
     /// # Errors
     ///
@@ -130,7 +130,8 @@ impl App {
         devices: &[DeviceSpec],
         interrupts: &[LineSpec],
     ) -> Result<App, AllocError>
-        requires { IsAccepted (tables_of flash ram fault.now tasks.now regions.now devices.now interrupts.now) }
+        requires { IsAccepted (tables_of flash ram fault.now tasks.now regions.now devices.now
+            interrupts.now) }
         ensures { IfOk result (λ a. app_of a
             ≡ tables_of flash ram fault.now tasks.now regions.now devices.now interrupts.now) }
     {

@@ -22,7 +22,8 @@ type Bases = BTreeMap<u32, u32>;
 /// The base and the size of the last one that begins below an address.
 fn last_below(bases: &Bases, end: u32) -> Option<(u32, u32)>
     ensures there { IfSome result (λ p. (p.0 < end) × (get nat_cmp bases.now p.0 ≡ Some p.1)) }
-    ensures last { IfSome result (λ p. (base : ℕ) → base < end → IsSome (get nat_cmp bases.now base) → base ≤ p.0) }
+    ensures last { IfSome result (λ p. (base : ℕ) → base < end →
+        IsSome (get nat_cmp bases.now base) → base ≤ p.0) }
     ensures none { result ≡ None → (base : ℕ) → base < end → get nat_cmp bases.now base ≡ None }
 {
     match bases.range(..end).next_back() {
@@ -46,9 +47,11 @@ fn is_met(bases: &Bases, device: &DeviceSpec) -> bool
 /// Adds a device that has no byte in common with those that are kept.
 fn keep(bases: &mut Bases, device: &DeviceSpec) -> Result<(), AllocError>
     requires { IsPlaced (device_of device.now) }
-    ensures by_base { OnOk result ((kept : List DeviceData) → IsByBase bases.old kept → list_any (meets (device_of device.now)) kept ≡ false
+    ensures by_base { OnOk result ((kept : List DeviceData) → IsByBase bases.old kept →
+        list_any (meets (device_of device.now)) kept ≡ false
         → All IsPlaced kept → IsByBase bases.new (kept ++ device_of device.now ∷ [])) }
-    ensures spread { OnOk result ((kept : List DeviceData) → IsByBase bases.old kept → list_any (meets (device_of device.now)) kept ≡ false
+    ensures spread { OnOk result ((kept : List DeviceData) → IsByBase bases.old kept →
+        list_any (meets (device_of device.now)) kept ≡ false
         → IsSpread bases.old → IsSpread bases.new) }
 {
     bases.insert(device.base, device.size)?;
@@ -61,7 +64,8 @@ pub(crate) fn overlap(
     devices: &[DeviceSpec],
 ) -> Result<Option<PlacedCause<'static>>, AllocError>
     requires { All IsPlaced (map device_of devices.now) }
-    ensures { IfOk result (λ found. option_map refusal_of found ≡ first_clash overlap [] 0 (map device_of devices.now)) }
+    ensures { IfOk result (λ found. option_map refusal_of found ≡ first_clash overlap [] 0
+        (map device_of devices.now)) }
 {
     let mut bases = BTreeMap::new(alloc);
     for i in 0..devices.len() {

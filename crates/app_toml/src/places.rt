@@ -92,7 +92,8 @@ pub(crate) fn first_of<'a>(
     first: Option<PlacedCause<'a>>,
     next: Option<PlacedCause<'a>>,
 ) -> Option<PlacedCause<'a>>
-    ensures { option_map refusal_of result ≡ or_else (option_map refusal_of first.entry) (option_map refusal_of next.entry) }
+    ensures { option_map refusal_of result ≡ or_else (option_map refusal_of first.entry)
+        (option_map refusal_of next.entry) }
 {
     first.or(next)
 }
@@ -112,7 +113,8 @@ fn push_index(out: &mut String, index: Option<usize>) -> Result<(), AllocError>
 }
 
 fn push_key(out: &mut String, key: Option<&str>) -> Result<(), AllocError>
-    ensures { OnOk result (string_bytes out.new ≡ string_bytes out.old ++ key_text (option_map (λ s. s.now) key.entry)) }
+    ensures { OnOk result (string_bytes out.new ≡ string_bytes out.old
+        ++ key_text (option_map (λ s. s.now) key.entry)) }
 {
     match key {
         Some(key) => {

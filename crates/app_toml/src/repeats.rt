@@ -13,8 +13,8 @@ use crate::tasks::task_place;
 use std::alloc::{AllocError, Global};
 use std::collections::BTreeSet;
 
-/// Of a list of the k-th task: the first name that is among the earlier ones, or before it in its own
-/// list.
+/// Of a list of the k-th task: the first name that is among the earlier ones, or before it in its
+/// own list.
 fn entries_twice(
     alloc: Global,
     earlier: &[String],
@@ -23,7 +23,8 @@ fn entries_twice(
     names: &[String],
 ) -> Result<Option<PlacedCause<'static>>, AllocError>
     ensures { IfOk result (λ found. option_map refusal_of found
-        ≡ entries_twice (map string_bytes earlier.now) (task_site k key.now) (map string_bytes names.now)) }
+        ≡ entries_twice (map string_bytes earlier.now) (task_site k key.now)
+        (map string_bytes names.now)) }
 {
     let place = task_place(k, key);
     let mut known = known_names(alloc, earlier)?;
@@ -39,7 +40,8 @@ fn entries_twice(
 
 /// The fault of the i-th table of a list, whose name is not new.
 fn named_twice(head: &'static str, i: usize) -> Option<PlacedCause<'static>>
-    ensures { option_map refusal_of result ≡ refuse 7 (at_key (codes "name") (index_site head.now i)) }
+    ensures { option_map refusal_of result ≡ refuse 7
+        (at_key (codes "name") (index_site head.now i)) }
 {
     fault_at(7, key_place(index_place(head, i), "name"))
 }
@@ -50,7 +52,8 @@ fn lists_twice(
     k: usize,
     task: &TaskSpec,
 ) -> Result<Option<PlacedCause<'static>>, AllocError>
-    ensures { IfOk result (λ found. option_map refusal_of found ≡ lists_twice k (task_of task.now)) }
+    ensures { IfOk result (λ found. option_map refusal_of found ≡ lists_twice k
+        (task_of task.now)) }
 {
     let uses = task.uses.as_slice();
     let of_bits = entries_twice(
@@ -70,7 +73,8 @@ fn tasks_twice(
     alloc: Global,
     tasks: &[TaskSpec],
 ) -> Result<Option<PlacedCause<'static>>, AllocError>
-    ensures { IfOk result (λ found. option_map refusal_of found ≡ first_clash task_twice [] 0 (map task_of tasks.now)) }
+    ensures { IfOk result (λ found. option_map refusal_of found ≡ first_clash task_twice [] 0
+        (map task_of tasks.now)) }
 {
     let mut known = BTreeSet::new(alloc);
     for i in 0..tasks.len() {

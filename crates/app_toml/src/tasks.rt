@@ -59,7 +59,8 @@ fn rule_fault(rule: Rule, k: usize, task: &TaskSpec) -> Option<PlacedCause<'stat
 
 /// The first task that breaks a rule.
 fn first_broken(rule: Rule, tasks: &[TaskSpec]) -> Option<PlacedCause<'static>>
-    ensures { option_map refusal_of result ≡ first_fault (rule_fault rule) 0 (map task_of tasks.now) }
+    ensures { option_map refusal_of result ≡ first_fault (rule_fault rule) 0
+        (map task_of tasks.now) }
 {
     for i in 0..tasks.len() {
         let found = rule_fault(rule, i, &tasks[i]);

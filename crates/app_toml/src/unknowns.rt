@@ -70,8 +70,10 @@ fn unknown_entry(
     key: &'static str,
     names: &[String],
 ) -> Option<PlacedCause<'static>>
-    ensures { (regions : List RegionData) (devices : List DeviceData) → NamesAreas known.now regions devices → option_map refusal_of result
-        ≡ first_fault (unknown_entry regions devices (task_site k key.now)) 0 (map string_bytes names.now) }
+    ensures { (regions : List RegionData) (devices : List DeviceData) →
+        NamesAreas known.now regions devices → option_map refusal_of result
+        ≡ first_fault (unknown_entry regions devices (task_site k key.now)) 0
+        (map string_bytes names.now) }
 {
     let place = task_place(k, key);
     for i in 0..names.len() {
@@ -84,7 +86,8 @@ fn unknown_entry(
 
 /// Of what the k-th task uses, then of what it reads.
 fn unknown_region(known: &Names, k: usize, task: &TaskSpec) -> Option<PlacedCause<'static>>
-    ensures { (regions : List RegionData) (devices : List DeviceData) → NamesAreas known.now regions devices → option_map refusal_of result
+    ensures { (regions : List RegionData) (devices : List DeviceData) →
+        NamesAreas known.now regions devices → option_map refusal_of result
         ≡ unknown_region regions devices k (task_of task.now) }
 {
     let uses = unknown_entry(known, k, "uses", task.uses.as_slice());
@@ -95,7 +98,8 @@ fn unknown_region(known: &Names, k: usize, task: &TaskSpec) -> Option<PlacedCaus
 }
 
 fn unknown_regions(known: &Names, tasks: &[TaskSpec]) -> Option<PlacedCause<'static>>
-    ensures { (regions : List RegionData) (devices : List DeviceData) → NamesAreas known.now regions devices → option_map refusal_of result
+    ensures { (regions : List RegionData) (devices : List DeviceData) →
+        NamesAreas known.now regions devices → option_map refusal_of result
         ≡ first_fault (unknown_region regions devices) 0 (map task_of tasks.now) }
 {
     for i in 0..tasks.len() {
@@ -112,7 +116,8 @@ pub(crate) fn unknown_name(
     alloc: Global,
     parts: &Parts,
 ) -> Result<Option<PlacedCause<'static>>, AllocError>
-    ensures { IfOk result (λ found. option_map refusal_of found ≡ unknown_name (parts_of parts.now)) }
+    ensures { IfOk result (λ found. option_map refusal_of found ≡ unknown_name
+        (parts_of parts.now)) }
 {
     let tasks = parts.tasks.as_slice();
     let interrupts = parts.interrupts.as_slice();

@@ -13,7 +13,7 @@ ghost use Rattle.thumb_insn.specs.Range.{IsCoded};
 ghost use Rattle.thumb_insn.specs.declared.Insn.{Insn as Instruction};
 ghost use Rattle.asm_laws.specs.Reading.{HasTarget, IsRead, IsSpelled, IsAccepted, IsAssembled};
 
-pub use image::{image_length, a_source_has_one_assembly};
+pub use image::{a_source_has_one_assembly, image_length};
 
 /// What `Insn::text` writes of an instruction at an address is a line that the assembler's
 /// definitions read, at that address, as this very instruction, whatever names stand for: for

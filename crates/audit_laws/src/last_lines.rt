@@ -11,15 +11,22 @@ ghost use Rattle.audit_laws.specs.Told.{IsLine};
 ghost use Rattle.audit_laws.specs.Ends.{IsHow, end_line, IsFitHealth, IsWaitText, mem_line, row_line};
 ghost use Rattle.trace_text.specs.Lines.{task_line};
 
-/// Each line after the notes with numbers in range is one line of printable bytes, and an audit reads it as what it is: the end of
-/// the turns, what a task waits for, or its registers, a region and bytes, which show something.
+/// Each line after the notes with numbers in range is one line of printable bytes, and an audit
+/// reads it as what it is: the end of the turns, what a task waits for, or its registers, a region
+/// and bytes, which show something.
 pub fn last_lines_are_read()
-    ensures ends { (how : List ℕ) (turns now : ℕ) → IsHow how → turns < 2 ^ 32 → now < 2 ^ 64 → IsLine (end_line how turns now) line.Ends }
-    ensures tasks { (i generation : ℕ) (health : Health) (text : List ℕ) (waits : FinalWait) (posted : ℕ) (timer : Option Timer)
-        → i < 2 ^ 32 → generation < 2 ^ 32 → IsFitHealth health → IsWaitText text waits → IsFitTimer timer
+    ensures ends { (how : List ℕ) (turns now : ℕ) → IsHow how → turns < 2 ^ 32 → now < 2 ^ 64 →
+        IsLine (end_line how turns now) line.Ends }
+    ensures tasks { (i generation : ℕ) (health : Health) (text : List ℕ) (waits : FinalWait)
+        (posted : ℕ) (timer : Option Timer)
+        → i < 2 ^ 32 → generation < 2 ^ 32 → IsFitHealth health → IsWaitText text waits →
+        IsFitTimer timer
         → IsLine (task_line i generation health text posted timer) (line.Waits i waits) }
-    ensures lows { (registers : List ℕ) → length registers ≡ 8 → IsLine (low_words registers) line.Shows }
-    ensures highs { (registers : List ℕ) (n z c v : Bool) → length registers ≡ 8 → IsLine (high_words registers n z c v) line.Shows }
+    ensures lows { (registers : List ℕ) → length registers ≡ 8 →
+        IsLine (low_words registers) line.Shows }
+    ensures highs { (registers : List ℕ) (n z c v : Bool) → length registers ≡ 8 →
+        IsLine (high_words registers n z c v) line.Shows }
     ensures mems { (base size : ℕ) → size < 2 ^ 32 → IsLine (mem_line base size) line.Shows }
-    ensures rows { (a : ℕ) (digits : List ℕ) → is_hex 32 digits ≡ true → IsLine (row_line a digits) line.Shows }
+    ensures rows { (a : ℕ) (digits : List ℕ) → is_hex 32 digits ≡ true →
+        IsLine (row_line a digits) line.Shows }
 {}

@@ -19,12 +19,16 @@ pub fn memories_are_shown()
     ensures memories { (g : Setup) (s : State) → Sane g s → IsShown (memory_text g s) }
 {}
 
-/// The text of a run, with any lines behind it that show something, is good, and no line of it has a cause: where its last state is
-/// sane and in range, its notes are in range and right, in turns that do not fall, and say of calls what is good and agrees with the
-/// last state. A run from the start is such a run, but for what is in range.
+/// The text of a run, with any lines behind it that show something, is good, and no line of it has
+/// a cause: where its last state is sane and in range, its notes are in range and right, in turns
+/// that do not fall, and say of calls what is good and agrees with the last state. A run from the
+/// start is such a run, but for what is in range.
 pub fn texts_of_runs_are_good()
-    ensures any { (g : Setup) (r : Run) (more : List ℕ) → Sane g r.last → IsFitLast r.last → IsShown more
-        → AreInOrder 0 r.notes → AreFit r.notes → AreRight r.notes → IsSpoken (notes_in r.notes) r.last
+    ensures any { (g : Setup) (r : Run) (more : List ℕ) → Sane g r.last → IsFitLast r.last →
+        IsShown more
+        → AreInOrder 0 r.notes → AreFit r.notes → AreRight r.notes →
+        IsSpoken (notes_in r.notes) r.last
         → IsGoodText (trace_text r ++ more) }
-    ensures runs { (level : Level) (x : Scenario) (n : ℕ) → Sane x.setup (start_of x) → IsGoodRun level x n }
+    ensures runs { (level : Level) (x : Scenario) (n : ℕ) → Sane x.setup (start_of x) →
+        IsGoodRun level x n }
 {}

@@ -33,7 +33,7 @@ use crate::choice::{Choice, choice_of, renew_choice};
 use crate::fast_path::breakpoints::hit_of;
 use crate::list::Devices;
 use crate::machine::Machine;
-use crate::opening::{kernel, io_regions};
+use crate::opening::{io_regions, kernel};
 use board_model::{Level, Turned};
 use devices::Device;
 use image_format::Image;
@@ -42,8 +42,8 @@ use region_check::Region;
 use run_script::Script;
 use std::alloc::{AllocError, Global};
 
-/// A board with an image and a script: what its kernel keeps, how many turns it made, the choice of the
-/// task that runs next, and the turn in which something happens next.
+/// A board with an image and a script: what its kernel keeps, how many turns it made, the choice of
+/// the task that runs next, and the turn in which something happens next.
 #[derive(Drop)]
 pub struct Board {
     pub(crate) machine: Machine,
@@ -52,7 +52,8 @@ pub struct Board {
     pub(crate) script: Script,
     pub(crate) due: Option<u32>,
 
-    /// A guess at the index of the first listed event from that turn on. A wrong guess costs a search.
+    /// A guess at the index of the first listed event from that turn on. A wrong guess costs a
+    /// search.
     pub(crate) first_listed: usize,
 
     /// The regions of devices that each task may read.
@@ -60,8 +61,8 @@ pub struct Board {
 }
 
 impl Board {
-    /// The board at the start of a run of an image with a script and with devices, as they are handed in: at most eight, to which
-    /// nothing has come as yet, each at a place of its own.
+    /// The board at the start of a run of an image with a script and with devices, as they are
+    /// handed in: at most eight, to which nothing has come as yet, each at a place of its own.
     ///
     /// # Errors
     ///
@@ -73,7 +74,8 @@ impl Board {
         devices: Vec<Box<dyn Device>>,
     ) -> Result<Board, AllocError>
         requires { AreFresh (map shown devices.items) }
-        ensures stands { let x = scenario_of (image_data image.now) (script_data script.now) (map shown devices.items) in IfOk result (λ b. Stands shown x b (start_of x)) }
+        ensures stands { let x = scenario_of (image_data image.now) (script_data script.now)
+            (map shown devices.items) in IfOk result (λ b. Stands shown x b (start_of x)) }
         ensures turns { IfOk result (λ b. turns_of b ≡ 0) }
     {
         let devices = Devices::of(devices);
@@ -93,29 +95,39 @@ impl Board {
         })
     }
 
-    /// One turn: the events of this turn, then one instruction of the chosen task, or nothing where none
-    /// is ready. What `Level::All` tells is among the notes.
+    /// One turn: the events of this turn, then one instruction of the chosen task, or nothing where
+    /// none is ready. What `Level::All` tells is among the notes.
     pub fn turn(&mut self) -> Turned
         requires few { turns_of self.old < 1000000000 }
         requires stood { StandsForSome shown self.old }
-        ensures model { (x : Scenario) (s : State) → Stands shown x self.old s → Stands shown x self.new (turn All x s).state }
-        ensures notes { (x : Scenario) (s : State) → Stands shown x self.old s → notes_of self.new ≡ (turn All x s).notes }
-        ensures turned { (x : Scenario) (s : State) → Stands shown x self.old s → result ≡ turned x s }
+        ensures model { (x : Scenario) (s : State) → Stands shown x self.old s →
+            Stands shown x self.new (turn All x s).state }
+        ensures notes { (x : Scenario) (s : State) → Stands shown x self.old s →
+            notes_of self.new ≡ (turn All x s).notes }
+        ensures turned { (x : Scenario) (s : State) → Stands shown x self.old s →
+            result ≡ turned x s }
         ensures few { length (notes_of self.new) ≤ turn_notes }
         ensures turns { turns_of self.new ≡ turns_of self.old + 1 }
 
-        // Each byte is written on a ground where its writer may, a device is reached only where it may, no call is touched but an
-        // open one, and with any memory that agrees on what the turn reads it would have done the same.
-        ensures grounds { (x : Scenario) (s : State) → Stands shown x self.old s → IsGroundedTurn All x s }
-        ensures reads { (x : Scenario) (s : State) → Stands shown x self.old s → DependsOnReads All x s }
+        // Each byte is written on a ground where its writer may, a device is reached only where it
+        // may, no call is touched but an open one, and with any memory that agrees on what the turn
+        // reads it would have done the same.
+        ensures grounds { (x : Scenario) (s : State) → Stands shown x self.old s →
+            IsGroundedTurn All x s }
+        ensures reads { (x : Scenario) (s : State) → Stands shown x self.old s →
+            DependsOnReads All x s }
 
-        // A task that faults changes nothing else, and one whose system call names an earlier birth of a task is answered, and
-        // nothing else changes.
-        ensures faults { (x : Scenario) (s : State) → Stands shown x self.old s → (c : ℕ) → IsFaulting All x s c → ChangesNothingElse All x s c }
-        ensures dead_ids { (x : Scenario) (s : State) → Stands shown x self.old s → IsDeadTurn All x s }
+        // A task that faults changes nothing else, and one whose system call names an earlier birth
+        // of a task is answered, and nothing else changes.
+        ensures faults { (x : Scenario) (s : State) → Stands shown x self.old s → (c : ℕ) →
+            IsFaulting All x s c → ChangesNothingElse All x s c }
+        ensures dead_ids { (x : Scenario) (s : State) → Stands shown x self.old s →
+            IsDeadTurn All x s }
         // What others do leaves a loner alone, and its own turn goes by what it has for itself.
-        ensures loners { (x : Scenario) (s : State) → Stands shown x self.old s → LeavesLoners All x s }
-        ensures alone { (x : Scenario) (s : State) → Stands shown x self.old s → LonersDecide All x s }
+        ensures loners { (x : Scenario) (s : State) → Stands shown x self.old s →
+            LeavesLoners All x s }
+        ensures alone { (x : Scenario) (s : State) → Stands shown x self.old s →
+            LonersDecide All x s }
     {
         self.turn_at(Level::All)
     }
@@ -124,28 +136,40 @@ impl Board {
     pub fn turn_at(&mut self, level: Level) -> Turned
         requires few { turns_of self.old < 1000000000 }
         requires stood { StandsForSome shown self.old }
-        ensures model { (x : Scenario) (s : State) → Stands shown x self.old s → Stands shown x self.new (turn level x s).state }
-        ensures notes { (x : Scenario) (s : State) → Stands shown x self.old s → notes_of self.new ≡ (turn level x s).notes }
-        ensures turned { (x : Scenario) (s : State) → Stands shown x self.old s → result ≡ turned x s }
+        ensures model { (x : Scenario) (s : State) → Stands shown x self.old s →
+            Stands shown x self.new (turn level x s).state }
+        ensures notes { (x : Scenario) (s : State) → Stands shown x self.old s →
+            notes_of self.new ≡ (turn level x s).notes }
+        ensures turned { (x : Scenario) (s : State) → Stands shown x self.old s →
+            result ≡ turned x s }
         ensures few { length (notes_of self.new) ≤ turn_notes }
         ensures turns { turns_of self.new ≡ turns_of self.old + 1 }
 
-        // Where no event is due, what is known of the next one stays, and so does the choice where nothing was noted.
+        // Where no event is due, what is known of the next one stays, and so does the choice where
+        // nothing was noted.
         ensures due { self.old.due ≢ Some (turns_of self.old) → self.new.due ≡ self.old.due }
-        ensures kept { self.old.due ≢ Some (turns_of self.old) → notes_of self.new ≡ [] → self.new.choice ≡ self.old.choice }
+        ensures kept { self.old.due ≢ Some (turns_of self.old) → notes_of self.new ≡ [] →
+            self.new.choice ≡ self.old.choice }
 
-        // Each byte is written on a ground where its writer may, a device is reached only where it may, no call is touched but an
-        // open one, and with any memory that agrees on what the turn reads it would have done the same.
-        ensures grounds { (x : Scenario) (s : State) → Stands shown x self.old s → IsGroundedTurn level x s }
-        ensures reads { (x : Scenario) (s : State) → Stands shown x self.old s → DependsOnReads level x s }
+        // Each byte is written on a ground where its writer may, a device is reached only where it
+        // may, no call is touched but an open one, and with any memory that agrees on what the turn
+        // reads it would have done the same.
+        ensures grounds { (x : Scenario) (s : State) → Stands shown x self.old s →
+            IsGroundedTurn level x s }
+        ensures reads { (x : Scenario) (s : State) → Stands shown x self.old s →
+            DependsOnReads level x s }
 
-        // A task that faults changes nothing else, and one whose system call names an earlier birth of a task is answered, and
-        // nothing else changes.
-        ensures faults { (x : Scenario) (s : State) → Stands shown x self.old s → (c : ℕ) → IsFaulting level x s c → ChangesNothingElse level x s c }
-        ensures dead_ids { (x : Scenario) (s : State) → Stands shown x self.old s → IsDeadTurn level x s }
+        // A task that faults changes nothing else, and one whose system call names an earlier birth
+        // of a task is answered, and nothing else changes.
+        ensures faults { (x : Scenario) (s : State) → Stands shown x self.old s → (c : ℕ) →
+            IsFaulting level x s c → ChangesNothingElse level x s c }
+        ensures dead_ids { (x : Scenario) (s : State) → Stands shown x self.old s →
+            IsDeadTurn level x s }
         // What others do leaves a loner alone, and its own turn goes by what it has for itself.
-        ensures loners { (x : Scenario) (s : State) → Stands shown x self.old s → LeavesLoners level x s }
-        ensures alone { (x : Scenario) (s : State) → Stands shown x self.old s → LonersDecide level x s }
+        ensures loners { (x : Scenario) (s : State) → Stands shown x self.old s →
+            LeavesLoners level x s }
+        ensures alone { (x : Scenario) (s : State) → Stands shown x self.old s →
+            LonersDecide level x s }
     {
         self.begin();
         self.turns += 1;
@@ -155,17 +179,19 @@ impl Board {
         turned
     }
 
-    /// One turn, and further ones after it as long as each notes nothing, the run goes on and fewer than
-    /// `limit` turns are made in all. With all instructions noted each turn notes something, so that it is
-    /// one turn.
+    /// One turn, and further ones after it as long as each notes nothing, the run goes on and fewer
+    /// than `limit` turns are made in all. With all instructions noted each turn notes something,
+    /// so that it is one turn.
     #[inline(always)]
     pub fn advance(&mut self, level: Level, limit: u32)
         requires stood { StandsForSome shown self.old }
         requires left { turns_of self.old < limit }
         requires few { limit ≤ 1000000000 }
-        ensures advanced { (x : Scenario) (s : State) → Stands shown x self.old s → IsAdvanced shown level x (turns_of self.new - turns_of self.old - 1) s self.new }
+        ensures advanced { (x : Scenario) (s : State) → Stands shown x self.old s →
+            IsAdvanced shown level x (turns_of self.new - turns_of self.old - 1) s self.new }
         ensures more { turns_of self.old < turns_of self.new }
-        ensures far { level ≡ Calls → (x : Scenario) (s : State) → Stands shown x self.new s → notes_of self.new ≡ [] → turns_of self.new < limit → IsStopped x s }
+        ensures far { level ≡ Calls → (x : Scenario) (s : State) → Stands shown x self.new s →
+            notes_of self.new ≡ [] → turns_of self.new < limit → IsStopped x s }
         ensures within { turns_of self.new ≤ limit }
         ensures noted { length (notes_of self.new) ≤ turn_notes }
     {
@@ -183,9 +209,11 @@ impl Board {
         requires stood { StandsForSome shown self.old }
         requires left { turns_of self.old < limit }
         requires few { limit ≤ 1000000000 }
-        ensures advanced { (x : Scenario) (s : State) → Stands shown x self.old s → IsAdvanced shown Calls x (turns_of self.new - turns_of self.old - 1) s self.new }
+        ensures advanced { (x : Scenario) (s : State) → Stands shown x self.old s →
+            IsAdvanced shown Calls x (turns_of self.new - turns_of self.old - 1) s self.new }
         ensures more { turns_of self.old < turns_of self.new }
-        ensures far { (x : Scenario) (s : State) → Stands shown x self.new s → notes_of self.new ≡ [] → turns_of self.new < limit → IsStopped x s }
+        ensures far { (x : Scenario) (s : State) → Stands shown x self.new s →
+            notes_of self.new ≡ [] → turns_of self.new < limit → IsStopped x s }
         ensures within { turns_of self.new ≤ limit }
         ensures noted { length (notes_of self.new) ≤ turn_notes }
     {
@@ -195,20 +223,26 @@ impl Board {
         }
     }
 
-    /// As many turns as can be made on the fast path, and then a whole one, where fewer than `limit` are made by then: which task that
-    /// one ran and where its PC was, where that is a breakpoint. No turn before it was at one. Whoever calls this has a copy of the fast
-    /// way, which knows of no breakpoints where there are none.
+    /// As many turns as can be made on the fast path, and then a whole one, where fewer than
+    /// `limit` are made by then: which task that one ran and where its PC was, where that is a
+    /// breakpoint. No turn before it was at one. Whoever calls this has a copy of the fast way,
+    /// which knows of no breakpoints where there are none.
     #[inline(always)]
     pub fn advance_past(&mut self, breakpoints: &[u32], limit: u32) -> Option<(u16, u32)>
         requires stood { StandsForSome shown self.old }
         requires left { turns_of self.old < limit }
         requires few { limit ≤ 1000000000 }
-        ensures advanced { (x : Scenario) (s : State) → Stands shown x self.old s → IsAdvanced shown Calls x (turns_of self.new - turns_of self.old - 1) s self.new }
+        ensures advanced { (x : Scenario) (s : State) → Stands shown x self.old s →
+            IsAdvanced shown Calls x (turns_of self.new - turns_of self.old - 1) s self.new }
         ensures more { turns_of self.old < turns_of self.new }
         ensures within { turns_of self.new ≤ limit }
         ensures noted { length (notes_of self.new) ≤ turn_notes }
-        ensures passed { (x : Scenario) (s : State) → Stands shown x self.old s → (k : ℕ) → k < turns_of self.new - turns_of self.old - 1 → is_hit breakpoints.now (turned x (state_after Calls x k s)) ≡ false }
-        ensures hit { (x : Scenario) (s : State) → Stands shown x self.old s → result ≡ hit_of breakpoints.now (turned x (state_after Calls x (turns_of self.new - turns_of self.old - 1) s)) }
+        ensures passed { (x : Scenario) (s : State) → Stands shown x self.old s → (k : ℕ) →
+            k < turns_of self.new - turns_of self.old - 1 →
+            is_hit breakpoints.now (turned x (state_after Calls x k s)) ≡ false }
+        ensures hit { (x : Scenario) (s : State) → Stands shown x self.old s →
+            result ≡ hit_of breakpoints.now
+            (turned x (state_after Calls x (turns_of self.new - turns_of self.old - 1) s)) }
 
         // The whole turn is one that the fast path does not make past these breakpoints.
         ensures needed { NeededTurn shown (stops_at breakpoints.now None) limit self.old self.new }
@@ -228,19 +262,25 @@ impl Board {
         }
     }
 
-    /// As many turns as can be made on the fast path, without a window that has the byte at an address, and then a whole one, where fewer
-    /// than `limit` are made by then: what the last one changed of the byte. No turn before it changed it.
+    /// As many turns as can be made on the fast path, without a window that has the byte at an
+    /// address, and then a whole one, where fewer than `limit` are made by then: what the last one
+    /// changed of the byte. No turn before it changed it.
     #[inline(always)]
     pub fn advance_watching(&mut self, at: u32, limit: u32) -> Option<Change>
         requires stood { StandsForSome shown self.old }
         requires left { turns_of self.old < limit }
         requires few { limit ≤ 1000000000 }
-        ensures advanced { (x : Scenario) (s : State) → Stands shown x self.old s → IsAdvanced shown Calls x (turns_of self.new - turns_of self.old - 1) s self.new }
+        ensures advanced { (x : Scenario) (s : State) → Stands shown x self.old s →
+            IsAdvanced shown Calls x (turns_of self.new - turns_of self.old - 1) s self.new }
         ensures more { turns_of self.old < turns_of self.new }
         ensures within { turns_of self.new ≤ limit }
         ensures noted { length (notes_of self.new) ≤ turn_notes }
-        ensures untouched { (x : Scenario) (s : State) → Stands shown x self.old s → (k : ℕ) → k < turns_of self.new - turns_of self.old - 1 → byte_at (turn_after Calls x k s).state.memory at ≡ byte_at s.memory at }
-        ensures changed { (x : Scenario) (s : State) → Stands shown x self.old s → result ≡ change_in x at (state_after Calls x (turns_of self.new - turns_of self.old - 1) s) }
+        ensures untouched { (x : Scenario) (s : State) → Stands shown x self.old s → (k : ℕ) →
+            k < turns_of self.new - turns_of self.old - 1 →
+            byte_at (turn_after Calls x k s).state.memory at ≡ byte_at s.memory at }
+        ensures changed { (x : Scenario) (s : State) → Stands shown x self.old s →
+            result ≡ change_in x at (state_after Calls x (turns_of self.new - turns_of self.old - 1)
+            s) }
 
         // The whole turn is one that the fast path does not make without the byte.
         ensures needed { NeededTurn shown (stops_at [] (Some at)) limit self.old self.new }
@@ -257,9 +297,12 @@ impl Board {
     fn turn_watching(&mut self, at: u32) -> Option<Change>
         requires few { turns_of self.old < 1000000000 }
         requires stood { StandsForSome shown self.old }
-        ensures model { (x : Scenario) (s : State) → Stands shown x self.old s → Stands shown x self.new (turn Calls x s).state }
-        ensures notes { (x : Scenario) (s : State) → Stands shown x self.old s → notes_of self.new ≡ (turn Calls x s).notes }
-        ensures changed { (x : Scenario) (s : State) → Stands shown x self.old s → result ≡ change_in x at s }
+        ensures model { (x : Scenario) (s : State) → Stands shown x self.old s →
+            Stands shown x self.new (turn Calls x s).state }
+        ensures notes { (x : Scenario) (s : State) → Stands shown x self.old s →
+            notes_of self.new ≡ (turn Calls x s).notes }
+        ensures changed { (x : Scenario) (s : State) → Stands shown x self.old s →
+            result ≡ change_in x at s }
         ensures few { length (notes_of self.new) ≤ turn_notes }
         ensures turns { turns_of self.new ≡ turns_of self.old + 1 }
     {
@@ -269,21 +312,26 @@ impl Board {
         change_by(runner_of(turned), before, after)
     }
 
-    /// The fast path: turns before turn `until`, before which nothing is due, none of which notes anything, is at a breakpoint or
-    /// changes the byte that is watched. They are those of the task that is chosen, within a window of its memory, as far as it
-    /// goes there; or all idle ones, where no task is ready.
+    /// The fast path: turns before turn `until`, before which nothing is due, none of which notes
+    /// anything, is at a breakpoint or changes the byte that is watched. They are those of the task
+    /// that is chosen, within a window of its memory, as far as it goes there; or all idle ones,
+    /// where no task is ready.
     #[inline(always)]
     fn glide(&mut self, breakpoints: &[u32], watched: Option<u32>, until: u32) -> Option<usize>
         requires { MayGoFast shown self.old until }
         ensures fast { WentFast shown (stops_at breakpoints.now watched) until self.old self.new }
         ensures stays { until ≤ turns_of self.old → self.new ≡ self.old }
 
-        // It stops before only where the next instruction is a system call, faults, is at a breakpoint or reaches beyond the window, or
-        // where there is none.
-        ensures far { WentFar shown (stops_at breakpoints.now watched) until self.old self.new (is_some result) }
-        ensures calls { (task : ℕ) → result ≡ Some task → IsToCall shown (stops_at breakpoints.now watched) task self.old self.new }
+        // It stops before only where the next instruction is a system call, faults, is at a
+        // breakpoint or reaches beyond the window, or where there is none.
+        ensures far { WentFar shown (stops_at breakpoints.now watched) until self.old self.new
+            (is_some result) }
+        ensures calls { (task : ℕ) → result ≡ Some task →
+            IsToCall shown (stops_at breakpoints.now watched) task self.old self.new }
         ensures before { (task : ℕ) → result ≡ Some task → turns_of self.new < until }
-        ensures idle { (x : Scenario) (s : State) → Stands shown x self.old s → chosen x.setup s ≡ None → self.old.choice.down ≡ false → lasts x.script until ≡ true → until ≤ turns_of self.new }
+        ensures idle { (x : Scenario) (s : State) → Stands shown x self.old s →
+            chosen x.setup s ≡ None → self.old.choice.down ≡ false → lasts x.script until ≡ true →
+            until ≤ turns_of self.new }
     {
         if self.turns >= until || self.choice.down {
             return None;
@@ -313,7 +361,8 @@ impl Board {
         until: u32,
     ) -> bool
         requires { MayGoFastBy shown self.old (Some task) until }
-        ensures { WentFastBy shown (stops_at breakpoints.now watched) task until self.old self.new result }
+        ensures { WentFastBy shown (stops_at breakpoints.now watched) task until self.old self.new
+            result }
     {
         if !self.io_regions[task].is_empty() {
             return self.poll_on(breakpoints, watched, task, until);
@@ -337,7 +386,8 @@ impl Board {
         until: u32,
     ) -> bool
         requires { MayGoFastBy shown self.old (Some task) until }
-        ensures { WentFastBy shown (stops_at breakpoints.now watched) task until self.old self.new result }
+        ensures { WentFastBy shown (stops_at breakpoints.now watched) task until self.old self.new
+            result }
     {
         self.machine.begin();
         let io_regions = &mut self.io_regions[task];
@@ -348,12 +398,15 @@ impl Board {
         glided.at_syscall
     }
 
-    /// One turn of a task that makes a system call in it, and in which nothing is due: what `turn_at` makes of it.
+    /// One turn of a task that makes a system call in it, and in which nothing is due: what
+    /// `turn_at` makes of it.
     #[inline(always)]
     fn call(&mut self, task: usize)
         requires few { turns_of self.old < 1000000000 }
-        requires stood { (x : Scenario) × (s : State) × Stands shown x self.old s × IsCall x s task }
-        ensures made { (x : Scenario) (s : State) → Stands shown x self.old s → IsCall x s task → HasMade shown Calls x s self.new }
+        requires stood { (x : Scenario) × (s : State) × Stands shown x self.old s
+            × IsCall x s task }
+        ensures made { (x : Scenario) (s : State) → Stands shown x self.old s → IsCall x s task →
+            HasMade shown Calls x s self.new }
         ensures few { length (notes_of self.new) ≤ turn_notes }
         ensures turns { turns_of self.new ≡ turns_of self.old + 1 }
     {
@@ -367,7 +420,8 @@ impl Board {
     fn idle_on(&mut self, until: u32)
         requires { MayGoFastBy shown self.old None until }
         ensures fast { (stops : Stops) → WentFast shown stops until self.old self.new }
-        ensures idle { (x : Scenario) (s : State) → Stands shown x self.old s → lasts x.script until ≡ true → until ≤ turns_of self.new }
+        ensures idle { (x : Scenario) (s : State) → Stands shown x self.old s →
+            lasts x.script until ≡ true → until ≤ turns_of self.new }
     {
         if self.script.lasts(until) {
             self.skip(until);
@@ -379,8 +433,10 @@ impl Board {
         requires stood { StandsForSome shown self.old }
         requires from { turns_of self.old ≤ to }
         requires few { to ≤ 1000000000 }
-        requires idle { (x : Scenario) (s : State) → Stands shown x self.old s → IsIdleUntil x s to }
-        ensures model { (x : Scenario) (s : State) → Stands shown x self.old s → Stands shown x self.new (state_after Calls x (to - s.turn) s) }
+        requires idle { (x : Scenario) (s : State) → Stands shown x self.old s →
+            IsIdleUntil x s to }
+        ensures model { (x : Scenario) (s : State) → Stands shown x self.old s →
+            Stands shown x self.new (state_after Calls x (to - s.turn) s) }
         ensures nothing { notes_of self.new ≡ [] }
         ensures turns { turns_of self.new ≡ to }
     {
@@ -393,7 +449,8 @@ impl Board {
     fn begin(&mut self)
         requires few { turns_of self.old < 1000000000 }
         requires stood { StandsForSome shown self.old }
-        ensures midway { (x : Scenario) (s : State) → Stands shown x self.old s → IsMidway shown x self.new s }
+        ensures midway { (x : Scenario) (s : State) → Stands shown x self.old s →
+            IsMidway shown x self.new s }
         ensures few { length (notes_of self.new) ≤ 9 * syscall_notes }
         ensures turns { turns_of self.new ≡ turns_of self.old }
         ensures due { self.old.due ≢ Some (turns_of self.old) → self.new.due ≡ self.old.due }
@@ -405,12 +462,13 @@ impl Board {
         }
     }
 
-    /// The events of this turn happen; then what is known of the choice is brought up to date, and the next turn with an event is
-    /// looked up.
+    /// The events of this turn happen; then what is known of the choice is brought up to date, and
+    /// the next turn with an event is looked up.
     fn happen(&mut self)
         requires few { turns_of self.old < 1000000000 }
         requires stands { (x : Scenario) × (s : State) × IsDue shown x self.old s }
-        ensures midway { (x : Scenario) (s : State) → IsDue shown x self.old s → IsMidway shown x self.new s }
+        ensures midway { (x : Scenario) (s : State) → IsDue shown x self.old s →
+            IsMidway shown x self.new s }
         ensures few { length (notes_of self.new) ≤ 9 * syscall_notes }
         ensures turns { turns_of self.new ≡ turns_of self.old }
     {
@@ -422,14 +480,18 @@ impl Board {
         self.due = self.script.next_from(self.first_listed, self.turns + 1);
     }
 
-    /// What is known of the choice is brought up to date where the last turn noted something behind its first `noted` notes, those
-    /// of its events: a turn that notes nothing after them leaves each task as ready as it was.
+    /// What is known of the choice is brought up to date where the last turn noted something behind
+    /// its first `noted` notes, those of its events: a turn that notes nothing after them leaves
+    /// each task as ready as it was.
     #[inline(always)]
     fn renew(&mut self, noted: usize)
         requires { (g : Setup) × (t : Turn) × MachineStands shown g self.old.machine t }
-        ensures holds { (g : Setup) (t : Turn) → MachineHolds shown g self.old.machine t → MachineHolds shown g self.new.machine t }
-        ensures choice { (g : Setup) (t : Turn) → MachineStands shown g self.old.machine t → WasChoice g self.old.choice →
-            (length t.notes ≤ noted → IsChoice g t.state self.old.choice) → IsChoice g t.state self.new.choice }
+        ensures holds { (g : Setup) (t : Turn) → MachineHolds shown g self.old.machine t →
+            MachineHolds shown g self.new.machine t }
+        ensures choice { (g : Setup) (t : Turn) → MachineStands shown g self.old.machine t →
+            WasChoice g self.old.choice →
+            (length t.notes ≤ noted → IsChoice g t.state self.old.choice) →
+            IsChoice g t.state self.new.choice }
         ensures count { length (notes_of self.new) ≡ length (notes_of self.old) }
         ensures turns { turns_of self.new ≡ turns_of self.old }
         ensures script { self.new.script ≡ self.old.script }

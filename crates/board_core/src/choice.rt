@@ -1,4 +1,5 @@
-//! The choice of the task that runs next, kept from turn to turn, since most turns do not change it.
+//! The choice of the task that runs next, kept from turn to turn, since most turns do not change
+//! it.
 ghost use Rattle.std.specs.Prelude.{◌≡◌, ◌<◌, ℕ, true, Some};
 ghost use Rattle.task_table.specs.model.State.{Setup, Turn};
 ghost use Rattle.task_table.specs.model.Reading.{is_faulted, task_at};
@@ -10,8 +11,8 @@ use dispatch::choose;
 use kernel_abi::Health;
 use task_table::{Kernel, TaskSet};
 
-/// Which task runs next, None where none is ready; which tasks are ready; and whether the supervisor has
-/// faulted.
+/// Which task runs next, None where none is ready; which tasks are ready; and whether the
+/// supervisor has faulted.
 #[derive(Clone, Copy)]
 pub struct Choice {
     pub next: Option<usize>,
@@ -22,7 +23,8 @@ pub struct Choice {
 /// The supervisor has faulted.
 fn is_down(kernel: &Kernel) -> bool
     requires { 0 < task_count kernel.now }
-    ensures { (g : Setup) (t : Turn) → Holds g kernel.now t → result ≡ is_faulted (task_at t.state 0).health }
+    ensures { (g : Setup) (t : Turn) → Holds g kernel.now t →
+        result ≡ is_faulted (task_at t.state 0).health }
 {
     match kernel.health(0) {
         Health::Well => false,
@@ -51,11 +53,12 @@ fn stays(last: &Choice, ready: &TaskSet, current: usize) -> bool
 }
 
 /// Brings the choice up to date with a kernel: the task that was chosen and runs is chosen again as
-/// long as the same tasks are ready. Their set is copied only where it has changed, and whole, since
-/// the copy of a part takes longer.
+/// long as the same tasks are ready. Their set is copied only where it has changed, and whole,
+/// since the copy of a part takes longer.
 #[inline(always)]
 pub fn renew_choice(kernel: &Kernel, choice: &mut Choice)
-    ensures { (g : Setup) (t : Turn) → Holds g kernel.now t → WasChoice g choice.old → IsChoice g t.state choice.new }
+    ensures { (g : Setup) (t : Turn) → Holds g kernel.now t → WasChoice g choice.old →
+        IsChoice g t.state choice.new }
 {
     choice.down = is_down(kernel);
     if stays(choice, kernel.ready(), kernel.current()) {

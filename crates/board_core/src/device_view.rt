@@ -13,8 +13,8 @@ use crate::list::Devices;
 use arrayvec::ArrayVec;
 use kernel_abi::Kind;
 
-/// A device between turns: its kind, the first of its 256 addresses, how many bytes were stored to it modulo 2^32, and the bytes
-/// that wait in it, at most 64, the first first.
+/// A device between turns: its kind, the first of its 256 addresses, how many bytes were stored to
+/// it modulo 2^32, and the bytes that wait in it, at most 64, the first first.
 #[derive(Drop)]
 pub struct DeviceView {
     pub kind: Kind,
@@ -41,7 +41,8 @@ fn queue(devices: &Devices, k: usize) -> ArrayVec<u8, 64>
 /// What is shown of the k-th device.
 fn view(devices: &Devices, k: usize) -> DeviceView
     requires { k < length (data_of shown devices.now) }
-    ensures { let d = device_at (data_of shown devices.now) k in device_told result ≡ record d { queue = take 64 d.queue } }
+    ensures { let d = device_at (data_of shown devices.now) k in
+        device_told result ≡ record d { queue = take 64 d.queue } }
 {
     DeviceView {
         kind: devices.kind(k),
@@ -54,14 +55,16 @@ fn view(devices: &Devices, k: usize) -> DeviceView
 impl Board {
     /// How many devices there are.
     pub fn device_count(&self) -> usize
-        ensures { (x : Scenario) (s : State) → Stands shown x self.now s → result ≡ length s.devices }
+        ensures { (x : Scenario) (s : State) → Stands shown x self.now s →
+            result ≡ length s.devices }
     {
         self.machine.space.devices.len()
     }
 
     /// The k-th device, or None past the last one.
     pub fn device(&self, k: usize) -> Option<DeviceView>
-        ensures { (x : Scenario) (s : State) → Stands shown x self.now s → option_map device_told result ≡ slice_get s.devices k }
+        ensures { (x : Scenario) (s : State) → Stands shown x self.now s →
+            option_map device_told result ≡ slice_get s.devices k }
     {
         let devices = &self.machine.space.devices;
         if k >= devices.len() {

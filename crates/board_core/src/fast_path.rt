@@ -40,12 +40,16 @@ fn none_made() -> Glided
 }
 
 impl Machine {
-    /// The processor has a task's context from now on. The task is not the current one yet: that it is once it ran.
+    /// The processor has a task's context from now on. The task is not the current one yet: that it
+    /// is once it ran.
     #[inline(always)]
     fn take_context(&mut self, task: usize)
         requires { task < task_count self.old.space.kernel }
-        ensures holds { (g : Setup) (t : Turn) → MachineHolds shown g self.old t → MachineHolds shown g self.new t }
-        ensures taken { (g : Setup) (t : Turn) → MachineHolds shown g self.old t → task < length t.state.tasks → is_ready t.state task ≡ true → HasContext shown g self.new task t }
+        ensures holds { (g : Setup) (t : Turn) → MachineHolds shown g self.old t →
+            MachineHolds shown g self.new t }
+        ensures taken { (g : Setup) (t : Turn) → MachineHolds shown g self.old t →
+            task < length t.state.tasks → is_ready t.state task ≡ true →
+            HasContext shown g self.new task t }
         ensures tasks { task_count self.new.space.kernel ≡ task_count self.old.space.kernel }
         ensures count { note_count self.new.space.kernel ≡ note_count self.old.space.kernel }
     {
@@ -55,8 +59,9 @@ impl Machine {
         }
     }
 
-    /// Instructions on end of a task within a window of its memory, at most so many, none of them at a breakpoint, nor in a window
-    /// that has the byte that is watched. Where there were some, it is the current one. A task that may read devices is one of `poll`.
+    /// Instructions on end of a task within a window of its memory, at most so many, none of them
+    /// at a breakpoint, nor in a window that has the byte that is watched. Where there were some,
+    /// it is the current one. A task that may read devices is one of `poll`.
     #[inline(always)]
     pub fn glide(
         &mut self,
@@ -66,7 +71,8 @@ impl Machine {
         most: u32,
     ) -> Glided
         requires { task < task_count self.old.space.kernel }
-        ensures glided { GlidesFrom shown (stops_at breakpoints.now watched) [] task most self.old self.new result.made result.at_syscall }
+        ensures glided { GlidesFrom shown (stops_at breakpoints.now watched) [] task most self.old
+            self.new result.made result.at_syscall }
         ensures within { result.made ≤ most }
         ensures count { note_count self.new.space.kernel ≡ note_count self.old.space.kernel }
     {
@@ -107,8 +113,9 @@ impl Machine {
         glided
     }
 
-    /// The same of a task that may read devices, by these regions: instructions on end within a window of its memory, and over
-    /// it and the devices. Few tasks have a device, so this is a function of its own.
+    /// The same of a task that may read devices, by these regions: instructions on end within a
+    /// window of its memory, and over it and the devices. Few tasks have a device, so this is a
+    /// function of its own.
     #[cold]
     #[inline(never)]
     pub fn poll(
@@ -120,7 +127,8 @@ impl Machine {
         io_regions: &mut Vec<Region>,
     ) -> Glided
         requires { task < task_count self.old.space.kernel }
-        ensures glided { GlidesFrom shown (stops_at breakpoints.now watched) io_regions.old.items task most self.old self.new result.made result.at_syscall }
+        ensures glided { GlidesFrom shown (stops_at breakpoints.now watched) io_regions.old.items
+            task most self.old self.new result.made result.at_syscall }
         ensures within { result.made ≤ most }
         ensures count { note_count self.new.space.kernel ≡ note_count self.old.space.kernel }
         ensures io_regions { io_regions.new ≡ io_regions.old }

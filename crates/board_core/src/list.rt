@@ -14,7 +14,8 @@ pub struct Devices {
 
 /// How far an address is from a device's first, where it is one of the device's.
 fn offset_of(device: &Box<dyn Device>, addr: u32) -> Option<u32>
-    ensures { MatchOption result (is_behind addr (shown device.now) ≡ false) (λ off. IsOffset (shown device.now) addr off) }
+    ensures { MatchOption result (is_behind addr (shown device.now) ≡ false)
+        (λ off. IsOffset (shown device.now) addr off) }
 {
     let base = device.base();
     if base <= addr && addr - base < 256 {
@@ -117,7 +118,8 @@ impl Devices {
     /// How far an address is from the k-th device's first, where it is one of that device's.
     fn offset(&self, k: usize, addr: u32) -> Option<u32>
         requires { k < length (data_of shown self.now) }
-        ensures { MatchOption result (is_behind addr (device_at (data_of shown self.now) k) ≡ false) (λ off. IsOffset (device_at (data_of shown self.now) k) addr off) }
+        ensures { MatchOption result (is_behind addr (device_at (data_of shown self.now) k) ≡ false)
+            (λ off. IsOffset (device_at (data_of shown self.now) k) addr off) }
     {
         offset_of(&self.list[k], addr)
     }
@@ -141,7 +143,8 @@ impl Devices {
     fn take(&mut self, k: usize, off: u32)
         requires there { k < length (data_of shown self.old) }
         requires off { off < 256 }
-        ensures { data_of shown self.new ≡ with_device (data_of shown self.old) k (after_load (device_at (data_of shown self.old) k) off) }
+        ensures { data_of shown self.new ≡ with_device (data_of shown self.old) k
+            (after_load (device_at (data_of shown self.old) k) off) }
     {
         take_from(&mut self.list[k], off);
     }
@@ -149,7 +152,8 @@ impl Devices {
     fn store_in(&mut self, k: usize, off: u32, value: u32) -> Option<u8>
         requires there { k < length (data_of shown self.old) }
         requires off { off < 256 }
-        ensures stored { data_of shown self.new ≡ with_device (data_of shown self.old) k (after_store (device_at (data_of shown self.old) k) off) }
+        ensures stored { data_of shown self.new ≡ with_device (data_of shown self.old) k
+            (after_store (device_at (data_of shown self.old) k) off) }
         ensures out { result ≡ given_out (device_at (data_of shown self.old) k).kind off value }
     {
         store_to(&mut self.list[k], off, value)
@@ -157,15 +161,18 @@ impl Devices {
 
     fn feed_into(&mut self, k: usize, byte: u8) -> Fed
         requires there { k < length (data_of shown self.old) }
-        ensures after { data_of shown self.new ≡ with_device (data_of shown self.old) k (after_input (device_at (data_of shown self.old) k) byte) }
-        ensures told { result ≡ fed_by (device_at (data_of shown self.old) k).kind (device_at (data_of shown self.old) k).queue }
+        ensures after { data_of shown self.new ≡ with_device (data_of shown self.old) k
+            (after_input (device_at (data_of shown self.old) k) byte) }
+        ensures told { result ≡ fed_by (device_at (data_of shown self.old) k).kind
+            (device_at (data_of shown self.old) k).queue }
     {
         feed_to(&mut self.list[k], byte)
     }
 
     /// Which device is behind an address, and how far the address is from its first.
     fn place(&self, addr: u32) -> Option<(usize, u32)>
-        ensures { MatchOption result (behind addr (data_of shown self.now) ≡ None) (λ p. IsPlace (data_of shown self.now) addr p.0 p.1) }
+        ensures { MatchOption result (behind addr (data_of shown self.now) ≡ None)
+            (λ p. IsPlace (data_of shown self.now) addr p.0 p.1) }
     {
         let len = self.len();
         let mut k = 0;
@@ -255,7 +262,8 @@ impl Devices {
     pub fn set(&mut self, k: usize, count: u32, queue: &[u8])
         requires there { k < length (data_of shown self.old) }
         requires fits { IsSettable (device_at (data_of shown self.old) k).kind count queue.now }
-        ensures { data_of shown self.new ≡ with_device (data_of shown self.old) k record (device_at (data_of shown self.old) k) { count = count; queue = queue.now } }
+        ensures { data_of shown self.new ≡ with_device (data_of shown self.old) k record
+            (device_at (data_of shown self.old) k) { count = count; queue = queue.now } }
     {
         set_to(&mut self.list[k], count, queue);
     }

@@ -34,8 +34,9 @@ use thumb_step::fetch;
 use timer_irq::{interrupt, tick};
 use words_core::{Flags, PROGRAM_COUNTER, Regs};
 
-/// A kernel and a processor, the glider's. While the context of the current task is loaded, that task's registers
-/// and flags are the processor's; what the kernel has of them is of an earlier time.
+/// A kernel and a processor, the glider's. While the context of the current task is loaded, that
+/// task's registers and flags are the processor's; what the kernel has of them is of an earlier
+/// time.
 #[derive(Drop)]
 pub struct Machine {
     pub space: AddressSpace,
@@ -48,11 +49,13 @@ pub struct Machine {
     pub poller: Poller,
 }
 
-/// A processor gets the registers and flags that the kernel has of a task. They are written in place, not by way of a copy.
+/// A processor gets the registers and flags that the kernel has of a task. They are written in
+/// place, not by way of a copy.
 #[inline(always)]
 pub fn load(processor: &mut Cpu, kernel: &Kernel, task: usize)
     requires { task < task_count kernel.now }
-    ensures { (g : Setup) (t : Turn) → Holds g kernel.now t → processor.new ≡ cpu_of (task_at t.state task) }
+    ensures { (g : Setup) (t : Turn) → Holds g kernel.now t →
+        processor.new ≡ cpu_of (task_at t.state task) }
 {
     processor.regs = Regs::of(kernel.registers(task));
     processor.flags = LazyFlags::of(kernel.flags(task));
@@ -75,7 +78,8 @@ impl Machine {
 
     /// The kernel has the registers and flags of the current task again: before it acts.
     pub fn save_context(&mut self)
-        ensures holds { (g : Setup) (t : Turn) → MachineHolds shown g self.old t → SpaceHolds shown g self.new.space t }
+        ensures holds { (g : Setup) (t : Turn) → MachineHolds shown g self.old t →
+            SpaceHolds shown g self.new.space t }
         ensures unloaded { self.new.loaded ≡ false }
         ensures frame { AddsNotes self.old.space.kernel 0 self.new.space.kernel }
     {
@@ -93,7 +97,8 @@ impl Machine {
     pub fn is_loaded_for(&self, task: usize) -> bool
         ensures loaded { result ≡ true → self.now.loaded ≡ true }
         ensures current { result ≡ true → current_of self.now.space.kernel ≡ task }
-        ensures other { result ≡ false → (self.now.loaded ≡ false) ⊎ (current_of self.now.space.kernel ≢ task) }
+        ensures other { result ≡ false → (self.now.loaded ≡ false)
+            ⊎ (current_of self.now.space.kernel ≢ task) }
     {
         if self.loaded {
             self.space.kernel.current() == task
@@ -106,7 +111,9 @@ impl Machine {
     fn load_context(&mut self, task: usize)
         requires { task < task_count self.old.space.kernel }
         ensures loaded { self.new.loaded ≡ true }
-        ensures holds { (g : Setup) (t : Turn) → MachineHolds shown g self.old t → is_ready t.state task ≡ true → IsLoaded shown g self.new.space self.new.glider.runner.processor (with_current task t) }
+        ensures holds { (g : Setup) (t : Turn) → MachineHolds shown g self.old t →
+            is_ready t.state task ≡ true →
+            IsLoaded shown g self.new.space self.new.glider.runner.processor (with_current task t) }
         ensures count { note_count self.new.space.kernel ≡ note_count self.old.space.kernel }
     {
         if self.is_loaded_for(task) {
@@ -123,7 +130,8 @@ impl Machine {
     /// A turn begins: what the last one noted is gone.
     #[inline(always)]
     pub fn begin(&mut self)
-        ensures holds { (g : Setup) (t : Turn) → MachineHolds shown g self.old t → MachineHolds shown g self.new (begun t.state) }
+        ensures holds { (g : Setup) (t : Turn) → MachineHolds shown g self.old t →
+            MachineHolds shown g self.new (begun t.state) }
         ensures count { note_count self.new.space.kernel ≡ 0 }
         ensures loaded { self.new.loaded ≡ self.old.loaded }
     {
@@ -132,10 +140,13 @@ impl Machine {
 
     /// Something happens from outside.
     fn happen(&mut self, event: Event)
-        requires stands { (g : Setup) × (t : Turn) × MachineStands shown g self.old t × (t.state.now + 1 < 2 ^ 64) }
+        requires stands { (g : Setup) × (t : Turn) × MachineStands shown g self.old t
+            × (t.state.now + 1 < 2 ^ 64) }
         requires room { note_count self.old.space.kernel + syscall_notes ≤ turn_notes }
-        ensures stands { (g : Setup) (t : Turn) → MachineStands shown g self.old t → MachineStands shown g self.new (happened g t event) }
-        ensures count { note_count self.new.space.kernel ≤ note_count self.old.space.kernel + syscall_notes }
+        ensures stands { (g : Setup) (t : Turn) → MachineStands shown g self.old t →
+            MachineStands shown g self.new (happened g t event) }
+        ensures count { note_count self.new.space.kernel ≤ note_count self.old.space.kernel +
+            syscall_notes }
     {
         self.save_context();
         match event {
@@ -151,11 +162,16 @@ impl Machine {
     /// The k-th event of a turn happens; where there is none, the answer is false.
     fn happen_at(&mut self, script: &Script, first: usize, turn: u32, k: u32) -> bool
         requires first { IsFirstListed (script_data script.now) turn first }
-        requires stands { (g : Setup) × (t : Turn) × MachineStands shown g self.old t × (t.state.now + 1 < 2 ^ 64) }
+        requires stands { (g : Setup) × (t : Turn) × MachineStands shown g self.old t
+            × (t.state.now + 1 < 2 ^ 64) }
         requires room { note_count self.old.space.kernel + syscall_notes ≤ turn_notes }
-        ensures stands { (g : Setup) (t : Turn) → MachineStands shown g self.old t → MachineStands shown g self.new (happened_next g (slice_get (events_of (script_data script.now) turn) k) t) }
-        ensures count { note_count self.new.space.kernel ≤ note_count self.old.space.kernel + syscall_notes }
-        ensures over { result ≡ false → slice_get (events_of (script_data script.now) turn) k ≡ None }
+        ensures stands { (g : Setup) (t : Turn) → MachineStands shown g self.old t →
+            MachineStands shown g self.new
+            (happened_next g (slice_get (events_of (script_data script.now) turn) k) t) }
+        ensures count { note_count self.new.space.kernel ≤ note_count self.old.space.kernel +
+            syscall_notes }
+        ensures over { result ≡ false →
+            slice_get (events_of (script_data script.now) turn) k ≡ None }
     {
         match script.event_from(first, turn, k) {
             None => false,
@@ -169,9 +185,12 @@ impl Machine {
     /// What happens from outside in a turn, in the order of the script.
     pub fn happen_all(&mut self, script: &Script, first: usize, turn: u32)
         requires first { IsFirstListed (script_data script.now) turn first }
-        requires stands { (g : Setup) × (t : Turn) × MachineStands shown g self.old t × (t.state.now + 9 < 2 ^ 64) }
+        requires stands { (g : Setup) × (t : Turn) × MachineStands shown g self.old t
+            × (t.state.now + 9 < 2 ^ 64) }
         requires room { note_count self.old.space.kernel ≡ 0 }
-        ensures stands { (g : Setup) (t : Turn) → MachineStands shown g self.old t → MachineStands shown g self.new (fold (happened g) t (events_of (script_data script.now) turn)) }
+        ensures stands { (g : Setup) (t : Turn) → MachineStands shown g self.old t →
+            MachineStands shown g self.new
+            (fold (happened g) t (events_of (script_data script.now) turn)) }
         ensures count { note_count self.new.space.kernel ≤ 9 * syscall_notes }
     {
         script.facts();
@@ -212,7 +231,8 @@ impl Machine {
     #[inline(always)]
     fn note_insn(&mut self, level: Level, at: u32, code: u32)
         requires { note_count self.old.space.kernel < turn_notes }
-        ensures ready { (g : Setup) (t : Turn) → IsReady shown g self.old t → IsReady shown g self.new (noted_at level (Note.Insn t.state.current at code) t) }
+        ensures ready { (g : Setup) (t : Turn) → IsReady shown g self.old t →
+            IsReady shown g self.new (noted_at level (Note.Insn t.state.current at code) t) }
         ensures count { note_count self.new.space.kernel ≤ note_count self.old.space.kernel + 1 }
     {
         match level {
@@ -227,7 +247,8 @@ impl Machine {
     /// With all instructions, an idle turn is noted.
     fn note_idle(&mut self, level: Level)
         requires room { note_count self.old.space.kernel < turn_notes }
-        ensures holds { (g : Setup) (t : Turn) → MachineHolds shown g self.old t → MachineHolds shown g self.new (noted_at level Note.Idle t) }
+        ensures holds { (g : Setup) (t : Turn) → MachineHolds shown g self.old t →
+            MachineHolds shown g self.new (noted_at level Note.Idle t) }
         ensures count { note_count self.new.space.kernel ≤ note_count self.old.space.kernel + 1 }
     {
         match level {
@@ -240,7 +261,8 @@ impl Machine {
     fn note_registers(&mut self, task: usize)
         requires there { task < task_count self.old.space.kernel }
         requires room { note_count self.old.space.kernel + 2 ≤ turn_notes }
-        ensures holds { (g : Setup) (t : Turn) → MachineHolds shown g self.old t → MachineHolds shown g self.new (with_registers_noted Level.All task t) }
+        ensures holds { (g : Setup) (t : Turn) → MachineHolds shown g self.old t →
+            MachineHolds shown g self.new (with_registers_noted Level.All task t) }
         ensures count { note_count self.new.space.kernel ≤ note_count self.old.space.kernel + 2 }
     {
         self.save_context();
@@ -255,7 +277,8 @@ impl Machine {
     fn note_task(&mut self, level: Level, task: usize)
         requires there { task < task_count self.old.space.kernel }
         requires room { note_count self.old.space.kernel + 2 ≤ turn_notes }
-        ensures holds { (g : Setup) (t : Turn) → MachineHolds shown g self.old t → MachineHolds shown g self.new (with_registers_noted level task t) }
+        ensures holds { (g : Setup) (t : Turn) → MachineHolds shown g self.old t →
+            MachineHolds shown g self.new (with_registers_noted level task t) }
         ensures count { note_count self.new.space.kernel ≤ note_count self.old.space.kernel + 2 }
     {
         match level {
@@ -270,7 +293,8 @@ impl Machine {
     fn execute(&mut self, insn: &Insn)
         requires coded { IsCoded insn.now }
         requires may_act { MayAct shown self.old (syscall_notes + 1) }
-        ensures { HasActed shown (λ g i. executed g i insn.now) (syscall_notes + 1) self.old self.new }
+        ensures { HasActed shown (λ g i. executed g i insn.now) (syscall_notes + 1) self.old
+            self.new }
     {
         match insn {
             Insn::Svc { .. } => self.syscall(),
@@ -282,7 +306,8 @@ impl Machine {
     fn execute_own(&mut self, insn: &Insn)
         requires coded { IsCoded insn.now }
         requires may_act { MayAct shown self.old (syscall_notes + 1) }
-        ensures { HasActed shown (λ g i. executed g i insn.now) (syscall_notes + 1) self.old self.new }
+        ensures { HasActed shown (λ g i. executed g i insn.now) (syscall_notes + 1) self.old
+            self.new }
     {
         match exec(&mut self.glider.runner.processor, insn, &mut self.space) {
             Outcome::Next => {}
@@ -294,7 +319,8 @@ impl Machine {
     /// The current task makes a system call.
     fn syscall(&mut self)
         requires { MayAct shown self.old (syscall_notes + 1) }
-        ensures { HasActed shown (λ g i t. syscall_made g i (syscall_noted i t)) (syscall_notes + 1) self.old self.new }
+        ensures { HasActed shown (λ g i t. syscall_made g i (syscall_noted i t)) (syscall_notes + 1)
+            self.old self.new }
     {
         self.save_context();
         let task = self.space.kernel.current();
@@ -332,13 +358,16 @@ impl Machine {
 }
 
 impl Machine {
-    /// What the task that is chosen does, once the events of the turn have happened: one instruction; or
-    /// nothing where none is chosen.
+    /// What the task that is chosen does, once the events of the turn have happened: one
+    /// instruction; or nothing where none is chosen.
     pub fn turn(&mut self, level: Level, next: Option<usize>) -> Turned
         requires { MayTurn shown self.old next }
-        ensures holds { (g : Setup) (t : Turn) → IsNext shown g self.old t next → MachineHolds shown g self.new (turn_of level g next t) }
-        ensures turned { (g : Setup) (t : Turn) → IsNext shown g self.old t next → result ≡ turned_of t.state next }
-        ensures count { note_count self.new.space.kernel ≤ note_count self.old.space.kernel + syscall_notes + 4 }
+        ensures holds { (g : Setup) (t : Turn) → IsNext shown g self.old t next →
+            MachineHolds shown g self.new (turn_of level g next t) }
+        ensures turned { (g : Setup) (t : Turn) → IsNext shown g self.old t next →
+            result ≡ turned_of t.state next }
+        ensures count { note_count self.new.space.kernel ≤ note_count self.old.space.kernel +
+            syscall_notes + 4 }
     {
         match next {
             None => {
@@ -358,12 +387,16 @@ impl Machine {
         }
     }
 
-    /// A turn of a task whose instruction is known to be a system call: it is not fetched and decoded again.
+    /// A turn of a task whose instruction is known to be a system call: it is not fetched and
+    /// decoded again.
     #[inline(always)]
     pub fn call(&mut self, task: usize)
         requires { MayTurn shown self.old (Some task) }
-        ensures holds { (g : Setup) (t : Turn) → IsNext shown g self.old t (Some task) → IsCalling g task t.state → MachineHolds shown g self.new (turn_of Level.Calls g (Some task) t) }
-        ensures count { note_count self.new.space.kernel ≤ note_count self.old.space.kernel + syscall_notes + 4 }
+        ensures holds { (g : Setup) (t : Turn) → IsNext shown g self.old t (Some task) →
+            IsCalling g task t.state → MachineHolds shown g self.new
+            (turn_of Level.Calls g (Some task) t) }
+        ensures count { note_count self.new.space.kernel ≤ note_count self.old.space.kernel +
+            syscall_notes + 4 }
     {
         self.load_context(task);
         self.syscall();

@@ -33,7 +33,8 @@ fn task_start(alloc: Global, image: &Image, i: usize) -> Result<TaskStart, Alloc
 
 /// What the image says of each task.
 fn task_starts(alloc: Global, image: &Image) -> Result<Vec<TaskStart>, AllocError>
-    ensures { IfOk result (λ v. map task_setup v.items ≡ map setup_of_task (image_data image.now).tasks) }
+    ensures { IfOk result (λ v. map task_setup v.items ≡ map setup_of_task
+        (image_data image.now).tasks) }
 {
     let mut tasks = Vec::new(alloc);
     for i in 0..image.task_count() {
@@ -56,7 +57,8 @@ fn line_start(image: &Image, k: usize) -> LineStart
 
 /// What the image says of each interrupt line.
 fn line_starts(alloc: Global, image: &Image) -> Result<Vec<LineStart>, AllocError>
-    ensures { IfOk result (λ v. map line_setup v.items ≡ map setup_of_line (image_data image.now).lines) }
+    ensures { IfOk result (λ v. map line_setup v.items ≡ map setup_of_line
+        (image_data image.now).lines) }
 {
     let mut lines = Vec::new(alloc);
     for k in 0..image.line_count() {
@@ -91,7 +93,8 @@ fn push_places(
 /// The places of all regions that are no device, by base and size in bytes.
 fn places(alloc: Global, image: &Image) -> Result<Vec<(u32, u32)>, AllocError>
     ensures places { IfOk result (λ v. ArePlaces (image_data image.now) v.items) }
-    ensures all { IfOk result (λ v. HavePlaces (image_data image.now) (length (image_data image.now).tasks) v.items) }
+    ensures all { IfOk result (λ v. HavePlaces (image_data image.now)
+        (length (image_data image.now).tasks) v.items) }
 {
     let mut places = Vec::new(alloc);
     for i in 0..image.task_count() {
@@ -126,7 +129,8 @@ fn ports_among(alloc: Global, regions: &[Region]) -> Result<Vec<Region>, AllocEr
 
 /// The regions of devices that each task may read.
 pub fn io_regions(alloc: Global, kernel: &Kernel) -> Result<Vec<Vec<Region>>, AllocError>
-    ensures { IfOk result (λ v. ArePorts (setup_of kernel.now) (task_count kernel.now) (map vec_items v.items)) }
+    ensures { IfOk result (λ v. ArePorts (setup_of kernel.now) (task_count kernel.now)
+        (map vec_items v.items)) }
 {
     let mut io_regions = Vec::new(alloc);
     for task in 0..kernel.task_count() {

@@ -1,8 +1,8 @@
-//! Parts of a board that become as they are told, each for itself. The state in between need not be sane; where the last one
-//! is, and its counts are in order, the board stands for it.
+//! Parts of a board that become as they are told, each for itself. The state in between need not be
+//! sane; where the last one is, and its counts are in order, the board stands for it.
 //!
-//! A board holds boxes of devices: a call that changes one is proved across crates only where it requires something, so each
-//! does, if only the range of a number.
+//! A board holds boxes of devices: a call that changes one is proved across crates only where it
+//! requires something, so each does, if only the range of a number.
 ghost use Rattle.std.specs.Prelude.{◌≡◌, ◌<◌, ◌≤◌, ◌^◌, ◌∷◌, [], length, true, slice_set};
 ghost use Rattle.std.specs.Option.{option_map};
 ghost use Rattle.kernel_abi.specs.Devices.{device_at, with_device, IsSettable};
@@ -54,17 +54,20 @@ impl Board {
     /// So many turns were made.
     pub fn set_turns(&mut self, v: u32)
         requires { v < 2 ^ 32 }
-        ensures holds { (x : Scenario) (s : State) → Holds shown x self.old s → Holds shown x self.new (record s { turn = v }) }
+        ensures holds { (x : Scenario) (s : State) → Holds shown x self.old s →
+            Holds shown x self.new (record s { turn = v }) }
         ensures count { count_of self.new ≡ count_of self.old }
     {
         self.turns = v;
         self.due = self.script.next(v);
     }
 
-    /// What happens from outside is another script's from now on. Its place is given the one before.
+    /// What happens from outside is another script's from now on. Its place is given the one
+    /// before.
     pub fn exchange_script(&mut self, script: &mut Script)
         requires { turns_of self.old < 2 ^ 32 }
-        ensures holds { (x : Scenario) (s : State) → Holds shown x self.old s → Holds shown (with_script x (script_data script.old)) self.new s }
+        ensures holds { (x : Scenario) (s : State) → Holds shown x self.old s →
+            Holds shown (with_script x (script_data script.old)) self.new s }
         ensures taken { script_of self.new ≡ script.old }
         ensures given { script.new ≡ script_of self.old }
         ensures count { count_of self.new ≡ count_of self.old }
@@ -76,7 +79,8 @@ impl Board {
     /// The time in ticks is so.
     pub fn set_now(&mut self, v: u64)
         requires { v < 2 ^ 64 }
-        ensures holds { (x : Scenario) (s : State) → Holds shown x self.old s → Holds shown x self.new (record s { now = v }) }
+        ensures holds { (x : Scenario) (s : State) → Holds shown x self.old s →
+            Holds shown x self.new (record s { now = v }) }
         ensures count { count_of self.new ≡ count_of self.old }
     {
         self.machine.save_context();
@@ -86,7 +90,8 @@ impl Board {
     /// The task with this index ran last.
     pub fn set_current(&mut self, v: usize)
         requires { v < count_of self.old }
-        ensures holds { (x : Scenario) (s : State) → Holds shown x self.old s → Holds shown x self.new (record s { current = v }) }
+        ensures holds { (x : Scenario) (s : State) → Holds shown x self.old s →
+            Holds shown x self.new (record s { current = v }) }
         ensures count { count_of self.new ≡ count_of self.old }
     {
         self.machine.save_context();
@@ -97,7 +102,8 @@ impl Board {
     /// The next call gets this number.
     pub fn set_next_call(&mut self, v: u32)
         requires { v < 2 ^ 32 }
-        ensures holds { (x : Scenario) (s : State) → Holds shown x self.old s → Holds shown x self.new (record s { next_call = v }) }
+        ensures holds { (x : Scenario) (s : State) → Holds shown x self.old s →
+            Holds shown x self.new (record s { next_call = v }) }
         ensures count { count_of self.new ≡ count_of self.old }
     {
         self.machine.save_context();
@@ -107,7 +113,9 @@ impl Board {
     /// An interrupt line is so; where there is none with this number, nothing changes.
     pub fn set_irq_line(&mut self, k: usize, enabled: bool, pending: bool)
         requires { k < 2 ^ 64 }
-        ensures holds { (x : Scenario) (s : State) → Holds shown x self.old s → Holds shown x self.new (record s { lines = slice_set s.lines k (record { enabled = enabled; pending = pending }) }) }
+        ensures holds { (x : Scenario) (s : State) → Holds shown x self.old s →
+            Holds shown x self.new (record s
+            { lines = slice_set s.lines k (record { enabled = enabled; pending = pending }) }) }
         ensures count { count_of self.new ≡ count_of self.old }
     {
         self.machine.save_context();
@@ -117,12 +125,13 @@ impl Board {
             .set_line(k, Line { enabled, pending });
     }
 
-    /// A task is so, and waits so and for nothing else: it was born as often as its generation says. The client of a call that it
-    /// waits for is that birth of it.
+    /// A task is so, and waits so and for nothing else: it was born as often as its generation
+    /// says. The client of a call that it waits for is that birth of it.
     pub fn set_task(&mut self, i: usize, v: &TaskView)
         requires there { i < count_of self.old }
         requires told { IsTold i (slot_told v.now) }
-        ensures holds { (x : Scenario) (s : State) → Holds shown x self.old s → Holds shown x self.new (with_slot i (slot_told v.now) s) }
+        ensures holds { (x : Scenario) (s : State) → Holds shown x self.old s →
+            Holds shown x self.new (with_slot i (slot_told v.now) s) }
         ensures count { count_of self.new ≡ count_of self.old }
     {
         self.machine.save_context();
@@ -130,11 +139,16 @@ impl Board {
         self.choice = choice_of(&self.machine.space.kernel);
     }
 
-    /// The byte at an address of the flash or of the RAM is so. With another flash it is a board of an image that has that one.
+    /// The byte at an address of the flash or of the RAM is so. With another flash it is a board of
+    /// an image that has that one.
     pub fn set_byte(&mut self, addr: u32, v: u8)
-        requires { (x : Scenario) × (s : State) × Holds shown x self.old s × (is_held s.memory addr ≡ true) }
-        ensures holds { (x : Scenario) (s : State) → Holds shown x self.old s → Holds shown (with_flash (with_bytes s.memory addr (v ∷ [])).flash x) self.new (record s { memory = with_bytes s.memory addr (v ∷ []) }) }
-        ensures ram { 0x20000000 ≤ addr → (x : Scenario) (s : State) → Holds shown x self.old s → Holds shown x self.new (record s { memory = with_bytes s.memory addr (v ∷ []) }) }
+        requires { (x : Scenario) × (s : State) × Holds shown x self.old s
+            × (is_held s.memory addr ≡ true) }
+        ensures holds { (x : Scenario) (s : State) → Holds shown x self.old s →
+            Holds shown (with_flash (with_bytes s.memory addr (v ∷ [])).flash x) self.new
+            (record s { memory = with_bytes s.memory addr (v ∷ []) }) }
+        ensures ram { 0x20000000 ≤ addr → (x : Scenario) (s : State) → Holds shown x self.old s →
+            Holds shown x self.new (record s { memory = with_bytes s.memory addr (v ∷ []) }) }
         ensures count { count_of self.new ≡ count_of self.old }
     {
         self.machine.save_context();
@@ -143,19 +157,26 @@ impl Board {
 
     /// All bytes of the RAM are so.
     pub fn set_ram(&mut self, bytes: &[u8])
-        requires { (x : Scenario) × (s : State) × Holds shown x self.old s × (length bytes.now ≡ length s.memory.ram) }
-        ensures holds { (x : Scenario) (s : State) → Holds shown x self.old s → Holds shown x self.new (record s { memory = record s.memory { ram = bytes.now } }) }
+        requires { (x : Scenario) × (s : State) × Holds shown x self.old s
+            × (length bytes.now ≡ length s.memory.ram) }
+        ensures holds { (x : Scenario) (s : State) → Holds shown x self.old s →
+            Holds shown x self.new (record s { memory = record s.memory { ram = bytes.now } }) }
         ensures count { count_of self.new ≡ count_of self.old }
     {
         self.machine.save_context();
         self.machine.space.kernel.set_ram(bytes);
     }
 
-    /// So many bytes were stored to the k-th device, modulo 2^32, and these wait in it, the first first.
+    /// So many bytes were stored to the k-th device, modulo 2^32, and these wait in it, the first
+    /// first.
     pub fn set_device(&mut self, k: usize, count: u32, queue: &[u8])
-        requires { (x : Scenario) × (s : State) × Holds shown x self.old s × (k < length s.devices) × IsSettable (device_at s.devices k).kind count queue.now }
+        requires { (x : Scenario) × (s : State) × Holds shown x self.old s × (k < length s.devices)
+            × IsSettable (device_at s.devices k).kind count queue.now }
         ensures holds { (x : Scenario) (s : State) → Holds shown x self.old s →
-            Holds shown x self.new (record s { devices = with_device s.devices k (record (device_at s.devices k) { count = count; queue = queue.now }) }) }
+            Holds shown x self.new (record s {
+              devices = with_device s.devices k
+                  (record (device_at s.devices k) { count = count; queue = queue.now });
+            }) }
         ensures count { count_of self.new ≡ count_of self.old }
     {
         self.machine.save_context();

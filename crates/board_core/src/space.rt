@@ -36,7 +36,8 @@ pub fn is_device(addr: u32) -> bool
 }
 
 impl AddressSpace {
-    /// What n bytes hold: those of the kernel's memory; where devices lie, what the device behind them shows.
+    /// What n bytes hold: those of the kernel's memory; where devices lie, what the device behind
+    /// them shows.
     #[inline(always)]
     fn number(&self, addr: u32, n: u32) -> u32
         requires { IsSize n }
@@ -73,8 +74,8 @@ impl AddressSpace {
         }
     }
 
-    /// Writes the low n bytes of a value where they lie in the RAM; where devices lie, stores it to the one behind the
-    /// address; elsewhere a store changes nothing.
+    /// Writes the low n bytes of a value where they lie in the RAM; where devices lie, stores it to
+    /// the one behind the address; elsewhere a store changes nothing.
     #[inline(always)]
     fn write(&mut self, addr: u32, n: u32, value: u32)
         requires { IsSize n }
@@ -88,7 +89,8 @@ impl AddressSpace {
         }
     }
 
-    /// Stores a value to the device behind an address. A byte that it gives out is noted, where there is room.
+    /// Stores a value to the device behind an address. A byte that it gives out is noted, where
+    /// there is room.
     #[inline(never)]
     fn give(&mut self, addr: u32, value: u32)
         ensures { IsGiven shown self.old addr value self.new }
@@ -101,7 +103,9 @@ impl AddressSpace {
 
     /// A byte that a device gives out is noted, where there is room.
     fn note_given(&mut self, given: Given)
-        ensures noted { note_count self.old.kernel < turn_notes → (g : Setup) (t : Turn) → Holds g self.old.kernel t → Holds g self.new.kernel (noted (Out given.device given.byte) t) }
+        ensures noted { note_count self.old.kernel < turn_notes → (g : Setup) (t : Turn) →
+            Holds g self.old.kernel t → Holds g self.new.kernel
+            (noted (Out given.device given.byte) t) }
         ensures frame { AddsAtMost self.old.kernel 1 self.new.kernel }
         ensures current { current_of self.new.kernel ≡ current_of self.old.kernel }
         ensures devices { self.new.devices ≡ self.old.devices }

@@ -11,9 +11,12 @@ ghost use Rattle.task_table.specs.model.Sane.{Sane};
 ghost use Rattle.board_model.specs.Script.{start_of};
 ghost use Rattle.board_core.specs.Opened.{setup_of_image, scenario_of};
 
-/// The start of every run is sane, whatever its script: of each image that is read, where nothing has come to its devices as
-/// yet. So what board_model says of runs from a sane start, or of the turns that follow one, holds of every run.
+/// The start of every run is sane, whatever its script: of each image that is read, where nothing
+/// has come to its devices as yet. So what board_model says of runs from a sane start, or of the
+/// turns that follow one, holds of every run.
 pub fn the_start_of_every_run_is_sane()
     ensures sound { (p : ImageData) → Facts p → AreAllBytes p.flash → IsSound (setup_of_image p) }
-    ensures sane { (p : ImageData) (script : ScriptData) (devices : List DeviceData) → Facts p → AreAllBytes p.flash → AreFresh devices → Sane (setup_of_image p) (start_of (scenario_of p script devices)) }
+    ensures sane { (p : ImageData) (script : ScriptData) (devices : List DeviceData) → Facts p →
+        AreAllBytes p.flash → AreFresh devices →
+        Sane (setup_of_image p) (start_of (scenario_of p script devices)) }
 {}

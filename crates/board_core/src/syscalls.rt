@@ -39,8 +39,8 @@ fn send_anywhere(k: &mut Kernel, caller: usize)
     }
 }
 
-/// A task makes the system call whose number is in its r11; a number that no system call has misuses the
-/// system calls that there are.
+/// A task makes the system call whose number is in its r11; a number that no system call has
+/// misuses the system calls that there are.
 pub fn syscall(k: &mut Kernel, caller: usize)
     requires may_call { MayCall k.old caller }
     requires number { next_call_of k.old + 1 < 2 ^ 32 }

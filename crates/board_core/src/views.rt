@@ -23,9 +23,9 @@ use region_check::Region;
 use task_table::{Kernel, LineStart, Wait};
 use words_core::Flags;
 
-/// A task between turns: the generation is how often it was born again modulo 64, the timer its deadline
-/// in ticks and the bits that are posted then; the wait has every field of the task's open call or
-/// listen, with ids in the place of births.
+/// A task between turns: the generation is how often it was born again modulo 64, the timer its
+/// deadline in ticks and the bits that are posted then; the wait has every field of the task's open
+/// call or listen, with ids in the place of births.
 #[derive(Clone, Copy, Debug, PartialEq, Eq)]
 pub struct TaskView {
     pub generation: u8,
@@ -38,27 +38,30 @@ pub struct TaskView {
 }
 
 impl Board {
-    /// Whether the run ends here, its bound aside: the supervisor has faulted, or no task is ready and
-    /// nothing more comes from outside.
+    /// Whether the run ends here, its bound aside: the supervisor has faulted, or no task is ready
+    /// and nothing more comes from outside.
     pub fn ended(&self) -> Option<End>
         requires { StandsForSome shown self.now }
         ensures end { (x : Scenario) (s : State) → Stands shown x self.now s → result ≡ end_at x s }
-        ensures before { (x : Scenario) (s : State) (left : ℕ) → Stands shown x self.now s → 0 < left → result ≡ ending x left s }
+        ensures before { (x : Scenario) (s : State) (left : ℕ) → Stands shown x self.now s →
+            0 < left → result ≡ ending x left s }
     {
         end_by(self.choice.down, self.is_still())
     }
 
     /// No task is chosen, and nothing more comes from outside.
     fn is_still(&self) -> bool
-        ensures { result ≡ (is_none self.now.choice.next && not (lasts (script_data self.now.script) self.now.turns)) }
+        ensures { result ≡ (is_none self.now.choice.next && not
+            (lasts (script_data self.now.script) self.now.turns)) }
     {
         self.choice.next.is_none() && !self.script.lasts(self.turns)
     }
 
-    /// The next turn, from turn `from` on, in which something happens; None where nothing does below turn
-    /// 1,000,000,000.
+    /// The next turn, from turn `from` on, in which something happens; None where nothing does
+    /// below turn 1,000,000,000.
     pub fn next(&self, from: u32) -> Option<u32>
-        ensures { (x : Scenario) (s : State) → Stands shown x self.now s → IsNext x.script from result }
+        ensures { (x : Scenario) (s : State) → Stands shown x self.now s →
+            IsNext x.script from result }
     {
         self.script.next(from)
     }
@@ -95,7 +98,8 @@ impl Board {
     pub fn task_count(&self) -> usize
         ensures count { result ≡ count_of self.now }
         ensures few { result ≤ most_tasks }
-        ensures tasks { (x : Scenario) (s : State) → Stands shown x self.now s → result ≡ length s.tasks }
+        ensures tasks { (x : Scenario) (s : State) → Stands shown x self.now s →
+            result ≡ length s.tasks }
     {
         self.machine.space.kernel.task_count()
     }
@@ -113,14 +117,16 @@ impl Board {
 
     /// The byte at an address of the flash or of the RAM.
     pub fn byte(&self, addr: u32) -> Option<u8>
-        ensures { (x : Scenario) (s : State) → Stands shown x self.now s → result ≡ byte_at s.memory addr }
+        ensures { (x : Scenario) (s : State) → Stands shown x self.now s →
+            result ≡ byte_at s.memory addr }
     {
         self.machine.space.kernel.byte(addr)
     }
 
     /// How many bytes of RAM there are.
     pub fn ram_len(&self) -> usize
-        ensures len { (x : Scenario) (s : State) → Stands shown x self.now s → result ≡ length s.memory.ram }
+        ensures len { (x : Scenario) (s : State) → Stands shown x self.now s →
+            result ≡ length s.memory.ram }
         ensures few { result ≤ 262144 }
     {
         self.machine.space.kernel.ram_len() as usize
@@ -128,7 +134,8 @@ impl Board {
 
     /// All bytes of the RAM.
     pub fn read_ram(&self, out: &mut [u8])
-        requires { (x : Scenario) × (s : State) × Stands shown x self.now s × (length out.old ≡ length s.memory.ram) }
+        requires { (x : Scenario) × (s : State) × Stands shown x self.now s
+            × (length out.old ≡ length s.memory.ram) }
         ensures { (x : Scenario) (s : State) → Stands shown x self.now s → out.new ≡ s.memory.ram }
     {
         self.machine.space.kernel.read_ram(out);
@@ -136,7 +143,8 @@ impl Board {
 
     /// How an interrupt line is: enabled, pending. None past the last one.
     pub fn irq_line(&self, k: usize) -> Option<(bool, bool)>
-        ensures { (x : Scenario) (s : State) → Stands shown x self.now s → result ≡ option_map (λ l. (l.enabled, l.pending)) (slice_get s.lines k) }
+        ensures { (x : Scenario) (s : State) → Stands shown x self.now s →
+            result ≡ option_map (λ l. (l.enabled, l.pending)) (slice_get s.lines k) }
     {
         match self.machine.space.kernel.line(k) {
             Some(line) => Some((line.enabled, line.pending)),
@@ -146,21 +154,24 @@ impl Board {
 
     /// The owners of the interrupt lines that have one, in the order of the image.
     pub fn owners(&self) -> &[LineStart]
-        ensures { (x : Scenario) (s : State) → Stands shown x self.now s → map line_setup result.now ≡ x.setup.lines }
+        ensures { (x : Scenario) (s : State) → Stands shown x self.now s →
+            map line_setup result.now ≡ x.setup.lines }
     {
         self.machine.space.kernel.owners()
     }
 
     /// The regions of a task; none where there is no such task.
     pub fn regions(&self, i: usize) -> &[Region]
-        ensures { (x : Scenario) (s : State) → Stands shown x self.now s → result.now ≡ (setup_at x.setup i).regions }
+        ensures { (x : Scenario) (s : State) → Stands shown x self.now s →
+            result.now ≡ (setup_at x.setup i).regions }
     {
         self.machine.space.kernel.regions(i)
     }
 
     /// Region k of a task.
     pub fn region(&self, i: usize, k: usize) -> Option<Region>
-        ensures { (x : Scenario) (s : State) → Stands shown x self.now s → result ≡ slice_get (setup_at x.setup i).regions k }
+        ensures { (x : Scenario) (s : State) → Stands shown x self.now s →
+            result ≡ slice_get (setup_at x.setup i).regions k }
     {
         self.machine.space.kernel.regions(i).get(k).copied()
     }
@@ -198,10 +209,12 @@ fn kept(kernel: &Kernel, i: usize) -> TaskView
     }
 }
 
-/// What a machine shows of a task: the registers and flags of the processor where it has its context.
+/// What a machine shows of a task: the registers and flags of the processor where it has its
+/// context.
 fn view(machine: &Machine, i: usize) -> TaskView
     requires { i < task_count machine.now.space.kernel }
-    ensures { (g : Setup) (t : Turn) → MachineHolds shown g machine.now t → IsTask t.state i result }
+    ensures { (g : Setup) (t : Turn) → MachineHolds shown g machine.now t →
+        IsTask t.state i result }
 {
     let kept = kept(&machine.space.kernel, i);
     if machine.is_loaded_for(i) {

@@ -10,9 +10,12 @@ ghost use Rattle.board_model.specs.Turn.{cpu_of};
 ghost use Rattle.board_core.specs.fast.Sights.{Sight, Polls};
 ghost use Rattle.board_core.specs.fast.Windowed.{IsUndisturbed, AreTurns};
 
-/// Instructions on end of a task, each within a window of its memory or over it and the devices that it may read, are its turns,
-/// where nothing is due and the task is the one that is chosen: none of them is noted, and they change nothing but its processor,
-/// the data and the area of the window, and what devices give up.
+/// Instructions on end of a task, each within a window of its memory or over it and the devices
+/// that it may read, are its turns, where nothing is due and the task is the one that is chosen:
+/// none of them is noted, and they change nothing but its processor, the data and the area of the
+/// window, and what devices give up.
 pub fn instructions_within_a_window_are_turns()
-    ensures { (x : Scenario) (s : State) (c n : ℕ) (o p : Sight) (cpu : Processor) → Sane x.setup s → IsUndisturbed x s c o n → Polls o (cpu_of (task_at s c)) n p cpu → AreTurns x s c o n p cpu }
+    ensures { (x : Scenario) (s : State) (c n : ℕ) (o p : Sight) (cpu : Processor) →
+        Sane x.setup s → IsUndisturbed x s c o n → Polls o (cpu_of (task_at s c)) n p cpu →
+        AreTurns x s c o n p cpu }
 {}

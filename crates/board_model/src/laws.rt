@@ -31,141 +31,201 @@ ghost use Rattle.board_model.specs.Lifetimes.{IsUnused, IsGroundedTurn, ChangesO
 /// The turn of the chosen task, from where it is the current one, is a chain of steps: those of its
 /// instruction or of its system call's row, and what is noted besides.
 pub fn turns_are_chains_of_steps()
-    ensures { (level : NoteLevel) (g : Setup) (c : ℕ) (t : Turn) → Sane g t.state → chosen g t.state ≡ Some c → Chain (Step g (with_current c t).state c) (with_current c t) (turn_of level g (Some c) t) }
+    ensures { (level : NoteLevel) (g : Setup) (c : ℕ) (t : Turn) → Sane g t.state →
+        chosen g t.state ≡ Some c → Chain (Step g (with_current c t).state c) (with_current c t)
+        (turn_of level g (Some c) t) }
 {}
 
 /// The events of a turn, an instruction of a ready task and the whole turn leave a sane state sane.
 pub fn turns_keep_sane()
-    ensures events { (x : Scenario) (s : State) → Sane x.setup s → Sane x.setup (after_events x s).state }
-    ensures stepped { (level : NoteLevel) (g : Setup) (c : ℕ) (t : Turn) → Sane g t.state → c < length t.state.tasks → is_ready t.state c ≡ true → Sane g (stepped level g c t).state }
-    ensures turn { (level : NoteLevel) (x : Scenario) (s : State) → Sane x.setup s → Sane x.setup (turn level x s).state }
+    ensures events { (x : Scenario) (s : State) → Sane x.setup s →
+        Sane x.setup (after_events x s).state }
+    ensures stepped { (level : NoteLevel) (g : Setup) (c : ℕ) (t : Turn) → Sane g t.state →
+        c < length t.state.tasks → is_ready t.state c ≡ true → Sane g (stepped level g c t).state }
+    ensures turn { (level : NoteLevel) (x : Scenario) (s : State) → Sane x.setup s →
+        Sane x.setup (turn level x s).state }
 {}
 
 /// The task that is chosen is ready, and there.
 pub fn who_is_chosen_is_ready()
-    ensures ready { (g : Setup) (s : State) (c : ℕ) → Sane g s → chosen g s ≡ Some c → is_ready s c ≡ true }
-    ensures inside { (g : Setup) (s : State) (c : ℕ) → Sane g s → chosen g s ≡ Some c → c < length s.tasks }
+    ensures ready { (g : Setup) (s : State) (c : ℕ) → Sane g s → chosen g s ≡ Some c →
+        is_ready s c ≡ true }
+    ensures inside { (g : Setup) (s : State) (c : ℕ) → Sane g s → chosen g s ≡ Some c →
+        c < length s.tasks }
 {}
 
-/// A turn counts itself, events change the time by at most a tick each, and so the counts are in order
-/// after each turn of at most nine events, as each turn of a script that is read is.
+/// A turn counts itself, events change the time by at most a tick each, and so the counts are in
+/// order after each turn of at most nine events, as each turn of a script that is read is.
 pub fn turns_keep_counts_in_order()
-    ensures turn { (level : NoteLevel) (x : Scenario) (s : State) → Sane x.setup s → (turn level x s).state.turn ≡ s.turn + 1 }
-    ensures now { (g : Setup) (events : List Event) (t : Turn) → (fold (happened g) t events).state.now ≤ t.state.now + length events }
-    ensures counted { (level : NoteLevel) (x : Scenario) (s : State) → Sane x.setup s → length (events_of x.script s.turn) ≤ 9 → IsCounted s → IsCounted (turn level x s).state }
-    ensures of_scripts { (level : NoteLevel) (x : Scenario) (s : State) → Sane x.setup s → Facts x.script → IsCounted s → IsCounted (turn level x s).state }
+    ensures turn { (level : NoteLevel) (x : Scenario) (s : State) → Sane x.setup s →
+        (turn level x s).state.turn ≡ s.turn + 1 }
+    ensures now { (g : Setup) (events : List Event) (t : Turn) →
+        (fold (happened g) t events).state.now ≤ t.state.now + length events }
+    ensures counted { (level : NoteLevel) (x : Scenario) (s : State) → Sane x.setup s →
+        length (events_of x.script s.turn) ≤ 9 → IsCounted s → IsCounted (turn level x s).state }
+    ensures of_scripts { (level : NoteLevel) (x : Scenario) (s : State) → Sane x.setup s →
+        Facts x.script → IsCounted s → IsCounted (turn level x s).state }
 {}
 
-/// So a run leaves its counts in order, where no turn of its script has more than nine events, as none of a script that is read
-/// has; and it starts so. It leaves the RAM as long as it was.
+/// So a run leaves its counts in order, where no turn of its script has more than nine events, as
+/// none of a script that is read has; and it starts so. It leaves the RAM as long as it was.
 pub fn runs_keep_counts_in_order()
-    ensures counted { (level : NoteLevel) (x : Scenario) (n : ℕ) (s : State) → Sane x.setup s → ((turn : ℕ) → length (events_of x.script turn) ≤ 9) → IsCounted s → IsCounted (run level x n s).last }
-    ensures of_scripts { (level : NoteLevel) (x : Scenario) (n : ℕ) (s : State) → Sane x.setup s → Facts x.script → IsCounted s → IsCounted (run level x n s).last }
+    ensures counted { (level : NoteLevel) (x : Scenario) (n : ℕ) (s : State) → Sane x.setup s →
+        ((turn : ℕ) → length (events_of x.script turn) ≤ 9) → IsCounted s →
+        IsCounted (run level x n s).last }
+    ensures of_scripts { (level : NoteLevel) (x : Scenario) (n : ℕ) (s : State) → Sane x.setup s →
+        Facts x.script → IsCounted s → IsCounted (run level x n s).last }
     ensures start { (x : Scenario) → IsCounted (start_of x) }
-    ensures ram { (level : NoteLevel) (x : Scenario) (n : ℕ) (s : State) → Sane x.setup s → length (run level x n s).last.memory.ram ≡ length s.memory.ram }
+    ensures ram { (level : NoteLevel) (x : Scenario) (n : ℕ) (s : State) → Sane x.setup s →
+        length (run level x n s).last.memory.ram ≡ length s.memory.ram }
 {}
 
-/// A turn that notes nothing after its events leaves the choice: the same task is chosen as after them, and
-/// the supervisor has faulted just where it had then.
+/// A turn that notes nothing after its events leaves the choice: the same task is chosen as after
+/// them, and the supervisor has faulted just where it had then.
 pub fn turns_without_notes_keep_the_choice()
-    ensures next { (level : NoteLevel) (x : Scenario) (s : State) → Sane x.setup s → length (turn level x s).notes ≤ length (after_events x s).notes →
+    ensures next { (level : NoteLevel) (x : Scenario) (s : State) → Sane x.setup s →
+        length (turn level x s).notes ≤ length (after_events x s).notes →
         chosen x.setup (turn level x s).state ≡ chosen x.setup (after_events x s).state }
-    ensures down { (level : NoteLevel) (x : Scenario) (s : State) → Sane x.setup s → length (turn level x s).notes ≤ length (after_events x s).notes → is_down (turn level x s).state ≡ is_down (after_events x s).state }
+    ensures down { (level : NoteLevel) (x : Scenario) (s : State) → Sane x.setup s →
+        length (turn level x s).notes ≤ length (after_events x s).notes →
+        is_down (turn level x s).state ≡ is_down (after_events x s).state }
 {}
 
-/// A byte that comes for a device leaves the choice: each task is as ready as before, the same one is chosen, and the
-/// supervisor has faulted just where it had.
+/// A byte that comes for a device leaves the choice: each task is as ready as before, the same one
+/// is chosen, and the supervisor has faulted just where it had.
 pub fn bytes_for_devices_keep_the_choice()
-    ensures ready { (g : Setup) (device byte i : ℕ) (t : Turn) → is_ready (happened g t (Feed device byte)).state i ≡ is_ready t.state i }
-    ensures next { (g : Setup) (device byte : ℕ) (t : Turn) → chosen g (happened g t (Feed device byte)).state ≡ chosen g t.state }
-    ensures down { (g : Setup) (device byte : ℕ) (t : Turn) → is_down (happened g t (Feed device byte)).state ≡ is_down t.state }
+    ensures ready { (g : Setup) (device byte i : ℕ) (t : Turn) →
+        is_ready (happened g t (Feed device byte)).state i ≡ is_ready t.state i }
+    ensures next { (g : Setup) (device byte : ℕ) (t : Turn) →
+        chosen g (happened g t (Feed device byte)).state ≡ chosen g t.state }
+    ensures down { (g : Setup) (device byte : ℕ) (t : Turn) →
+        is_down (happened g t (Feed device byte)).state ≡ is_down t.state }
 {}
 
-/// A turn writes on its grounds alone, touches no call but those that are open or that it offers, and leaves alone what is
-/// closed. (Hubris Reference: IPC, leases.)
+/// A turn writes on its grounds alone, touches no call but those that are open or that it offers,
+/// and leaves alone what is closed. (Hubris Reference: IPC, leases.)
 pub fn turns_stand_on_their_grounds()
-    ensures { (level : NoteLevel) (x : Scenario) (s : State) → Sane x.setup s → IsGroundedTurn level x s }
+    ensures { (level : NoteLevel) (x : Scenario) (s : State) → Sane x.setup s →
+        IsGroundedTurn level x s }
 {}
 
-/// A turn changes devices only at addresses that the chosen task may read, or write; before it each byte that comes from
-/// outside changes its own, and an idle turn changes none.
+/// A turn changes devices only at addresses that the chosen task may read, or write; before it each
+/// byte that comes from outside changes its own, and an idle turn changes none.
 pub fn turns_reach_devices_where_they_may()
-    ensures reached { (level : NoteLevel) (x : Scenario) (s : State) (c : ℕ) → Sane x.setup s → IsOwnTurn x c s → AreReached x.setup c (after_events x s).state.devices (turn level x s).state.devices }
-    ensures idle { (level : NoteLevel) (x : Scenario) (s : State) → chosen x.setup (after_events x s).state ≡ None → (turn level x s).state.devices ≡ (after_events x s).state.devices }
-    ensures fed { (x : Scenario) (s : State) → (after_events x s).state.devices ≡ fold devices_after s.devices (events_of x.script s.turn) }
+    ensures reached { (level : NoteLevel) (x : Scenario) (s : State) (c : ℕ) → Sane x.setup s →
+        IsOwnTurn x c s → AreReached x.setup c (after_events x s).state.devices
+        (turn level x s).state.devices }
+    ensures idle { (level : NoteLevel) (x : Scenario) (s : State) →
+        chosen x.setup (after_events x s).state ≡ None →
+        (turn level x s).state.devices ≡ (after_events x s).state.devices }
+    ensures fed { (x : Scenario) (s : State) →
+        (after_events x s).state.devices ≡ fold devices_after s.devices
+        (events_of x.script s.turn) }
 {}
 
-/// The notes of a run from the start are a right ledger of its calls: each is offered once, taken and closed at most once,
-/// in this order, and it is open at the end just where it was offered and not closed.
+/// The notes of a run from the start are a right ledger of its calls: each is offered once, taken
+/// and closed at most once, in this order, and it is open at the end just where it was offered and
+/// not closed.
 pub fn runs_keep_a_ledger()
-    ensures { (level : NoteLevel) (x : Scenario) (n : ℕ) → Sane x.setup (start_of x) → IsLedgerOfRun level x n }
+    ensures { (level : NoteLevel) (x : Scenario) (n : ℕ) → Sane x.setup (start_of x) →
+        IsLedgerOfRun level x n }
 {}
 
-/// A run is its first turns, one after the other, as many as it makes: its last state is the one that these come to, and its notes
-/// are theirs. So what holds of each turn that follows a state holds of each turn of its runs.
+/// A run is its first turns, one after the other, as many as it makes: its last state is the one
+/// that these come to, and its notes are theirs. So what holds of each turn that follows a state
+/// holds of each turn of its runs.
 pub fn runs_are_turns_one_after_the_other()
     ensures { (level : NoteLevel) (x : Scenario) (n : ℕ) (s : State) → IsOfTurns level x n s }
 {}
 
-/// Each byte that a run changes lies on a ground. Where a byte of memory is after a turn of a run another one than before it, a
-/// task was chosen in that turn, and it may change this byte: one of its own regions, of the buffer of a task that listens and
-/// takes what it sends in this turn, or of the reply buffer or a lease that may be written of a call that it serves, whose client still
-/// waits for it, both being of the very births of which they were when the call was made. (Hubris Reference: IPC, leases.)
+/// Each byte that a run changes lies on a ground. Where a byte of memory is after a turn of a run
+/// another one than before it, a task was chosen in that turn, and it may change this byte: one of
+/// its own regions, of the buffer of a task that listens and takes what it sends in this turn, or
+/// of the reply buffer or a lease that may be written of a call that it serves, whose client still
+/// waits for it, both being of the very births of which they were when the call was made. (Hubris
+/// Reference: IPC, leases.)
 pub fn each_byte_that_a_run_changes_lies_on_a_ground()
-    ensures { (level : NoteLevel) (x : Scenario) (n : ℕ) (s : State) → Sane x.setup s → ChangesOnGrounds level x (state_after level x n s) }
+    ensures { (level : NoteLevel) (x : Scenario) (n : ℕ) (s : State) → Sane x.setup s →
+        ChangesOnGrounds level x (state_after level x n s) }
 {}
 
-/// A closed call moves no byte. From the turn on that follows the one in which a run from the start notes that a call is closed, no
-/// byte is written on its ground, none is read for it, and no task takes it or borrows from it; and so it is from any state in which a
-/// call is closed. (Hubris Reference: leases.)
+/// A closed call moves no byte. From the turn on that follows the one in which a run from the start
+/// notes that a call is closed, no byte is written on its ground, none is read for it, and no task
+/// takes it or borrows from it; and so it is from any state in which a call is closed. (Hubris
+/// Reference: leases.)
 pub fn a_closed_call_moves_no_byte()
-    ensures noted { (level : NoteLevel) (x : Scenario) (n m k : ℕ) (ending : Ending) → Sane x.setup (start_of x) → ClosesIn level x n k ending → n < m → IsUnused (turn_after level x m (start_of x)) k }
-    ensures closed { (level : NoteLevel) (x : Scenario) (n k : ℕ) (s : State) → Sane x.setup s → IsClosed s k → IsUnused (turn_after level x n s) k × IsClosed (state_after level x n s) k }
+    ensures noted { (level : NoteLevel) (x : Scenario) (n m k : ℕ) (ending : Ending) →
+        Sane x.setup (start_of x) → ClosesIn level x n k ending → n < m →
+        IsUnused (turn_after level x m (start_of x)) k }
+    ensures closed { (level : NoteLevel) (x : Scenario) (n k : ℕ) (s : State) → Sane x.setup s →
+        IsClosed s k → IsUnused (turn_after level x n s) k × IsClosed (state_after level x n s) k }
 {}
 
-/// A fault changes nothing else. Where an instruction or a system call faults the task that was chosen, memory, the devices and
-/// all the registers and flags of the task are after the turn as they were after its events, nothing was written for another
-/// task, nor read of one but entries of lease tables, and of the other tasks only task 0 changes: by the post of its
-/// fault bits. (Hubris Reference: supervision; that a refused instruction or system call takes no effect is docs/FORMATS.md.)
+/// A fault changes nothing else. Where an instruction or a system call faults the task that was
+/// chosen, memory, the devices and all the registers and flags of the task are after the turn as
+/// they were after its events, nothing was written for another task, nor read of one but entries of
+/// lease tables, and of the other tasks only task 0 changes: by the post of its fault bits. (Hubris
+/// Reference: supervision; that a refused instruction or system call takes no effect is
+/// docs/FORMATS.md.)
 pub fn faults_change_nothing_else()
-    ensures state { (level : NoteLevel) (x : Scenario) (s : State) (c : ℕ) → Sane x.setup s → IsFaulting level x s c → IsSameButForFault x.setup c (after_events x s).state (turn level x s).state }
-    ensures writes { (level : NoteLevel) (x : Scenario) (s : State) (c : ℕ) → Sane x.setup s → IsFaulting level x s c → (turn level x s).writes ≡ [] }
-    ensures reads { (level : NoteLevel) (x : Scenario) (s : State) (c : ℕ) → Sane x.setup s → IsFaulting level x s c → AreEntries (turn level x s).reads }
+    ensures state { (level : NoteLevel) (x : Scenario) (s : State) (c : ℕ) → Sane x.setup s →
+        IsFaulting level x s c → IsSameButForFault x.setup c (after_events x s).state
+        (turn level x s).state }
+    ensures writes { (level : NoteLevel) (x : Scenario) (s : State) (c : ℕ) → Sane x.setup s →
+        IsFaulting level x s c → (turn level x s).writes ≡ [] }
+    ensures reads { (level : NoteLevel) (x : Scenario) (s : State) (c : ℕ) → Sane x.setup s →
+        IsFaulting level x s c → AreEntries (turn level x s).reads }
 {}
 
-/// Where the task that was chosen makes a system call that names an earlier birth of a task, the turn changes nothing but that
-/// the task gets its answer and is past the call: SEND and a closed RECV that nothing before decides, the borrows and POST
-/// the dead code with the present generation, REPLY and REPLY_FAULT nothing; nothing was written, nor read for another task.
-/// REFRESH_TASK_ID gets the id of the present birth, and REPLY_FAULT with a reason above 5 faults the task.
-/// (Hubris Reference: task ids and generations.)
+/// Where the task that was chosen makes a system call that names an earlier birth of a task, the
+/// turn changes nothing but that the task gets its answer and is past the call: SEND and a closed
+/// RECV that nothing before decides, the borrows and POST the dead code with the present
+/// generation, REPLY and REPLY_FAULT nothing; nothing was written, nor read for another task.
+/// REFRESH_TASK_ID gets the id of the present birth, and REPLY_FAULT with a reason above 5 faults
+/// the task. (Hubris Reference: task ids and generations.)
 pub fn turns_with_dead_ids_change_their_caller_alone()
-    ensures { (level : NoteLevel) (x : Scenario) (s : State) → Sane x.setup s → IsDeadTurn level x s }
+    ensures { (level : NoteLevel) (x : Scenario) (s : State) → Sane x.setup s →
+        IsDeadTurn level x s }
 {}
 
-/// An outdated id touches no memory. In whatever turn of a run a task makes a system call that names an earlier birth of a task, be
-/// it answered, refused or overtaken by a notification: memory is as before, and nothing was written. (Hubris Reference: task ids and generations.)
+/// An outdated id touches no memory. In whatever turn of a run a task makes a system call that
+/// names an earlier birth of a task, be it answered, refused or overtaken by a notification: memory
+/// is as before, and nothing was written. (Hubris Reference: task ids and generations.)
 pub fn an_outdated_id_touches_no_memory()
-    ensures { (level : NoteLevel) (x : Scenario) (n c : ℕ) (s : State) → Sane x.setup s → NamesDead x (state_after level x n s) c → TouchesNoMemory level x (state_after level x n s) }
+    ensures { (level : NoteLevel) (x : Scenario) (n c : ℕ) (s : State) → Sane x.setup s →
+        NamesDead x (state_after level x n s) c →
+        TouchesNoMemory level x (state_after level x n s) }
 {}
 
-/// The moves of an instruction change nothing of a state but its memory and its devices, and what is noted changes none.
+/// The moves of an instruction change nothing of a state but its memory and its devices, and what
+/// is noted changes none.
 pub fn moves_change_memory_and_devices_alone()
-    ensures moves { (moves : List Move) (t : Turn) → (fold moved t moves).state ≡ record t.state { memory = (fold moved t moves).state.memory; devices = (fold moved t moves).state.devices } }
-    ensures noted_at { (level : NoteLevel) (n : Note) (t : Turn) → (noted_at level n t).state ≡ t.state }
+    ensures moves { (moves : List Move) (t : Turn) →
+        (fold moved t moves).state ≡ record t.state {
+          memory = (fold moved t moves).state.memory;
+          devices = (fold moved t moves).state.devices;
+        } }
+    ensures noted_at { (level : NoteLevel) (n : Note) (t : Turn) →
+        (noted_at level n t).state ≡ t.state }
 {}
 
 /// The fault of an instruction that has a code has a number from 1 to 10.
 pub fn faults_of_instructions_are_known()
-    ensures from_one { (g : Setup) (t : Turn) (insn : Insn) (fault : Fault) → Sane g t.state → IsCoded insn → effect_of g t.state.current insn t ≡ Trap fault → 1 ≤ fault.number }
-    ensures to_ten { (g : Setup) (t : Turn) (insn : Insn) (fault : Fault) → Sane g t.state → IsCoded insn → effect_of g t.state.current insn t ≡ Trap fault → fault.number ≤ 10 }
+    ensures from_one { (g : Setup) (t : Turn) (insn : Insn) (fault : Fault) → Sane g t.state →
+        IsCoded insn → effect_of g t.state.current insn t ≡ Trap fault → 1 ≤ fault.number }
+    ensures to_ten { (g : Setup) (t : Turn) (insn : Insn) (fault : Fault) → Sane g t.state →
+        IsCoded insn → effect_of g t.state.current insn t ≡ Trap fault → fault.number ≤ 10 }
 {}
 
-/// A turn in which nothing is due has no events, so it begins as it is after them; what was due later
-/// still is.
+/// A turn in which nothing is due has no events, so it begins as it is after them; what was due
+/// later still is.
 pub fn turns_without_events_begin_at_once()
-    ensures none { (script : ScriptData) (turn : ℕ) (due : Option ℕ) → turn < 1000000000 → IsNext script turn due → due ≢ Some turn → events_of script turn ≡ [] }
-    ensures later { (script : ScriptData) (turn : ℕ) (due : Option ℕ) → IsNext script turn due → due ≢ Some turn → IsNext script (turn + 1) due }
-    ensures begun { (x : Scenario) (s : State) → events_of x.script s.turn ≡ [] → begun s ≡ after_events x s }
+    ensures none { (script : ScriptData) (turn : ℕ) (due : Option ℕ) → turn < 1000000000 →
+        IsNext script turn due → due ≢ Some turn → events_of script turn ≡ [] }
+    ensures later { (script : ScriptData) (turn : ℕ) (due : Option ℕ) → IsNext script turn due →
+        due ≢ Some turn → IsNext script (turn + 1) due }
+    ensures begun { (x : Scenario) (s : State) → events_of x.script s.turn ≡ [] →
+        begun s ≡ after_events x s }
 {}
 
 /// With turns left the bound does not end a run.

@@ -1,4 +1,5 @@
-//! The model of the board: one turn, a run of turns, and the laws that hold of them. Nothing runs here.
+//! The model of the board: one turn, a run of turns, and the laws that hold of them. Nothing runs
+//! here.
 #![tactic(auto)]
 
 mod cuts;

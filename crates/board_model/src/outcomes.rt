@@ -1,7 +1,7 @@
 //! How much of a run is noted, and what is noted of its turns and its end.
 
-/// How much of a run is noted: what system calls, events and faults did; or all instructions too, with the
-/// registers after each.
+/// How much of a run is noted: what system calls, events and faults did; or all instructions too,
+/// with the registers after each.
 #[derive(Clone, Copy, Debug, PartialEq, Eq)]
 pub enum Level {
     Calls,

@@ -12,30 +12,43 @@ ghost use Rattle.board_model.specs.Cut.{cut_at, left_of};
 ghost use Rattle.board_model.specs.Laid.{with_script, arriving, is_over};
 ghost use Rattle.board_model.specs.SameScripts.{AgreeFor, EndAlike};
 
-/// A run goes by what happens in each of its turns, and by whether its script lasts there, and by nothing else of its script.
+/// A run goes by what happens in each of its turns, and by whether its script lasts there, and by
+/// nothing else of its script.
 pub fn what_happens_decides()
-    ensures { (level : NoteLevel) (x : Scenario) (other : ScriptData) (n : ℕ) (s : State) → Sane x.setup s → AgreeFor x.script other s.turn n → run level (with_script x other) n s ≡ run level x n s }
+    ensures { (level : NoteLevel) (x : Scenario) (other : ScriptData) (n : ℕ) (s : State) →
+        Sane x.setup s → AgreeFor x.script other s.turn n →
+        run level (with_script x other) n s ≡ run level x n s }
 {}
 
-/// Where an arrival has not come as yet, its time decides nothing: up to there the runs of two arrival times are one. Where it
-/// is over, it decides nothing any more: from there on the run is that without it.
+/// Where an arrival has not come as yet, its time decides nothing: up to there the runs of two
+/// arrival times are one. Where it is over, it decides nothing any more: from there on the run is
+/// that without it.
 pub fn arrivals_decide_nothing_before_and_after()
-    ensures before { (level : NoteLevel) (x : Scenario) (arrival : List Listed) (time later n : ℕ) (s : State) → Sane x.setup s → s.turn + n ≤ time → s.turn + n ≤ later →
+    ensures before { (level : NoteLevel) (x : Scenario) (arrival : List Listed) (time later n : ℕ)
+        (s : State) → Sane x.setup s → s.turn + n ≤ time → s.turn + n ≤ later →
         run level (arriving x arrival time) n s ≡ run level (arriving x arrival later) n s }
-    ensures after { (level : NoteLevel) (x : Scenario) (arrival : List Listed) (time n : ℕ) (s : State) → Sane x.setup s → is_over arrival time s.turn ≡ true → run level (arriving x arrival time) n s ≡ run level x n s }
+    ensures after { (level : NoteLevel) (x : Scenario) (arrival : List Listed) (time n : ℕ)
+        (s : State) → Sane x.setup s → is_over arrival time s.turn ≡ true →
+        run level (arriving x arrival time) n s ≡ run level x n s }
 {}
 
-/// The run of an arrival time is that of another one up to any turn before both, and then its own from there. Births are kept
-/// modulo 64 there, as `runs_go_on_from_a_cut` says of each run.
+/// The run of an arrival time is that of another one up to any turn before both, and then its own
+/// from there. Births are kept modulo 64 there, as `runs_go_on_from_a_cut` says of each run.
 pub fn an_arrival_goes_on_from_before_it()
-    ensures { (level : NoteLevel) (x : Scenario) (arrival : List Listed) (time later m n : ℕ) (s : State) → Sane x.setup s → m ≤ n → s.turn + m ≤ time → s.turn + m ≤ later →
+    ensures { (level : NoteLevel) (x : Scenario) (arrival : List Listed) (time later m n : ℕ)
+        (s : State) → Sane x.setup s → m ≤ n → s.turn + m ≤ time → s.turn + m ≤ later →
         let c = cut_at level (arriving x arrival later) m s in
-        run level (arriving x arrival time) n s ≡ with_front (run level (arriving x arrival later) m s).notes (run level (arriving x arrival time) (left_of n s c) c) }
+        run level (arriving x arrival time) n s ≡ with_front
+        (run level (arriving x arrival later) m s).notes
+        (run level (arriving x arrival time) (left_of n s c) c) }
 {}
 
-/// Runs of two arrival times that meet end alike: from states that are equal with births modulo 64, where neither arrival has
-/// anything to come, they have the same notes and the same end.
+/// Runs of two arrival times that meet end alike: from states that are equal with births modulo 64,
+/// where neither arrival has anything to come, they have the same notes and the same end.
 pub fn arrivals_that_meet_end_alike()
-    ensures { (level : NoteLevel) (x : Scenario) (arrival : List Listed) (time other n : ℕ) (s u : State) → Sane x.setup s → Sane x.setup u → reduced s ≡ reduced u →
-        is_over arrival time s.turn ≡ true → is_over arrival other u.turn ≡ true → EndAlike (run level (arriving x arrival time) n s) (run level (arriving x arrival other) n u) }
+    ensures { (level : NoteLevel) (x : Scenario) (arrival : List Listed) (time other n : ℕ)
+        (s u : State) → Sane x.setup s → Sane x.setup u → reduced s ≡ reduced u →
+        is_over arrival time s.turn ≡ true → is_over arrival other u.turn ≡ true →
+        EndAlike (run level (arriving x arrival time) n s)
+        (run level (arriving x arrival other) n u) }
 {}

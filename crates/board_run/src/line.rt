@@ -1,5 +1,5 @@
-//! Lines of the last state (docs/FORMATS.md, Trace and Memories), each built in a buffer of 160 bytes that is
-//! empty before.
+//! Lines of the last state (docs/FORMATS.md, Trace and Memories), each built in a buffer of 160
+//! bytes that is empty before.
 ghost use Rattle.std.specs.Prelude.{◌≡◌, ◌≤◌, ◌+◌, length, ◌++◌, []};
 ghost use Rattle.arrayvec.specs.ArrayString.{array_string_len};
 ghost use Rattle.trace_text.specs.Fit.{IsFitTimer};
@@ -107,7 +107,8 @@ pub fn task_line(
     out: &mut ArrayString<160>,
 )
     requires { out.old.bytes ≡ [] }
-    ensures line { out.new.bytes ≡ task_line i generation health (wait_words wait) posted (timer_of timer) }
+    ensures line { out.new.bytes ≡ task_line i generation health (wait_words wait) posted
+        (timer_of timer) }
     ensures fit { IsFitTimer (timer_of timer) }
 {
     out.push_str("task ");

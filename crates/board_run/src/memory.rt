@@ -34,21 +34,24 @@ impl RegionTest for BeginsAt {
 #[tactic(auto, unfolding(crate::specs::MemoryText::region_at))]
 fn region_at(board: &Board, base: u32) -> Option<Region>
     ensures base { IfSome result (λ r. r.base ≡ base) }
-    ensures found { (x : Scenario) (s : State) → Stands (boxed shown) x board.now s → result ≡ region_at x.setup base }
+    ensures found { (x : Scenario) (s : State) → Stands (boxed shown) x board.now s →
+        result ≡ region_at x.setup base }
 {
     first_region(board, &BeginsAt { base })
 }
 
 /// The byte at an address; 0 where there is none.
 pub fn byte_at(board: &Board, addr: u32) -> u8
-    ensures { (x : Scenario) (s : State) → Stands (boxed shown) x board.now s → result ≡ byte_of s.memory addr }
+    ensures { (x : Scenario) (s : State) → Stands (boxed shown) x board.now s →
+        result ≡ byte_of s.memory addr }
 {
     board.byte(addr).unwrap_or(0)
 }
 
 fn are_zeros(board: &Board, addr: u32) -> bool
     requires { addr + 16 ≤ 2 ^ 32 }
-    ensures { (x : Scenario) (s : State) → Stands (boxed shown) x board.now s → result ≡ are_zeros s.memory addr 16 }
+    ensures { (x : Scenario) (s : State) → Stands (boxed shown) x board.now s →
+        result ≡ are_zeros s.memory addr 16 }
 {
     for k in 0..16 {
         if byte_at(board, addr + k) != 0 {
@@ -62,7 +65,8 @@ fn are_zeros(board: &Board, addr: u32) -> bool
 fn push_bytes(board: &Board, addr: u32, line: &mut Line)
     requires inside { addr + 16 ≤ 2 ^ 32 }
     requires room { array_string_len line.old + 32 ≤ 160 }
-    ensures bytes { (x : Scenario) (s : State) → Stands (boxed shown) x board.now s → line.new.bytes ≡ line.old.bytes ++ bytes_hex s.memory addr 16 }
+    ensures bytes { (x : Scenario) (s : State) → Stands (boxed shown) x board.now s →
+        line.new.bytes ≡ line.old.bytes ++ bytes_hex s.memory addr 16 }
     ensures len { array_string_len line.new ≡ array_string_len line.old + 32 }
 {
     for k in 0..16 {
@@ -74,7 +78,8 @@ fn push_bytes(board: &Board, addr: u32, line: &mut Line)
 fn row_line(board: &Board, addr: u32, line: &mut Line)
     requires inside { addr + 16 ≤ 2 ^ 32 }
     requires empty { line.old.bytes ≡ [] }
-    ensures { (x : Scenario) (s : State) → Stands (boxed shown) x board.now s → line.new.bytes ≡ row_line s.memory addr }
+    ensures { (x : Scenario) (s : State) → Stands (boxed shown) x board.now s →
+        line.new.bytes ≡ row_line s.memory addr }
 {
     push_hex(line, addr);
     line.push_str(" ");
@@ -85,7 +90,8 @@ fn row_line(board: &Board, addr: u32, line: &mut Line)
 /// The line of sixteen bytes, where one of them is not zero.
 fn push_row<S: Sink>(board: &Board, addr: u32, out: &mut S) -> Result<(), Failed>
     requires inside { addr + 16 ≤ 2 ^ 32 }
-    ensures bytes { (x : Scenario) (s : State) → Stands (boxed shown) x board.now s → Pushes (S.seen out.old).written (S.seen out.new).written (row_text s.memory addr) result }
+    ensures bytes { (x : Scenario) (s : State) → Stands (boxed shown) x board.now s →
+        Pushes (S.seen out.old).written (S.seen out.new).written (row_text s.memory addr) result }
     ensures cause { HasCause (S.seen out.old).faults (S.seen out.new).faults result }
 {
     if are_zeros(board, addr) {
@@ -98,7 +104,9 @@ fn push_row<S: Sink>(board: &Board, addr: u32, out: &mut S) -> Result<(), Failed
 
 fn push_rows<S: Sink>(board: &Board, base: u32, count: u32, out: &mut S) -> Result<(), Failed>
     requires inside { base + 16 * count ≤ 2 ^ 32 }
-    ensures bytes { (x : Scenario) (s : State) → Stands (boxed shown) x board.now s → Pushes (S.seen out.old).written (S.seen out.new).written (rows_text s.memory base count) result }
+    ensures bytes { (x : Scenario) (s : State) → Stands (boxed shown) x board.now s →
+        Pushes (S.seen out.old).written (S.seen out.new).written (rows_text s.memory base count)
+        result }
     ensures cause { HasCause (S.seen out.old).faults (S.seen out.new).faults result }
 {
     for k in 0..count {
@@ -108,7 +116,8 @@ fn push_rows<S: Sink>(board: &Board, base: u32, count: u32, out: &mut S) -> Resu
 }
 
 fn push_region_line<S: Sink>(region: &Region, out: &mut S) -> Result<(), Failed>
-    ensures bytes { Pushes (S.seen out.old).written (S.seen out.new).written (region_line region.now) result }
+    ensures bytes { Pushes (S.seen out.old).written (S.seen out.new).written
+        (region_line region.now) result }
     ensures cause { HasCause (S.seen out.old).faults (S.seen out.new).faults result }
 {
     let mut line = Line::new();
@@ -126,7 +135,9 @@ fn row_count(region: &Region) -> u32
 /// The lines of a region.
 fn push_region<S: Sink>(board: &Board, region: &Region, out: &mut S) -> Result<(), Failed>
     requires inside { region.now.base + 262144 ≤ 2 ^ 32 }
-    ensures bytes { (x : Scenario) (s : State) → Stands (boxed shown) x board.now s → Pushes (S.seen out.old).written (S.seen out.new).written (region_text s.memory region.now) result }
+    ensures bytes { (x : Scenario) (s : State) → Stands (boxed shown) x board.now s →
+        Pushes (S.seen out.old).written (S.seen out.new).written (region_text s.memory region.now)
+        result }
     ensures cause { HasCause (S.seen out.old).faults (S.seen out.new).faults result }
 {
     push_region_line(region, out)?;
@@ -136,7 +147,9 @@ fn push_region<S: Sink>(board: &Board, region: &Region, out: &mut S) -> Result<(
 /// The lines of the region that begins at the k-th place of RAM, if one does.
 fn push_place<S: Sink>(board: &Board, k: u32, out: &mut S) -> Result<(), Failed>
     requires inside { k < 1024 }
-    ensures bytes { (x : Scenario) (s : State) → Stands (boxed shown) x board.now s → Pushes (S.seen out.old).written (S.seen out.new).written (place_text x.setup s.memory k) result }
+    ensures bytes { (x : Scenario) (s : State) → Stands (boxed shown) x board.now s →
+        Pushes (S.seen out.old).written (S.seen out.new).written (place_text x.setup s.memory k)
+        result }
     ensures cause { HasCause (S.seen out.old).faults (S.seen out.new).faults result }
 {
     match region_at(board, RAM + 256 * k) {
@@ -145,15 +158,16 @@ fn push_place<S: Sink>(board: &Board, k: u32, out: &mut S) -> Result<(), Failed>
     }
 }
 
-/// The memory of every task as the board has it: each different region of RAM by ascending base, a line
-/// `mem <base> <size>` and then a line for each 16 bytes of it that are not all zero (docs/FORMATS.md,
-/// Memories), one push each. After a failing push nothing more is pushed.
+/// The memory of every task as the board has it: each different region of RAM by ascending base, a
+/// line `mem <base> <size>` and then a line for each 16 bytes of it that are not all zero
+/// (docs/FORMATS.md, Memories), one push each. After a failing push nothing more is pushed.
 ///
 /// # Errors
 ///
 /// Only where a push failed.
 pub fn write_memory<S: Sink>(board: &Board, out: &mut S) -> Result<(), Failed>
-    ensures text { (x : Scenario) (s : State) → Stands (boxed shown) x board.now s → Pushes (S.seen out.old).written (S.seen out.new).written (memory_text x.setup s) result }
+    ensures text { (x : Scenario) (s : State) → Stands (boxed shown) x board.now s →
+        Pushes (S.seen out.old).written (S.seen out.new).written (memory_text x.setup s) result }
     ensures cause { HasCause (S.seen out.old).faults (S.seen out.new).faults result }
 {
     for k in 0..1024 {

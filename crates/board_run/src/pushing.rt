@@ -20,7 +20,8 @@ use words_core::Flags;
 #[inline(always)]
 fn push_note<S: Sink>(lines: &mut TurnLines, note: &Note, out: &mut S) -> Result<(), Failed>
     ensures number { lines.new.number ≡ lines.old.number }
-    ensures bytes { Pushes (S.seen out.old).written (S.seen out.new).written (line_of lines.old.number note.now) result }
+    ensures bytes { Pushes (S.seen out.old).written (S.seen out.new).written
+        (line_of lines.old.number note.now) result }
     ensures fit { IsFit lines.old.number × IsFitNote note.now }
     ensures cause { HasCause (S.seen out.old).faults (S.seen out.new).faults result }
 {
@@ -28,8 +29,8 @@ fn push_note<S: Sink>(lines: &mut TurnLines, note: &Note, out: &mut S) -> Result
     out.push(lines.text().as_bytes())
 }
 
-/// The notes of a turn, one line each. What stands in `lines` is of a turn before. It is made where it is called for, so that the
-/// loop of a run that is told has a copy of its own.
+/// The notes of a turn, one line each. What stands in `lines` is of a turn before. It is made where
+/// it is called for, so that the loop of a run that is told has a copy of its own.
 #[inline(always)]
 pub fn push_notes<S: Sink>(
     turn: u32,
@@ -37,7 +38,8 @@ pub fn push_notes<S: Sink>(
     lines: &mut TurnLines,
     out: &mut S,
 ) -> Result<(), Failed>
-    ensures bytes { Pushes (S.seen out.old).written (S.seen out.new).written (notes_text (at_turn turn notes.now)) result }
+    ensures bytes { Pushes (S.seen out.old).written (S.seen out.new).written
+        (notes_text (at_turn turn notes.now)) result }
     ensures fit { IfOk result (λ _. AreFit (at_turn turn notes.now)) }
     ensures cause { HasCause (S.seen out.old).faults (S.seen out.new).faults result }
 {
@@ -54,7 +56,8 @@ pub fn push_notes<S: Sink>(
 /// The line of a task, in one push.
 pub fn push_task_line<S: Sink>(i: u64, task: &TaskView, out: &mut S) -> Result<(), Failed>
     ensures bytes { Pushes (S.seen out.old).written (S.seen out.new).written
-        (task_line i task.now.generation task.now.health (wait_words task.now.wait) task.now.posted (timer_of task.now.timer)) result }
+        (task_line i task.now.generation task.now.health (wait_words task.now.wait) task.now.posted
+        (timer_of task.now.timer)) result }
     ensures fit { IsFitTimer (timer_of task.now.timer) }
     ensures cause { HasCause (S.seen out.old).faults (S.seen out.new).faults result }
 {
@@ -73,7 +76,8 @@ pub fn push_task_line<S: Sink>(i: u64, task: &TaskView, out: &mut S) -> Result<(
 
 /// The line of the registers r0 to r7, in one push.
 pub fn push_low<S: Sink>(registers: &[u32; 16], out: &mut S) -> Result<(), Failed>
-    ensures bytes { Pushes (S.seen out.old).written (S.seen out.new).written (low_text registers.now) result }
+    ensures bytes { Pushes (S.seen out.old).written (S.seen out.new).written
+        (low_text registers.now) result }
     ensures cause { HasCause (S.seen out.old).faults (S.seen out.new).faults result }
 {
     let mut line = Line::new();
@@ -83,7 +87,8 @@ pub fn push_low<S: Sink>(registers: &[u32; 16], out: &mut S) -> Result<(), Faile
 
 /// The line of the registers r8 to r15 and the flags, in one push.
 pub fn push_high<S: Sink>(registers: &[u32; 16], flags: Flags, out: &mut S) -> Result<(), Failed>
-    ensures bytes { Pushes (S.seen out.old).written (S.seen out.new).written (high_text registers.now flags) result }
+    ensures bytes { Pushes (S.seen out.old).written (S.seen out.new).written
+        (high_text registers.now flags) result }
     ensures cause { HasCause (S.seen out.old).faults (S.seen out.new).faults result }
 {
     let mut line = Line::new();
@@ -92,7 +97,8 @@ pub fn push_high<S: Sink>(registers: &[u32; 16], flags: Flags, out: &mut S) -> R
 }
 
 pub fn push_end_line<S: Sink>(end: End, turns: u32, now: u64, out: &mut S) -> Result<(), Failed>
-    ensures bytes { Pushes (S.seen out.old).written (S.seen out.new).written (end_line end turns now) result }
+    ensures bytes { Pushes (S.seen out.old).written (S.seen out.new).written
+        (end_line end turns now) result }
     ensures cause { HasCause (S.seen out.old).faults (S.seen out.new).faults result }
 {
     let mut line = Line::new();
@@ -102,7 +108,8 @@ pub fn push_end_line<S: Sink>(end: End, turns: u32, now: u64, out: &mut S) -> Re
 
 // The three lines of a task.
 fn push_task<S: Sink>(i: u64, task: &TaskView, out: &mut S) -> Result<(), Failed>
-    ensures bytes { Pushes (S.seen out.old).written (S.seen out.new).written (view_text i task.now) result }
+    ensures bytes { Pushes (S.seen out.old).written (S.seen out.new).written (view_text i task.now)
+        result }
     ensures fit { IsFitTimer (timer_of task.now.timer) }
     ensures cause { HasCause (S.seen out.old).faults (S.seen out.new).faults result }
 {
@@ -119,8 +126,11 @@ ghost use Rattle.board_run.specs.Text.{tasks_text, end_text};
 ghost use Rattle.board_run.specs.Timers.{HasFitTimers};
 
 fn push_tasks<S: Sink>(board: &Board, out: &mut S) -> Result<(), Failed>
-    ensures bytes { (x : Scenario) (s : State) → Stands (boxed shown) x board.now s → Pushes (S.seen out.old).written (S.seen out.new).written (tasks_text s (length s.tasks)) result }
-    ensures timers { (x : Scenario) (s : State) → Stands (boxed shown) x board.now s → IfOk result (λ _. HasFitTimers s) }
+    ensures bytes { (x : Scenario) (s : State) → Stands (boxed shown) x board.now s →
+        Pushes (S.seen out.old).written (S.seen out.new).written (tasks_text s (length s.tasks))
+        result }
+    ensures timers { (x : Scenario) (s : State) → Stands (boxed shown) x board.now s →
+        IfOk result (λ _. HasFitTimers s) }
     ensures cause { HasCause (S.seen out.old).faults (S.seen out.new).faults result }
 {
     for i in 0..board.task_count() {
@@ -134,8 +144,10 @@ fn push_tasks<S: Sink>(board: &Board, out: &mut S) -> Result<(), Failed>
 
 /// How a run ended, and each task.
 pub fn push_end<S: Sink>(end: End, board: &Board, out: &mut S) -> Result<(), Failed>
-    ensures bytes { (x : Scenario) (s : State) → Stands (boxed shown) x board.now s → Pushes (S.seen out.old).written (S.seen out.new).written (end_text end s) result }
-    ensures timers { (x : Scenario) (s : State) → Stands (boxed shown) x board.now s → IfOk result (λ _. HasFitTimers s) }
+    ensures bytes { (x : Scenario) (s : State) → Stands (boxed shown) x board.now s →
+        Pushes (S.seen out.old).written (S.seen out.new).written (end_text end s) result }
+    ensures timers { (x : Scenario) (s : State) → Stands (boxed shown) x board.now s →
+        IfOk result (λ _. HasFitTimers s) }
     ensures cause { HasCause (S.seen out.old).faults (S.seen out.new).faults result }
 {
     push_end_line(end, board.turns(), board.now(), out)?;

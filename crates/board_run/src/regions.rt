@@ -35,7 +35,8 @@ fn region_in<T: RegionTest>(regions: &[Region], test: &T) -> Option<Region>
 /// The first region that passes, of the tasks in their order.
 pub fn first_region<T: RegionTest>(board: &Board, test: &T) -> Option<Region>
     ensures holds { IfSome result (λ r. T.holds test.now r ≡ true) }
-    ensures found { (x : Scenario) (s : State) → Stands (boxed shown) x board.now s → result ≡ find (T.holds test.now) (regions_of x.setup) }
+    ensures found { (x : Scenario) (s : State) → Stands (boxed shown) x board.now s →
+        result ≡ find (T.holds test.now) (regions_of x.setup) }
 {
     for i in 0..board.task_count() {
         let found = region_in(board.regions(i), test);

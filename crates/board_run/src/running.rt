@@ -14,8 +14,8 @@ ghost use Rattle.board_run.specs.Timers.{HasFitTimers};
 ghost use Rattle.board_run.specs.Running.{StandsMidway, BreaksOff, end_within};
 ghost use Rattle.board_run.specs.Telling.{BreaksTelling, notes_in};
 
-use crate::pushing::push_end;
 use crate::observer::Observer;
+use crate::pushing::push_end;
 use board_core::{Board, End, Level};
 use outside_io::{Failed, Sink};
 use trace_text::TurnLines;
@@ -43,15 +43,17 @@ fn end_within(ended: Option<End>, left: u32) -> Option<End>
 pub fn ending(board: &Board, limit: u32) -> Option<End>
     requires stood { StandsForSome (boxed shown) board.now }
     requires within { turns_of board.now ≤ limit }
-    ensures end { (x : Scenario) (s : State) → Stands (boxed shown) x board.now s → result ≡ ending x (limit - s.turn) s }
-    ensures goes { IsNone result → (x : Scenario) (s : State) → Stands (boxed shown) x board.now s → ending x 1 s ≡ None }
+    ensures end { (x : Scenario) (s : State) → Stands (boxed shown) x board.now s →
+        result ≡ ending x (limit - s.turn) s }
+    ensures goes { IsNone result → (x : Scenario) (s : State) → Stands (boxed shown) x board.now s →
+        ending x 1 s ≡ None }
     ensures left { IsNone result → turns_of board.now < limit }
 {
     end_within(board.ended(), limit - board.turns())
 }
 
-// What was told may be held back for so many turns: few enough that it can be read within milliseconds, and enough that
-// passing it on costs nothing beside them.
+// What was told may be held back for so many turns: few enough that it can be read within
+// milliseconds, and enough that passing it on costs nothing beside them.
 const TURNS_HELD_BACK: u32 = 65_536;
 
 // How many turns are made, at most `limit`, when what is held back from here on is to be passed on.
@@ -61,8 +63,8 @@ fn due_after(turns: u32, limit: u32) -> u32
     turns.saturating_add(TURNS_HELD_BACK).min(limit)
 }
 
-// Tells the notes of the last turn, and passes on what is held back where it is due. Answers when that is next due: at
-// `limit` while nothing is held back.
+// Tells the notes of the last turn, and passes on what is held back where it is due. Answers when
+// that is next due: at `limit` while nothing is held back.
 fn tell_last<T: Observer>(
     board: &Board,
     due: u32,
@@ -74,12 +76,14 @@ fn tell_last<T: Observer>(
     requires within { due ≤ limit }
     ensures told { MatchResult result
         (λ _. T.heard teller.old (at_turn (turns_of board.now - 1) (notes_of board.now)) teller.new)
-        (λ _. T.broke teller.old (at_turn (turns_of board.now - 1) (notes_of board.now)) teller.new) }
+        (λ _. T.broke teller.old (at_turn (turns_of board.now - 1) (notes_of board.now))
+        teller.new) }
     ensures within { IfOk result (λ next. next ≤ limit) }
     ensures later { IfOk result (λ next. turns_of board.now < limit → turns_of board.now < next) }
 
     // What is told while nothing is held back is due soon, and stays due until then.
-    ensures soon { IfOk result (λ next. turns_of board.now < due → due ≡ limit → notes_of board.now ≢ [] → next ≡ min (turns_of board.now + 65536) limit) }
+    ensures soon { IfOk result (λ next. turns_of board.now < due → due ≡ limit →
+        notes_of board.now ≢ [] → next ≡ min (turns_of board.now + 65536) limit) }
     ensures stays { IfOk result (λ next. turns_of board.now < due → due < limit → next ≡ due) }
 {
     T::hears_in_parts();
@@ -96,8 +100,8 @@ fn tell_last<T: Observer>(
     Ok(due)
 }
 
-/// Turns up to the end of the run, each of which is told at a level, and is passed on by 65,536 turns later. After a
-/// failure to tell no further turn is made.
+/// Turns up to the end of the run, each of which is told at a level, and is passed on by 65,536
+/// turns later. After a failure to tell no further turn is made.
 ///
 /// # Errors
 ///
@@ -119,16 +123,20 @@ pub fn play<T: Observer>(
     ensures last { (x : Scenario) (s : State) → Stands (boxed shown) x board.old s →
         IfOk result (λ _. Stands (boxed shown) x board.new (run level x (limit - s.turn) s).last) }
 
-    // The turns that were made have all the notes of the run, which are not more than the turns may note.
+    // The turns that were made have all the notes of the run, which are not more than the turns may
+    // note.
     ensures whole { (x : Scenario) (s : State) → Stands (boxed shown) x board.old s →
-        OnOk result (notes_in level x (turns_of board.new - s.turn) s ≡ notes_in level x (limit - s.turn) s) }
+        OnOk result (notes_in level x (turns_of board.new - s.turn) s ≡ notes_in level x
+        (limit - s.turn) s) }
     ensures noted { (x : Scenario) (s : State) → Stands (boxed shown) x board.old s →
         OnOk result (length (notes_in level x (limit - s.turn) s) ≤ turn_notes * limit) }
 
-    // Where telling failed, the notes of the turns before the last one were told, and no further turn is made.
+    // Where telling failed, the notes of the turns before the last one were told, and no further
+    // turn is made.
     ensures broken { (x : Scenario) (s : State) → Stands (boxed shown) x board.old s →
         OnErr result (BreaksTelling T.heard T.broke level x teller.old teller.new s board.new) }
-    ensures midway { (x : Scenario) (s : State) → Stands (boxed shown) x board.old s → StandsMidway (boxed shown) level x board.new s }
+    ensures midway { (x : Scenario) (s : State) → Stands (boxed shown) x board.old s →
+        StandsMidway (boxed shown) level x board.new s }
     ensures within { turns_of board.new ≤ limit }
 {
     T::hears_in_parts();
@@ -144,31 +152,39 @@ pub fn play<T: Observer>(
     }
 }
 
-/// Turns up to the end of the run, and its text, which tells each turn at a level. After a failing push
-/// nothing more is pushed, and no further turn is made.
+/// Turns up to the end of the run, and its text, which tells each turn at a level. After a failing
+/// push nothing more is pushed, and no further turn is made.
 pub fn run<S: Sink>(board: &mut Board, limit: u32, level: Level, out: &mut S) -> Result<End, Failed>
     requires stood { StandsForSome (boxed shown) board.old }
     requires from { turns_of board.old ≤ limit }
     requires few { limit ≤ 1000000000 }
 
     ensures text { (x : Scenario) (s : State) → Stands (boxed shown) x board.old s →
-        Pushes (S.seen out.old).written (S.seen out.new).written (trace_text (run level x (limit - s.turn) s)) result }
+        Pushes (S.seen out.old).written (S.seen out.new).written
+        (trace_text (run level x (limit - s.turn) s)) result }
     ensures end { (x : Scenario) (s : State) → Stands (boxed shown) x board.old s →
         IfOk result (λ e. e ≡ (run level x (limit - s.turn) s).end) }
     ensures last { (x : Scenario) (s : State) → Stands (boxed shown) x board.old s →
         IfOk result (λ _. Stands (boxed shown) x board.new (run level x (limit - s.turn) s).last) }
 
     // The numbers of the notes are in range, and so are the deadlines at the end.
-    ensures fit { (x : Scenario) (s : State) → Stands (boxed shown) x board.old s → IfOk result (λ _. AreFit (run level x (limit - s.turn) s).notes) }
-    ensures timers { (x : Scenario) (s : State) → Stands (boxed shown) x board.old s → IfOk result (λ _. HasFitTimers (run level x (limit - s.turn) s).last) }
+    ensures fit { (x : Scenario) (s : State) → Stands (boxed shown) x board.old s →
+        IfOk result (λ _. AreFit (run level x (limit - s.turn) s).notes) }
+    ensures timers { (x : Scenario) (s : State) → Stands (boxed shown) x board.old s →
+        IfOk result (λ _. HasFitTimers (run level x (limit - s.turn) s).last) }
 
-    // From the start, what the notes say of each call is so, and agrees with the calls that are open at the end.
-    ensures ledger { (x : Scenario) → Stands (boxed shown) x board.old (start_of x) → IsLedgerOfRun level x limit }
+    // From the start, what the notes say of each call is so, and agrees with the calls that are
+    // open at the end.
+    ensures ledger { (x : Scenario) → Stands (boxed shown) x board.old (start_of x) →
+        IsLedgerOfRun level x limit }
 
-    // Where a push failed, the lines of the turns before the last one are whole, and no further turn is made.
+    // Where a push failed, the lines of the turns before the last one are whole, and no further
+    // turn is made.
     ensures broken { (x : Scenario) (s : State) → Stands (boxed shown) x board.old s →
-        OnErr result (BreaksOff level x (limit - s.turn) (S.seen out.old).written (S.seen out.new).written s board.new) }
-    ensures midway { (x : Scenario) (s : State) → Stands (boxed shown) x board.old s → StandsMidway (boxed shown) level x board.new s }
+        OnErr result (BreaksOff level x (limit - s.turn) (S.seen out.old).written
+        (S.seen out.new).written s board.new) }
+    ensures midway { (x : Scenario) (s : State) → Stands (boxed shown) x board.old s →
+        StandsMidway (boxed shown) level x board.new s }
     ensures within { turns_of board.new ≤ limit }
     ensures cause { HasCause (S.seen out.old).faults (S.seen out.new).faults result }
 {

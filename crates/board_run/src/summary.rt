@@ -58,7 +58,8 @@ fn counts_line(counts: &Counts, out: &mut CountsLine)
 }
 
 fn push_counts<S: Sink>(counts: &Counts, out: &mut S) -> Result<(), Failed>
-    ensures bytes { Pushes (S.seen out.old).written (S.seen out.new).written (counts_text (count_at counts.now)) result }
+    ensures bytes { Pushes (S.seen out.old).written (S.seen out.new).written
+        (counts_text (count_at counts.now)) result }
     ensures cause { HasCause (S.seen out.old).faults (S.seen out.new).faults result }
 {
     let mut line = CountsLine::new();
@@ -74,15 +75,17 @@ fn push_summary<S: Sink>(
     out: &mut S,
 ) -> Result<(), Failed>
     ensures bytes { (x : Scenario) (s : State) → Stands (boxed shown) x board.now s →
-        Pushes (S.seen out.old).written (S.seen out.new).written (end_line end s.turn s.now ++ counts_text (count_at counts.now)) result }
+        Pushes (S.seen out.old).written (S.seen out.new).written
+        (end_line end s.turn s.now ++ counts_text (count_at counts.now)) result }
     ensures cause { HasCause (S.seen out.old).faults (S.seen out.new).faults result }
 {
     push_end_line(end, board.turns(), board.now(), out)?;
     push_counts(counts, out)
 }
 
-/// Turns up to the end of the run, then how it ended and how many notes of each kind it had: two lines, one push
-/// each. Instructions are not told, and not counted. After a failing push nothing more is pushed; the run was made whole.
+/// Turns up to the end of the run, then how it ended and how many notes of each kind it had: two
+/// lines, one push each. Instructions are not told, and not counted. After a failing push nothing
+/// more is pushed; the run was made whole.
 ///
 /// # Errors
 ///
@@ -93,12 +96,14 @@ pub fn summarize<S: Sink>(board: &mut Board, limit: u32, out: &mut S) -> Result<
     requires few { limit ≤ 1000000000 }
 
     ensures text { (x : Scenario) (s : State) → Stands (boxed shown) x board.old s →
-        Pushes (S.seen out.old).written (S.seen out.new).written (summary_text (run Calls x (limit - s.turn) s)) result }
+        Pushes (S.seen out.old).written (S.seen out.new).written
+        (summary_text (run Calls x (limit - s.turn) s)) result }
     ensures end { (x : Scenario) (s : State) → Stands (boxed shown) x board.old s →
         IfOk result (λ e. e ≡ (run Calls x (limit - s.turn) s).end) }
 
     // Where a push failed, too, the board stands at the end of the run.
-    ensures last { (x : Scenario) (s : State) → Stands (boxed shown) x board.old s → Stands (boxed shown) x board.new (run Calls x (limit - s.turn) s).last }
+    ensures last { (x : Scenario) (s : State) → Stands (boxed shown) x board.old s →
+        Stands (boxed shown) x board.new (run Calls x (limit - s.turn) s).last }
     ensures within { turns_of board.new ≤ limit }
     ensures cause { HasCause (S.seen out.old).faults (S.seen out.new).faults result }
 {

@@ -12,8 +12,11 @@ ghost use Rattle.sample_gen.specs.Sample.{sample_app, sample_sources};
 /// The assembler refuses no source of the sample, at its task's base and with its symbols, and each
 /// takes at most 256 bytes there.
 pub fn sources_are_taken()
-    ensures accepted { (seed i : ℕ) → i < 32 → source_cause (sample_app seed) i (source_at (sample_sources seed) i) ≡ None }
-    ensures short { (seed i : ℕ) → i < 32 → size_from (flash_base (sample_app seed) i) (lines_of (source_at (sample_sources seed) i)) ≤ 256 }
+    ensures accepted { (seed i : ℕ) → i < 32 →
+        source_cause (sample_app seed) i (source_at (sample_sources seed) i) ≡ None }
+    ensures short { (seed i : ℕ) → i < 32 →
+        size_from (flash_base (sample_app seed) i) (lines_of (source_at (sample_sources seed) i)) ≤
+        256 }
 {}
 
 /// The sample fills the board's memory.
@@ -24,5 +27,6 @@ pub fn board_is_full()
 
 /// A build of the sample is refused for want of memory alone.
 pub fn build_is_not_refused()
-    ensures { (seed : ℕ) (f : BuildFault) → Refuses (sample_app seed) (sample_sources seed) f → f ≡ Memory }
+    ensures { (seed : ℕ) (f : BuildFault) → Refuses (sample_app seed) (sample_sources seed) f →
+        f ≡ Memory }
 {}

@@ -75,14 +75,15 @@ fn build_command<'a>(alloc: Global) -> Result<Command<'a>, AllocError>
         .arg(positional(alloc, "out"))
 }
 
-// `run` and `go`: a command that runs what its first word names. What it asks for is no part of what
-// `clap` is told, so that the form may as well be one that asks for `run`.
+// `run` and `go`: a command that runs what its first word names. What it asks for is no part of
+// what `clap` is told, so that the form may as well be one that asks for `run`.
 fn running_command<'a>(
     alloc: Global,
     name: &'a str,
     subject: &'a str,
 ) -> Result<Command<'a>, AllocError>
-    ensures shape { IfOk result (λ c. app_of c ≡ app_of_form (running_form name.entry.now subject.entry.now run)) }
+    ensures shape { IfOk result (λ c. app_of c ≡ app_of_form
+        (running_form name.entry.now subject.entry.now run)) }
     ensures local { IfOk result (λ c. (fields_of c).has_globals ≡ false) }
 {
     Command::new(alloc, name)
@@ -261,7 +262,8 @@ fn with_command<'a>(
     program.subcommand(command?)
 }
 
-// The program before its commands are added, of which one is wanted. clap's own `help` would only print.
+// The program before its commands are added, of which one is wanted. clap's own `help` would only
+// print.
 fn bare_program<'a>(alloc: Global) -> Command<'a>
     ensures { app_of result ≡ bare_app }
 {

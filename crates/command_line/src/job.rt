@@ -8,8 +8,8 @@ ghost use Rattle.command_line.specs.Asking.{asked, steps_of};
 
 use clap::ArgMatches;
 
-/// What is told of a run besides calls, events and faults: each instruction and the registers after it;
-/// the memory after the run.
+/// What is told of a run besides calls, events and faults: each instruction and the registers after
+/// it; the memory after the run.
 #[derive(Clone, Copy, Debug, PartialEq, Eq)]
 pub struct Detail {
     pub instructions: bool,
@@ -99,16 +99,18 @@ pub enum Job<'a> {
         script: &'a str,
         commands: &'a str,
     },
-    /// How often the run of IMAGE with SCRIPT executes each instruction, in at most `steps` turns; with labels IMAGE is the name
-    /// of an application, which is built as by `Go`, and the labels of its sources are shown.
+    /// How often the run of IMAGE with SCRIPT executes each instruction, in at most `steps` turns;
+    /// with labels IMAGE is the name of an application, which is built as by `Go`, and the labels
+    /// of its sources are shown.
     Cover {
         image: &'a str,
         script: &'a str,
         steps: u32,
         labels: bool,
     },
-    /// How the run of IMAGE with SCRIPT ends in at most `steps` turns where the events of ARRIVAL come besides, from each turn on
-    /// that is not below `from` and below `to`; and whether with its memory.
+    /// How the run of IMAGE with SCRIPT ends in at most `steps` turns where the events of ARRIVAL
+    /// come besides, from each turn on that is not below `from` and below `to`; and whether with
+    /// its memory.
     Sweep {
         image: &'a str,
         script: &'a str,
@@ -118,8 +120,8 @@ pub enum Job<'a> {
         steps: u32,
         memory: bool,
     },
-    /// The run of IMAGE with SCRIPT for at most `steps` turns as events that viewers of timelines read, with the names of tasks that
-    /// APP has, where one is given.
+    /// The run of IMAGE with SCRIPT for at most `steps` turns as events that viewers of timelines
+    /// read, with the names of tasks that APP has, where one is given.
     Timeline {
         image: &'a str,
         script: &'a str,
@@ -132,8 +134,8 @@ pub enum Job<'a> {
         script: &'a str,
         commands: &'a str,
     },
-    /// The run of IMAGE with SCRIPT for at most `steps` turns as a picture, put under OUT, with the names of tasks that APP has, where
-    /// one is given.
+    /// The run of IMAGE with SCRIPT for at most `steps` turns as a picture, put under OUT, with the
+    /// names of tasks that APP has, where one is given.
     Picture {
         image: &'a str,
         script: &'a str,
@@ -141,7 +143,8 @@ pub enum Job<'a> {
         steps: u32,
         names: Option<&'a str>,
     },
-    /// How often the run of APP with SCRIPT executes each line of its sources, in at most `steps` turns, put under OUT.
+    /// How often the run of APP with SCRIPT executes each line of its sources, in at most `steps`
+    /// turns, put under OUT.
     Lcov {
         app: &'a str,
         script: &'a str,
@@ -165,7 +168,8 @@ fn text_of<'a>(matches: &ArgMatches<'a>, id: &str) -> &'a str
 
 // The value of an option that may be left out.
 fn option_of<'a>(matches: &ArgMatches<'a>, id: &str) -> Option<&'a str>
-    ensures { option_map (λ value. value.now) result ≡ first_of id.now (rows_of (found_of matches.now)) }
+    ensures { option_map (λ value. value.now) result ≡ first_of id.now
+        (rows_of (found_of matches.now)) }
 {
     matches.get_str(id)
 }
@@ -186,8 +190,11 @@ fn detail_of(matches: &ArgMatches<'_>) -> Detail
 }
 
 fn number_of(matches: &ArgMatches<'_>, id: &str) -> u32
-    ensures number { (most : ℕ) → most < 2 ^ 32 → IsNumber most (one_of id.now (rows_of (found_of matches.now))) → result ≡ number_in id.now (rows_of (found_of matches.now)) }
-    ensures few { (most : ℕ) → most < 2 ^ 32 → IsNumber most (one_of id.now (rows_of (found_of matches.now))) → result ≤ most }
+    ensures number { (most : ℕ) → most < 2 ^ 32 →
+        IsNumber most (one_of id.now (rows_of (found_of matches.now))) →
+        result ≡ number_in id.now (rows_of (found_of matches.now)) }
+    ensures few { (most : ℕ) → most < 2 ^ 32 →
+        IsNumber most (one_of id.now (rows_of (found_of matches.now))) → result ≤ most }
 {
     match matches.get_one::<u32>(id) {
         Some(number) => number,
@@ -197,7 +204,8 @@ fn number_of(matches: &ArgMatches<'_>, id: &str) -> u32
 
 // The number of turns that is found for an id.
 fn turns_in(matches: &ArgMatches<'_>, id: &str) -> u32
-    ensures number { HasTurns id.now (rows_of (found_of matches.now)) → result ≡ number_in id.now (rows_of (found_of matches.now)) }
+    ensures number { HasTurns id.now (rows_of (found_of matches.now)) →
+        result ≡ number_in id.now (rows_of (found_of matches.now)) }
     ensures few { HasTurns id.now (rows_of (found_of matches.now)) → result ≤ most_steps }
 {
     number_of(matches, id)
@@ -205,14 +213,16 @@ fn turns_in(matches: &ArgMatches<'_>, id: &str) -> u32
 
 // The number of turns that is asked for.
 fn steps_in(matches: &ArgMatches<'_>) -> u32
-    ensures number { HasSteps (rows_of (found_of matches.now)) → result ≡ number_in (codes "steps") (rows_of (found_of matches.now)) }
+    ensures number { HasSteps (rows_of (found_of matches.now)) →
+        result ≡ number_in (codes "steps") (rows_of (found_of matches.now)) }
     ensures few { HasSteps (rows_of (found_of matches.now)) → result ≤ most_steps }
 {
     turns_in(matches, "steps")
 }
 
 fn seed_in(matches: &ArgMatches<'_>) -> u32
-    ensures { HasSeed (rows_of (found_of matches.now)) → result ≡ number_in (codes "seed") (rows_of (found_of matches.now)) }
+    ensures { HasSeed (rows_of (found_of matches.now)) →
+        result ≡ number_in (codes "seed") (rows_of (found_of matches.now)) }
 {
     number_of(matches, "seed")
 }
@@ -228,7 +238,8 @@ fn build_by<'a>(matches: &ArgMatches<'a>) -> Job<'a>
 }
 
 fn run_by<'a>(matches: &ArgMatches<'a>) -> Job<'a>
-    ensures job { HasSteps (rows_of (found_of matches.now)) → Some (asked result) ≡ run_form.asks (rows_of (found_of matches.now)) }
+    ensures job { HasSteps (rows_of (found_of matches.now)) →
+        Some (asked result) ≡ run_form.asks (rows_of (found_of matches.now)) }
     ensures few { HasSteps (rows_of (found_of matches.now)) → steps_of result ≤ most_steps }
 {
     Job::Run {
@@ -240,7 +251,8 @@ fn run_by<'a>(matches: &ArgMatches<'a>) -> Job<'a>
 }
 
 fn go_by<'a>(matches: &ArgMatches<'a>) -> Job<'a>
-    ensures job { HasSteps (rows_of (found_of matches.now)) → Some (asked result) ≡ go_form.asks (rows_of (found_of matches.now)) }
+    ensures job { HasSteps (rows_of (found_of matches.now)) →
+        Some (asked result) ≡ go_form.asks (rows_of (found_of matches.now)) }
     ensures few { HasSteps (rows_of (found_of matches.now)) → steps_of result ≤ most_steps }
 {
     Job::Go {
@@ -261,7 +273,9 @@ fn list_by<'a>(matches: &ArgMatches<'a>) -> Job<'a>
 }
 
 fn sample_by<'a>(matches: &ArgMatches<'a>) -> Job<'a>
-    ensures job { HasSeed (rows_of (found_of matches.now)) → HasSteps (rows_of (found_of matches.now)) → Some (asked result) ≡ sample_form.asks (rows_of (found_of matches.now)) }
+    ensures job { HasSeed (rows_of (found_of matches.now)) →
+        HasSteps (rows_of (found_of matches.now)) →
+        Some (asked result) ≡ sample_form.asks (rows_of (found_of matches.now)) }
     ensures few { HasSteps (rows_of (found_of matches.now)) → steps_of result ≤ most_steps }
 {
     Job::Sample {
@@ -290,7 +304,8 @@ fn audit_by<'a>(matches: &ArgMatches<'a>) -> Job<'a>
 }
 
 fn save_by<'a>(matches: &ArgMatches<'a>) -> Job<'a>
-    ensures job { HasSteps (rows_of (found_of matches.now)) → Some (asked result) ≡ save_form.asks (rows_of (found_of matches.now)) }
+    ensures job { HasSteps (rows_of (found_of matches.now)) →
+        Some (asked result) ≡ save_form.asks (rows_of (found_of matches.now)) }
     ensures few { HasSteps (rows_of (found_of matches.now)) → steps_of result ≤ most_steps }
 {
     Job::Save {
@@ -302,7 +317,8 @@ fn save_by<'a>(matches: &ArgMatches<'a>) -> Job<'a>
 }
 
 fn resume_by<'a>(matches: &ArgMatches<'a>) -> Job<'a>
-    ensures job { HasSteps (rows_of (found_of matches.now)) → Some (asked result) ≡ resume_form.asks (rows_of (found_of matches.now)) }
+    ensures job { HasSteps (rows_of (found_of matches.now)) →
+        Some (asked result) ≡ resume_form.asks (rows_of (found_of matches.now)) }
     ensures few { HasSteps (rows_of (found_of matches.now)) → steps_of result ≤ most_steps }
 {
     Job::Resume {
@@ -326,7 +342,8 @@ fn debug_by<'a>(matches: &ArgMatches<'a>) -> Job<'a>
 }
 
 fn cover_by<'a>(matches: &ArgMatches<'a>) -> Job<'a>
-    ensures job { HasSteps (rows_of (found_of matches.now)) → Some (asked result) ≡ cover_form.asks (rows_of (found_of matches.now)) }
+    ensures job { HasSteps (rows_of (found_of matches.now)) →
+        Some (asked result) ≡ cover_form.asks (rows_of (found_of matches.now)) }
     ensures few { HasSteps (rows_of (found_of matches.now)) → steps_of result ≤ most_steps }
 {
     Job::Cover {
@@ -338,7 +355,8 @@ fn cover_by<'a>(matches: &ArgMatches<'a>) -> Job<'a>
 }
 
 fn sweep_by<'a>(matches: &ArgMatches<'a>) -> Job<'a>
-    ensures job { AreTurns (rows_of (found_of matches.now)) → Some (asked result) ≡ sweep_form.asks (rows_of (found_of matches.now)) }
+    ensures job { AreTurns (rows_of (found_of matches.now)) →
+        Some (asked result) ≡ sweep_form.asks (rows_of (found_of matches.now)) }
     ensures few { AreTurns (rows_of (found_of matches.now)) → steps_of result ≤ most_steps }
 {
     Job::Sweep {
@@ -353,7 +371,8 @@ fn sweep_by<'a>(matches: &ArgMatches<'a>) -> Job<'a>
 }
 
 fn timeline_by<'a>(matches: &ArgMatches<'a>) -> Job<'a>
-    ensures job { HasSteps (rows_of (found_of matches.now)) → Some (asked result) ≡ timeline_form.asks (rows_of (found_of matches.now)) }
+    ensures job { HasSteps (rows_of (found_of matches.now)) →
+        Some (asked result) ≡ timeline_form.asks (rows_of (found_of matches.now)) }
     ensures few { HasSteps (rows_of (found_of matches.now)) → steps_of result ≤ most_steps }
 {
     Job::Timeline {
@@ -376,7 +395,8 @@ fn live_by<'a>(matches: &ArgMatches<'a>) -> Job<'a>
 }
 
 fn picture_by<'a>(matches: &ArgMatches<'a>) -> Job<'a>
-    ensures job { HasSteps (rows_of (found_of matches.now)) → Some (asked result) ≡ picture_form.asks (rows_of (found_of matches.now)) }
+    ensures job { HasSteps (rows_of (found_of matches.now)) →
+        Some (asked result) ≡ picture_form.asks (rows_of (found_of matches.now)) }
     ensures few { HasSteps (rows_of (found_of matches.now)) → steps_of result ≤ most_steps }
 {
     Job::Picture {
@@ -389,7 +409,8 @@ fn picture_by<'a>(matches: &ArgMatches<'a>) -> Job<'a>
 }
 
 fn lcov_by<'a>(matches: &ArgMatches<'a>) -> Job<'a>
-    ensures job { HasSteps (rows_of (found_of matches.now)) → Some (asked result) ≡ lcov_form.asks (rows_of (found_of matches.now)) }
+    ensures job { HasSteps (rows_of (found_of matches.now)) →
+        Some (asked result) ≡ lcov_form.asks (rows_of (found_of matches.now)) }
     ensures few { HasSteps (rows_of (found_of matches.now)) → steps_of result ≤ most_steps }
 {
     Job::Lcov {
@@ -458,8 +479,10 @@ fn help_by<'a>(matches: &ArgMatches<'a>) -> Option<Job<'a>>
 
 /// The job that a command's name and matches ask for, if they ask for one.
 pub fn job_by<'a>(name: &str, matches: &ArgMatches<'a>) -> Option<Job<'a>>
-    ensures job { IsWhole (Some (name.now, rows_of (found_of matches.now))) → asked_by name.now (rows_of (found_of matches.now)) ≡ option_map asked result }
-    ensures few { IsWhole (Some (name.now, rows_of (found_of matches.now))) → IfSome result (λ j. steps_of j ≤ most_steps) }
+    ensures job { IsWhole (Some (name.now, rows_of (found_of matches.now))) →
+        asked_by name.now (rows_of (found_of matches.now)) ≡ option_map asked result }
+    ensures few { IsWhole (Some (name.now, rows_of (found_of matches.now))) →
+        IfSome result (λ j. steps_of j ≤ most_steps) }
 {
     if name == "build" {
         Some(build_by(matches))

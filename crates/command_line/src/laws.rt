@@ -8,5 +8,6 @@ ghost use Rattle.command_line.specs.Required.{IsWhole};
 /// Words that are accepted name a command of the program, and hold each value that it wants, with a
 /// number of turns that is at most 1,000,000,000.
 pub fn every_accepted_command_is_whole()
-    ensures { (words : List Words) → is_accepted words ≡ true → IsWhole (subcommand_of hubris_app words) }
+    ensures { (words : List Words) → is_accepted words ≡ true →
+        IsWhole (subcommand_of hubris_app words) }
 {}

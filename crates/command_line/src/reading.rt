@@ -11,8 +11,8 @@ use std::alloc::Global;
 /// Why words give no job.
 #[derive(Clone, Copy, Drop)]
 pub enum Refusal {
-    /// The definition does not take them, or `help` is asked about what is no command; clap's own calls for help and for the
-    /// version are not accepted either.
+    /// The definition does not take them, or `help` is asked about what is no command; clap's own
+    /// calls for help and for the version are not accepted either.
     NotAccepted,
     /// Want of memory.
     Memory,
@@ -32,12 +32,14 @@ fn refusal_by(kind: ErrorKind) -> Refusal
 ///
 /// # Errors
 ///
-/// `NotAccepted` only where the definition does not take the words, and `Memory` where memory ran out.
+/// `NotAccepted` only where the definition does not take the words, and `Memory` where memory ran
+/// out.
 pub fn read_words<'a>(alloc: Global, words: &'a [String]) -> Result<Job<'a>, Refusal>
     ensures accepted { IfOk result (λ _. is_accepted (map string_bytes words.now) ≡ true) }
     ensures job { IfOk result (λ j. job_of (map string_bytes words.now) ≡ Some (asked j)) }
     ensures few { IfOk result (λ j. steps_of j ≤ most_steps) }
-    ensures refused { IfErr result (λ e. e ≡ Refusal.NotAccepted → is_accepted (map string_bytes words.now) ≡ false) }
+    ensures refused { IfErr result (λ e. e ≡ Refusal.NotAccepted →
+        is_accepted (map string_bytes words.now) ≡ false) }
 {
     let command = match hubris_command(alloc) {
         Ok(command) => command,

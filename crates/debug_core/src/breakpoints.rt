@@ -18,7 +18,8 @@ fn stands(breakpoints: &[u32], at: u32) -> bool
 
 /// An address becomes a breakpoint, where there is room for it.
 pub(crate) fn set(breakpoints: &mut Breakpoints, at: u32) -> Answer
-    ensures answer { result ≡ (if is_full breakpoints.old.items at then Answer.Full else Answer.Set at) }
+    ensures answer { result ≡ (if is_full breakpoints.old.items at then Answer.Full else Answer.Set
+        at) }
     ensures after { breakpoints.new.items ≡ with_breakpoint breakpoints.old.items at }
 {
     if stands(breakpoints.as_slice(), at) {
@@ -32,7 +33,8 @@ pub(crate) fn set(breakpoints: &mut Breakpoints, at: u32) -> Answer
 
 /// An address is no breakpoint any more.
 pub(crate) fn clear(breakpoints: &mut Breakpoints, at: u32) -> Answer
-    ensures answer { result ≡ (if stands breakpoints.old.items at then Answer.Cleared at else Answer.Absent) }
+    ensures answer { result ≡ (if stands breakpoints.old.items at then Answer.Cleared at else
+        Answer.Absent) }
     ensures after { breakpoints.new.items ≡ others breakpoints.old.items at }
 {
     if !stands(breakpoints.as_slice(), at) {

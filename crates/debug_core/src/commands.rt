@@ -63,8 +63,9 @@ pub struct Commands {
 impl Commands {
     ghost use Rattle.debug_core.specs.Listed.{listed};
 
-    /// The commands that the bytes say, or the first cause by which they are refused with its line, in
-    /// the order of docs/FORMATS.md, Commands; `Memory` where memory ran out. Lines are counted from 1.
+    /// The commands that the bytes say, or the first cause by which they are refused with its line,
+    /// in the order of docs/FORMATS.md, Commands; `Memory` where memory ran out. Lines are counted
+    /// from 1.
     pub fn read(alloc: Global, bytes: &[u8]) -> Result<Commands, CommandFault>
         ensures ok { IfOk result (λ c. commands_or_fault bytes.now ≡ Ok (listed c)) }
         ensures refused { IfErr result (λ e.

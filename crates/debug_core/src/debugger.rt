@@ -21,8 +21,8 @@ use crate::answer::Answer;
 use crate::breakpoints::{Breakpoints, clear, set};
 use crate::command::{Command, Sought};
 use crate::commands::Commands;
-use crate::text::push_answer;
 use crate::replay::Replay;
+use crate::text::push_answer;
 use arrayvec::ArrayVec;
 use board_core::Board;
 use board_run::push_notes;
@@ -44,7 +44,8 @@ fn earlier(turn: u32, turns: u32) -> u32
 /// Where the cursor is.
 fn here(replay: &Replay) -> Answer
     requires { (x : Scenario) × (turn : ℕ) × IsAt (boxed shown) x replay.now turn }
-    ensures { (x : Scenario) (turn : ℕ) → IsAt (boxed shown) x replay.now turn → result ≡ at_turn x turn }
+    ensures { (x : Scenario) (turn : ℕ) → IsAt (boxed shown) x replay.now turn →
+        result ≡ at_turn x turn }
 {
     Answer::At {
         turn: replay.board.turns(),
@@ -57,7 +58,8 @@ fn here(replay: &Replay) -> Answer
 fn to_turn(replay: &mut Replay, turn: u32)
     requires from { (x : Scenario) × (cursor : ℕ) × IsAt (boxed shown) x replay.old cursor }
     requires few { turn ≤ 1000000000 }
-    ensures { (x : Scenario) (cursor : ℕ) → IsAt (boxed shown) x replay.old cursor → IsAt (boxed shown) x replay.new (forward x 0 turn) }
+    ensures { (x : Scenario) (cursor : ℕ) → IsAt (boxed shown) x replay.old cursor →
+        IsAt (boxed shown) x replay.new (forward x 0 turn) }
 {
     if turn < replay.board.turns() {
         replay.back_to(turn);
@@ -67,7 +69,8 @@ fn to_turn(replay: &mut Replay, turn: u32)
 }
 
 fn registers(replay: &Replay, task: u16) -> Answer
-    ensures { (x : Scenario) (turn : ℕ) → IsAt (boxed shown) x replay.now turn → result ≡ registers_of (state_at x turn) task }
+    ensures { (x : Scenario) (turn : ℕ) → IsAt (boxed shown) x replay.now turn →
+        result ≡ registers_of (state_at x turn) task }
 {
     match replay.board.task(usize::from(task)) {
         None => Answer::Absent,
@@ -82,7 +85,8 @@ fn registers(replay: &Replay, task: u16) -> Answer
 }
 
 fn task(replay: &Replay, task: u16) -> Answer
-    ensures { (x : Scenario) (turn : ℕ) → IsAt (boxed shown) x replay.now turn → result ≡ task_of (state_at x turn) task }
+    ensures { (x : Scenario) (turn : ℕ) → IsAt (boxed shown) x replay.now turn →
+        result ≡ task_of (state_at x turn) task }
 {
     match replay.board.task(usize::from(task)) {
         None => Answer::Absent,
@@ -92,7 +96,8 @@ fn task(replay: &Replay, task: u16) -> Answer
 
 /// Who owns an interrupt line, and with which bits.
 fn owner_of(owners: &[LineStart], line: u8) -> Option<(u16, u32)>
-    ensures { result ≡ option_map (λ l. (l.owner, l.bits)) (find (λ l. l.line == line) (map line_setup owners.now)) }
+    ensures { result ≡ option_map (λ l. (l.owner, l.bits))
+        (find (λ l. l.line == line) (map line_setup owners.now)) }
 {
     for start in owners {
         if start.line == line {
@@ -104,7 +109,8 @@ fn owner_of(owners: &[LineStart], line: u8) -> Option<(u16, u32)>
 
 fn irq(board: &Board, line: u8) -> Answer
     requires { line < 64 }
-    ensures { (x : Scenario) (s : State) → Stands (boxed shown) x board.now s → result ≡ irq_of x.setup s line }
+    ensures { (x : Scenario) (s : State) → Stands (boxed shown) x board.now s →
+        result ≡ irq_of x.setup s line }
 {
     let Some((owner, bits)) = owner_of(board.owners(), line) else {
         return Answer::Absent;
@@ -122,7 +128,8 @@ fn irq(board: &Board, line: u8) -> Answer
 }
 
 fn device(board: &Board, device: u8) -> Answer
-    ensures { (x : Scenario) (s : State) → Stands (boxed shown) x board.now s → result ≡ device_of s device }
+    ensures { (x : Scenario) (s : State) → Stands (boxed shown) x board.now s →
+        result ≡ device_of s device }
 {
     match board.device(usize::from(device)) {
         None => Answer::Absent,
@@ -138,14 +145,16 @@ fn device(board: &Board, device: u8) -> Answer
 
 /// The byte so far behind an address.
 fn byte_behind(board: &Board, at: u32, k: u8) -> Option<u8>
-    ensures { (x : Scenario) (s : State) → Stands (boxed shown) x board.now s → result ≡ byte_at s.memory (at + k) }
+    ensures { (x : Scenario) (s : State) → Stands (boxed shown) x board.now s →
+        result ≡ byte_at s.memory (at + k) }
 {
     board.byte(at.checked_add(u32::from(k))?)
 }
 
 fn bytes(board: &Board, at: u32, len: u8) -> Answer
     requires few { len ≤ 64 }
-    ensures { (x : Scenario) (s : State) → Stands (boxed shown) x board.now s → result ≡ bytes_from s.memory at len }
+    ensures { (x : Scenario) (s : State) → Stands (boxed shown) x board.now s →
+        result ≡ bytes_from s.memory at len }
 {
     let mut bytes = ArrayVec::new();
     for k in 0..len {
@@ -157,8 +166,9 @@ fn bytes(board: &Board, at: u32, len: u8) -> Answer
     Answer::Bytes { at, bytes }
 }
 
-/// A run that is gone over forwards and back: it stands at a turn, the cursor, and stops where a task is at a breakpoint
-/// (docs/FORMATS.md, Commands). Where it has been it keeps states, from which it goes on when it goes back; no answer shows them.
+/// A run that is gone over forwards and back: it stands at a turn, the cursor, and stops where a
+/// task is at a breakpoint (docs/FORMATS.md, Commands). Where it has been it keeps states, from
+/// which it goes on when it goes back; no answer shows them.
 #[derive(Drop)]
 pub struct Debugger {
     replay: Replay,
@@ -166,14 +176,16 @@ pub struct Debugger {
 }
 
 impl Debugger {
-    /// A session with a run at its start, where the board stands. All memory that is taken is taken here: room for 64 states.
+    /// A session with a run at its start, where the board stands. All memory that is taken is taken
+    /// here: room for 64 states.
     ///
     /// # Errors
     ///
     /// Only want of memory. The board is dropped then.
     pub fn open(alloc: Global, board: Board) -> Result<Debugger, AllocError>
         requires { (x : Scenario) × Stands (boxed shown) x board (start_of x) }
-        ensures { (x : Scenario) → Stands (boxed shown) x board (start_of x) → IfOk result (λ d. IsSession (boxed shown) x d opened) }
+        ensures { (x : Scenario) → Stands (boxed shown) x board (start_of x) →
+            IfOk result (λ d. IsSession (boxed shown) x d opened) }
     {
         Ok(Debugger {
             replay: Replay::open(alloc, board)?,
@@ -183,7 +195,8 @@ impl Debugger {
 
     /// So many turns on from the cursor, at most to the last turn that a run may have.
     fn limit(&self, turns: u32) -> u32
-        ensures limit { (x : Scenario) (s : Session) → IsSession (boxed shown) x self.now s → result ≡ min (s.cursor + turns) 1000000000 }
+        ensures limit { (x : Scenario) (s : Session) → IsSession (boxed shown) x self.now s →
+            result ≡ min (s.cursor + turns) 1000000000 }
         ensures few { result ≤ 1000000000 }
     {
         self.replay.board.turns().saturating_add(turns).min(TURNS)
@@ -191,8 +204,10 @@ impl Debugger {
 
     fn step(&mut self, turns: u32) -> Answer
         requires { (x : Scenario) × (s : Session) × IsSession (boxed shown) x self.old s }
-        ensures answer { (x : Scenario) (s : Session) → IsSession (boxed shown) x self.old s → result ≡ answer x s (Command.Step turns) }
-        ensures session { (x : Scenario) (s : Session) → IsSession (boxed shown) x self.old s → IsSession (boxed shown) x self.new (after x s (Command.Step turns)) }
+        ensures answer { (x : Scenario) (s : Session) → IsSession (boxed shown) x self.old s →
+            result ≡ answer x s (Command.Step turns) }
+        ensures session { (x : Scenario) (s : Session) → IsSession (boxed shown) x self.old s →
+            IsSession (boxed shown) x self.new (after x s (Command.Step turns)) }
     {
         let to = self.limit(turns);
         self.replay.go_to(to);
@@ -201,8 +216,10 @@ impl Debugger {
 
     fn back(&mut self, turns: u32) -> Answer
         requires { (x : Scenario) × (s : Session) × IsSession (boxed shown) x self.old s }
-        ensures answer { (x : Scenario) (s : Session) → IsSession (boxed shown) x self.old s → result ≡ answer x s (Command.Back turns) }
-        ensures session { (x : Scenario) (s : Session) → IsSession (boxed shown) x self.old s → IsSession (boxed shown) x self.new (after x s (Command.Back turns)) }
+        ensures answer { (x : Scenario) (s : Session) → IsSession (boxed shown) x self.old s →
+            result ≡ answer x s (Command.Back turns) }
+        ensures session { (x : Scenario) (s : Session) → IsSession (boxed shown) x self.old s →
+            IsSession (boxed shown) x self.new (after x s (Command.Back turns)) }
     {
         let to = earlier(self.replay.board.turns(), turns);
         self.replay.back_to(to);
@@ -211,8 +228,10 @@ impl Debugger {
 
     fn go(&mut self, turns: u32) -> Answer
         requires { (x : Scenario) × (s : Session) × IsSession (boxed shown) x self.old s }
-        ensures answer { (x : Scenario) (s : Session) → IsSession (boxed shown) x self.old s → result ≡ answer x s (Command.Go turns) }
-        ensures session { (x : Scenario) (s : Session) → IsSession (boxed shown) x self.old s → IsSession (boxed shown) x self.new (after x s (Command.Go turns)) }
+        ensures answer { (x : Scenario) (s : Session) → IsSession (boxed shown) x self.old s →
+            result ≡ answer x s (Command.Go turns) }
+        ensures session { (x : Scenario) (s : Session) → IsSession (boxed shown) x self.old s →
+            IsSession (boxed shown) x self.new (after x s (Command.Go turns)) }
     {
         let to = self.limit(turns);
         match self.replay.go_to_hit(self.breakpoints.as_slice(), to) {
@@ -228,8 +247,10 @@ impl Debugger {
     fn at(&mut self, turn: u32) -> Answer
         requires session { (x : Scenario) × (s : Session) × IsSession (boxed shown) x self.old s }
         requires few { turn ≤ 1000000000 }
-        ensures answer { (x : Scenario) (s : Session) → IsSession (boxed shown) x self.old s → result ≡ answer x s (Command.At turn) }
-        ensures session { (x : Scenario) (s : Session) → IsSession (boxed shown) x self.old s → IsSession (boxed shown) x self.new (after x s (Command.At turn)) }
+        ensures answer { (x : Scenario) (s : Session) → IsSession (boxed shown) x self.old s →
+            result ≡ answer x s (Command.At turn) }
+        ensures session { (x : Scenario) (s : Session) → IsSession (boxed shown) x self.old s →
+            IsSession (boxed shown) x self.new (after x s (Command.At turn)) }
     {
         to_turn(&mut self.replay, turn);
         here(&self.replay)
@@ -237,8 +258,10 @@ impl Debugger {
 
     fn go_for(&mut self, turns: u32, sought: &Sought) -> Answer
         requires { (x : Scenario) × (s : Session) × IsSession (boxed shown) x self.old s }
-        ensures answer { (x : Scenario) (s : Session) → IsSession (boxed shown) x self.old s → result ≡ answer x s (Command.GoFor turns sought.now) }
-        ensures session { (x : Scenario) (s : Session) → IsSession (boxed shown) x self.old s → IsSession (boxed shown) x self.new (after x s (Command.GoFor turns sought.now)) }
+        ensures answer { (x : Scenario) (s : Session) → IsSession (boxed shown) x self.old s →
+            result ≡ answer x s (Command.GoFor turns sought.now) }
+        ensures session { (x : Scenario) (s : Session) → IsSession (boxed shown) x self.old s →
+            IsSession (boxed shown) x self.new (after x s (Command.GoFor turns sought.now)) }
     {
         if !self.replay.can_find(sought) {
             return Answer::Absent;
@@ -252,8 +275,10 @@ impl Debugger {
 
     fn back_for(&mut self, turns: u32, sought: &Sought) -> Answer
         requires { (x : Scenario) × (s : Session) × IsSession (boxed shown) x self.old s }
-        ensures answer { (x : Scenario) (s : Session) → IsSession (boxed shown) x self.old s → result ≡ answer x s (Command.BackFor turns sought.now) }
-        ensures session { (x : Scenario) (s : Session) → IsSession (boxed shown) x self.old s → IsSession (boxed shown) x self.new (after x s (Command.BackFor turns sought.now)) }
+        ensures answer { (x : Scenario) (s : Session) → IsSession (boxed shown) x self.old s →
+            result ≡ answer x s (Command.BackFor turns sought.now) }
+        ensures session { (x : Scenario) (s : Session) → IsSession (boxed shown) x self.old s →
+            IsSession (boxed shown) x self.new (after x s (Command.BackFor turns sought.now)) }
     {
         if !self.replay.can_find(sought) {
             return Answer::Absent;
@@ -269,8 +294,10 @@ impl Debugger {
     fn carry_out(&mut self, command: &Command) -> Answer
         requires session { (x : Scenario) × (s : Session) × IsSession (boxed shown) x self.old s }
         requires few { AsksForFew command.now }
-        ensures answer { (x : Scenario) (s : Session) → IsSession (boxed shown) x self.old s → result ≡ answer x s command.now }
-        ensures session { (x : Scenario) (s : Session) → IsSession (boxed shown) x self.old s → IsSession (boxed shown) x self.new (after x s command.now) }
+        ensures answer { (x : Scenario) (s : Session) → IsSession (boxed shown) x self.old s →
+            result ≡ answer x s command.now }
+        ensures session { (x : Scenario) (s : Session) → IsSession (boxed shown) x self.old s →
+            IsSession (boxed shown) x self.new (after x s command.now) }
     {
         match command {
             Command::Break { at } => set(&mut self.breakpoints, *at),
@@ -293,8 +320,11 @@ impl Debugger {
     /// What is noted of the turn before the cursor, with each instruction, a line a push.
     fn push_notes<S: Sink>(&mut self, out: &mut S) -> Result<(), Failed>
         requires { (x : Scenario) × (s : Session) × IsSession (boxed shown) x self.old s }
-        ensures told { (x : Scenario) (s : Session) → IsSession (boxed shown) x self.old s → Pushes (S.seen out.old).written (S.seen out.new).written (told_before x s.cursor) result }
-        ensures session { (x : Scenario) (s : Session) → IsSession (boxed shown) x self.old s → IsSession (boxed shown) x self.new s }
+        ensures told { (x : Scenario) (s : Session) → IsSession (boxed shown) x self.old s →
+            Pushes (S.seen out.old).written (S.seen out.new).written (told_before x s.cursor)
+            result }
+        ensures session { (x : Scenario) (s : Session) → IsSession (boxed shown) x self.old s →
+            IsSession (boxed shown) x self.new s }
         ensures cause { HasCause (S.seen out.old).faults (S.seen out.new).faults result }
     {
         match self.replay.board.turns().checked_sub(1) {
@@ -311,8 +341,10 @@ impl Debugger {
     fn push_told<S: Sink>(&mut self, command: &Command, out: &mut S) -> Result<(), Failed>
         requires session { (x : Scenario) × (s : Session) × IsSession (boxed shown) x self.old s }
         requires few { AsksForFew command.now }
-        ensures told { (x : Scenario) (s : Session) → IsSession (boxed shown) x self.old s → Pushes (S.seen out.old).written (S.seen out.new).written (told x s command.now) result }
-        ensures session { (x : Scenario) (s : Session) → IsSession (boxed shown) x self.old s → IsSession (boxed shown) x self.new (after x s command.now) }
+        ensures told { (x : Scenario) (s : Session) → IsSession (boxed shown) x self.old s →
+            Pushes (S.seen out.old).written (S.seen out.new).written (told x s command.now) result }
+        ensures session { (x : Scenario) (s : Session) → IsSession (boxed shown) x self.old s →
+            IsSession (boxed shown) x self.new (after x s command.now) }
         ensures cause { HasCause (S.seen out.old).faults (S.seen out.new).faults result }
     {
         if let Command::Notes = command {
@@ -322,7 +354,8 @@ impl Debugger {
         push_answer(&answer, out)
     }
 
-    /// A command is carried out, and its answer pushed, a line a push, and passed on. It takes no memory.
+    /// A command is carried out, and its answer pushed, a line a push, and passed on. It takes no
+    /// memory.
     ///
     /// # Errors
     ///
@@ -330,23 +363,27 @@ impl Debugger {
     pub fn command<S: Sink>(&mut self, command: &Command, out: &mut S) -> Result<(), Failed>
         requires session { (x : Scenario) × (s : Session) × IsSession (boxed shown) x self.old s }
         requires few { AsksForFew command.now }
-        ensures told { (x : Scenario) (s : Session) → IsSession (boxed shown) x self.old s → Pushes (S.seen out.old).written (S.seen out.new).written (told x s command.now) result }
-        ensures session { (x : Scenario) (s : Session) → IsSession (boxed shown) x self.old s → IsSession (boxed shown) x self.new (after x s command.now) }
+        ensures told { (x : Scenario) (s : Session) → IsSession (boxed shown) x self.old s →
+            Pushes (S.seen out.old).written (S.seen out.new).written (told x s command.now) result }
+        ensures session { (x : Scenario) (s : Session) → IsSession (boxed shown) x self.old s →
+            IsSession (boxed shown) x self.new (after x s command.now) }
         ensures cause { HasCause (S.seen out.old).faults (S.seen out.new).faults result }
     {
         self.push_told(command, out)?;
         out.flush()
     }
 
-    /// All commands of a text, one after the other, each with its answer, which is passed on before the next one. It
-    /// takes no memory.
+    /// All commands of a text, one after the other, each with its answer, which is passed on before
+    /// the next one. It takes no memory.
     ///
     /// # Errors
     ///
     /// Only where a push or a flush failed. No further command is carried out.
     pub fn carry_out_all<S: Sink>(&mut self, commands: &Commands, out: &mut S) -> Result<(), Failed>
         requires session { (x : Scenario) × (s : Session) × IsSession (boxed shown) x self.old s }
-        ensures told { (x : Scenario) (s : Session) → IsSession (boxed shown) x self.old s → Pushes (S.seen out.old).written (S.seen out.new).written (told_from x s (listed commands.now)) result }
+        ensures told { (x : Scenario) (s : Session) → IsSession (boxed shown) x self.old s →
+            Pushes (S.seen out.old).written (S.seen out.new).written
+            (told_from x s (listed commands.now)) result }
         ensures cause { HasCause (S.seen out.old).faults (S.seen out.new).faults result }
     {
         for command in commands.as_slice() {

@@ -9,9 +9,9 @@ mod debugger;
 mod laws;
 mod line;
 mod live;
+mod replay;
 mod searching;
 mod text;
-mod replay;
 
 pub use answer::Answer;
 pub use command::{Command, CommandFault, NoteKind, Sought};

@@ -297,7 +297,8 @@ fn two_or_more(name: &[u8], one: &[u8], two: &[u8], text: &[u8]) -> Result<Optio
     }
 }
 
-/// A name and the words behind it: none of `notes`, two of `mem`, two or three of a search, one of the others.
+/// A name and the words behind it: none of `notes`, two of `mem`, two or three of a search, one of
+/// the others.
 fn form_said(name: &[u8], text: &[u8]) -> Result<Option<Command>, u8>
     ensures { result ≡ form_said name.now (words text.now) }
 {

@@ -49,8 +49,8 @@ fn live_said(line: &[u8]) -> Result<Option<Command>, u8>
     }
 }
 
-/// The bytes of a line that were read, with its CR and LF: all of them, or so many that it is too long whatever comes
-/// behind them.
+/// The bytes of a line that were read, with its CR and LF: all of them, or so many that it is too
+/// long whatever comes behind them.
 #[derive(Drop)]
 struct LineUnderWay {
     front: ArrayVec<u8, 1026>,
@@ -67,7 +67,8 @@ impl LineUnderWay {
 
     /// One byte more, which may be the LF that ends it.
     fn push(&mut self, byte: u8)
-        ensures { (bytes : List ℕ) → IsUnderWay self.old bytes → IsUnderWay self.new (bytes ++ byte ∷ []) }
+        ensures { (bytes : List ℕ) → IsUnderWay self.old bytes →
+            IsUnderWay self.new (bytes ++ byte ∷ []) }
     {
         if !self.front.is_full() {
             self.front.push(byte);
@@ -76,7 +77,8 @@ impl LineUnderWay {
 
     /// What it says; nothing where it has no byte.
     fn said(&self) -> Result<Option<Command>, u8>
-        ensures said { (bytes : List ℕ) → IsUnderWay self.now bytes → IsOneLine bytes → result ≡ first_said (lines_of bytes) }
+        ensures said { (bytes : List ℕ) → IsUnderWay self.now bytes → IsOneLine bytes →
+            result ≡ first_said (lines_of bytes) }
         ensures few { (command : Command) → result ≡ Ok (Some command) → AsksForFew command }
     {
         let mut lines = Lines::of(self.front.as_slice());
@@ -89,7 +91,8 @@ impl LineUnderWay {
 
 /// The answer to a line that is refused is pushed and passed on.
 fn refuse<S: Sink>(cause: u8, out: &mut S) -> Result<(), Failed>
-    ensures told { Pushes (S.seen out.old).written (S.seen out.new).written (refusal_line cause) result }
+    ensures told { Pushes (S.seen out.old).written (S.seen out.new).written (refusal_line cause)
+        result }
     ensures cause { HasCause (S.seen out.old).faults (S.seen out.new).faults result }
 {
     push_refused(cause, out)?;
@@ -105,8 +108,10 @@ impl Debugger {
     ) -> Result<(), Failed>
         requires session { (x : Scenario) × (s : Session) × IsSession (boxed shown) x self.old s }
         requires few { (command : Command) → said ≡ Ok (Some command) → AsksForFew command }
-        ensures told { (x : Scenario) (s : Session) → IsSession (boxed shown) x self.old s → Pushes (S.seen out.old).written (S.seen out.new).written (line_told x s said) result }
-        ensures session { (x : Scenario) (s : Session) → IsSession (boxed shown) x self.old s → IsSession (boxed shown) x self.new (after_line x s said) }
+        ensures told { (x : Scenario) (s : Session) → IsSession (boxed shown) x self.old s →
+            Pushes (S.seen out.old).written (S.seen out.new).written (line_told x s said) result }
+        ensures session { (x : Scenario) (s : Session) → IsSession (boxed shown) x self.old s →
+            IsSession (boxed shown) x self.new (after_line x s said) }
         ensures cause { HasCause (S.seen out.old).faults (S.seen out.new).faults result }
     {
         match said {
@@ -123,8 +128,12 @@ impl Debugger {
         out: &mut S,
     ) -> Result<(), Failed>
         requires { (x : Scenario) × (s : Session) × IsSession (boxed shown) x self.old s }
-        ensures told { (x : Scenario) (s : Session) (bytes : List ℕ) → IsAtLine (boxed shown) x s bytes self.old under_way.old → Pushes (S.seen out.old).written (S.seen out.new).written (live_text x s bytes) result }
-        ensures session { (x : Scenario) (s : Session) (bytes : List ℕ) → IsAtLine (boxed shown) x s bytes self.old under_way.old → IsSession (boxed shown) x self.new (after_lines x s (lines_of bytes)) }
+        ensures told { (x : Scenario) (s : Session) (bytes : List ℕ) →
+            IsAtLine (boxed shown) x s bytes self.old under_way.old →
+            Pushes (S.seen out.old).written (S.seen out.new).written (live_text x s bytes) result }
+        ensures session { (x : Scenario) (s : Session) (bytes : List ℕ) →
+            IsAtLine (boxed shown) x s bytes self.old under_way.old →
+            IsSession (boxed shown) x self.new (after_lines x s (lines_of bytes)) }
         ensures next { IsUnderWay under_way.new [] }
         ensures cause { HasCause (S.seen out.old).faults (S.seen out.new).faults result }
     {
@@ -141,8 +150,10 @@ impl Debugger {
         out: &mut S,
     ) -> Result<(), Failed>
         requires { IsTaking (boxed shown) (S.seen out.old) self.old under_way.old }
-        ensures amid { TakesOn (boxed shown) (byte ∷ []) (S.seen out.old) (S.seen out.new) self.old self.new under_way.old under_way.new result }
-        ensures failed { BreaksAmid (boxed shown) (byte ∷ []) (S.seen out.old) (S.seen out.new) self.old under_way.old result }
+        ensures amid { TakesOn (boxed shown) (byte ∷ []) (S.seen out.old) (S.seen out.new) self.old
+            self.new under_way.old under_way.new result }
+        ensures failed { BreaksAmid (boxed shown) (byte ∷ []) (S.seen out.old) (S.seen out.new)
+            self.old under_way.old result }
         ensures cause { HasCause (S.seen out.old).faults (S.seen out.new).faults result }
     {
         under_way.push(byte);
@@ -161,8 +172,10 @@ impl Debugger {
         out: &mut S,
     ) -> Result<(), Failed>
         requires { IsTaking (boxed shown) (S.seen out.old) self.old under_way.old }
-        ensures amid { TakesOn (boxed shown) piece.now (S.seen out.old) (S.seen out.new) self.old self.new under_way.old under_way.new result }
-        ensures failed { BreaksAmid (boxed shown) piece.now (S.seen out.old) (S.seen out.new) self.old under_way.old result }
+        ensures amid { TakesOn (boxed shown) piece.now (S.seen out.old) (S.seen out.new) self.old
+            self.new under_way.old under_way.new result }
+        ensures failed { BreaksAmid (boxed shown) piece.now (S.seen out.old) (S.seen out.new)
+            self.old under_way.old result }
         ensures cause { HasCause (S.seen out.old).faults (S.seen out.new).faults result }
     {
         for byte in piece {
@@ -181,15 +194,23 @@ impl Debugger {
     ) -> Result<(), LiveFault>
         requires session { (x : Scenario) × (s : Session) × IsSession (boxed shown) x self.old s }
         requires none { IsUnderWay under_way.old [] }
-        ensures amid { (x : Scenario) (s : Session) → IsSession (boxed shown) x self.old s → OnOk result (
-            HasTaken (boxed shown) x s name.now (F.seen files.old) (F.seen files.new) (S.seen out.old) (S.seen out.new) self.new under_way.new) }
-        ensures unread { (x : Scenario) (s : Session) → IsSession (boxed shown) x self.old s → IsErrOf result Unread →
-            BreaksUnread x s name.now (F.seen files.old) (F.seen files.new) (S.seen out.old) (S.seen out.new) }
-        ensures failed { (x : Scenario) (s : Session) → IsSession (boxed shown) x self.old s → IsErrOf result Broken →
+        ensures amid { (x : Scenario) (s : Session) → IsSession (boxed shown) x self.old s →
+            OnOk result (
+            HasTaken (boxed shown) x s name.now (F.seen files.old) (F.seen files.new)
+            (S.seen out.old) (S.seen out.new) self.new under_way.new) }
+        ensures unread { (x : Scenario) (s : Session) → IsSession (boxed shown) x self.old s →
+            IsErrOf result Unread →
+            BreaksUnread x s name.now (F.seen files.old) (F.seen files.new) (S.seen out.old)
+            (S.seen out.new) }
+        ensures failed { (x : Scenario) (s : Session) → IsSession (boxed shown) x self.old s →
+            IsErrOf result Broken →
             BreaksTelling x s name.now (F.seen files.old) (S.seen out.old) (S.seen out.new) }
-        ensures rose { IsErrOf result Unread → Rose (F.seen files.old).read_faults (F.seen files.new).read_faults }
-        ensures named { IsErrOf result Unread → WhereSeen (F.seen files.new).last_failing (λ n. n ≡ short_name name.now) }
-        ensures fault { IsErrOf result Broken → Rose (S.seen out.old).faults (S.seen out.new).faults }
+        ensures rose { IsErrOf result Unread →
+            Rose (F.seen files.old).read_faults (F.seen files.new).read_faults }
+        ensures named { IsErrOf result Unread →
+            WhereSeen (F.seen files.new).last_failing (λ n. n ≡ short_name name.now) }
+        ensures fault { IsErrOf result Broken →
+            Rose (S.seen out.old).faults (S.seen out.new).faults }
         ensures later { (S.seen out.old).faults ≤ (S.seen out.new).faults }
         ensures only_reads { OnlyReads (F.seen files.old) (F.seen files.new) }
     {
@@ -211,14 +232,14 @@ impl Debugger {
         Ok(())
     }
 
-    /// The lines of a file, one by one as they are read: each is carried out, and its answer passed on, before more is
-    /// read (docs/FORMATS.md, Live). A line that is refused is answered by its cause and changes nothing. Up to
-    /// 4,294,967,295 bytes are read. It takes no memory.
+    /// The lines of a file, one by one as they are read: each is carried out, and its answer passed
+    /// on, before more is read (docs/FORMATS.md, Live). A line that is refused is answered by its
+    /// cause and changes nothing. Up to 4,294,967,295 bytes are read. It takes no memory.
     ///
     /// # Errors
     ///
-    /// `Unread` where a read failed, with each line answered that had ended by then, and `Failed` where a push or a
-    /// flush did. No further line is carried out.
+    /// `Unread` where a read failed, with each line answered that had ended by then, and `Failed`
+    /// where a push or a flush did. No further line is carried out.
     pub fn carry_out_live<F: Files, S: Sink>(
         &mut self,
         files: &mut F,
@@ -226,16 +247,26 @@ impl Debugger {
         out: &mut S,
     ) -> Result<(), LiveFault>
         requires { (x : Scenario) × (s : Session) × IsSession (boxed shown) x self.old s }
-        ensures told { (x : Scenario) (s : Session) → IsSession (boxed shown) x self.old s → OnOk result (
-            TellsLive x s name.now (F.seen files.old) (F.seen files.new) (S.seen out.old) (S.seen out.new)) }
-        ensures session { (x : Scenario) (s : Session) → IsSession (boxed shown) x self.old s → OnOk result (HasLived (boxed shown) x s ((F.seen files.old).contents name.now) self.new) }
-        ensures unread { (x : Scenario) (s : Session) → IsSession (boxed shown) x self.old s → IsErrOf result Unread →
-            BreaksUnread x s name.now (F.seen files.old) (F.seen files.new) (S.seen out.old) (S.seen out.new) }
-        ensures failed { (x : Scenario) (s : Session) → IsSession (boxed shown) x self.old s → IsErrOf result Broken →
+        ensures told { (x : Scenario) (s : Session) → IsSession (boxed shown) x self.old s →
+            OnOk result (
+            TellsLive x s name.now (F.seen files.old) (F.seen files.new) (S.seen out.old)
+            (S.seen out.new)) }
+        ensures session { (x : Scenario) (s : Session) → IsSession (boxed shown) x self.old s →
+            OnOk result (HasLived (boxed shown) x s ((F.seen files.old).contents name.now)
+            self.new) }
+        ensures unread { (x : Scenario) (s : Session) → IsSession (boxed shown) x self.old s →
+            IsErrOf result Unread →
+            BreaksUnread x s name.now (F.seen files.old) (F.seen files.new) (S.seen out.old)
+            (S.seen out.new) }
+        ensures failed { (x : Scenario) (s : Session) → IsSession (boxed shown) x self.old s →
+            IsErrOf result Broken →
             BreaksTelling x s name.now (F.seen files.old) (S.seen out.old) (S.seen out.new) }
-        ensures rose { IsErrOf result Unread → Rose (F.seen files.old).read_faults (F.seen files.new).read_faults }
-        ensures named { IsErrOf result Unread → WhereSeen (F.seen files.new).last_failing (λ n. n ≡ short_name name.now) }
-        ensures fault { IsErrOf result Broken → Rose (S.seen out.old).faults (S.seen out.new).faults }
+        ensures rose { IsErrOf result Unread →
+            Rose (F.seen files.old).read_faults (F.seen files.new).read_faults }
+        ensures named { IsErrOf result Unread →
+            WhereSeen (F.seen files.new).last_failing (λ n. n ≡ short_name name.now) }
+        ensures fault { IsErrOf result Broken →
+            Rose (S.seen out.old).faults (S.seen out.new).faults }
         ensures later { (S.seen out.old).faults ≤ (S.seen out.new).faults }
         ensures only_reads { OnlyReads (F.seen files.old) (F.seen files.new) }
     {

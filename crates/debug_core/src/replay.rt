@@ -1,4 +1,5 @@
-//! A run that goes forwards and back: a board, and checkpoints of its run (not the timeline that a command writes).
+//! A run that goes forwards and back: a board, and checkpoints of its run (not the timeline that a
+//! command writes).
 
 ghost use Rattle.std.specs.Prelude.{ℕ, ◌≡◌, ◌≤◌, ◌<◌, ◌+◌, ◌-◌, length, IfOk, IsNone, Some, None};
 ghost use Rattle.std.specs.List.{All, HoldsAt};
@@ -61,9 +62,9 @@ fn room_for(alloc: Global, len: usize) -> Result<Vec<Checkpoint>, AllocError>
     Ok(kept)
 }
 
-/// The place of the checkpoint of a turn, which its turn alone tells. A multiple of `APART` is of a group by how often it is
-/// even, and of each group the last four are kept: so a turn so far back has a checkpoint about as far before it, at most.
-/// The first place is that of the start.
+/// The place of the checkpoint of a turn, which its turn alone tells. A multiple of `APART` is of a
+/// group by how often it is even, and of each group the last four are kept: so a turn so far back
+/// has a checkpoint about as far before it, at most. The first place is that of the start.
 fn place_of(turn: u32) -> usize
     ensures behind { 0 < result }
     ensures inside { result < 64 }
@@ -79,15 +80,18 @@ fn place_of(turn: u32) -> usize
 
 /// The state of a board becomes a checkpoint's.
 fn save(board: &Board, checkpoint: &mut Checkpoint)
-    requires room { (x : Scenario) × (s : State) × Stands (boxed shown) x board.now s × (length checkpoint.old.bytes.items ≡ length (spelling (reduced s))) }
+    requires room { (x : Scenario) × (s : State) × Stands (boxed shown) x board.now s
+        × (length checkpoint.old.bytes.items ≡ length (spelling (reduced s))) }
     ensures turn { checkpoint.new.turn ≡ Some (turns_of board.now) }
-    ensures spelled { (x : Scenario) (s : State) → Stands (boxed shown) x board.now s → SpellsState x.setup (reduced s) checkpoint.new.bytes.items }
+    ensures spelled { (x : Scenario) (s : State) → Stands (boxed shown) x board.now s →
+        SpellsState x.setup (reduced s) checkpoint.new.bytes.items }
 {
     checkpoint.turn = Some(board.turns());
     save_into(board, checkpoint.bytes.as_mut_slice());
 }
 
-/// Of two checkpoints by their places and turns the later one, where the second is of turn `to` or before.
+/// Of two checkpoints by their places and turns the later one, where the second is of turn `to` or
+/// before.
 fn later(best: (usize, u32), place: usize, turn: Option<u32>, to: u32) -> (usize, u32)
     ensures { result ≡ later_of to best place turn }
 {
@@ -98,14 +102,16 @@ fn later(best: (usize, u32), place: usize, turn: Option<u32>, to: u32) -> (usize
 }
 
 impl Replay {
-    /// At the start of a run, with a board that stands there. It takes all the memory that is taken.
+    /// At the start of a run, with a board that stands there. It takes all the memory that is
+    /// taken.
     ///
     /// # Errors
     ///
     /// Only want of memory. The board is dropped then.
     pub(crate) fn open(alloc: Global, board: Board) -> Result<Replay, AllocError>
         requires { (x : Scenario) × Stands (boxed shown) x board (start_of x) }
-        ensures { (x : Scenario) → Stands (boxed shown) x board (start_of x) → IfOk result (λ t. IsAt (boxed shown) x t 0) }
+        ensures { (x : Scenario) → Stands (boxed shown) x board (start_of x) →
+            IfOk result (λ t. IsAt (boxed shown) x t 0) }
     {
         let mut kept = room_for(alloc, saved_len(&board))?;
         save(&board, &mut kept[0]);
@@ -114,20 +120,25 @@ impl Replay {
 
     /// Whether a run that makes turns below `limit` ends here, and why.
     pub(crate) fn ending(&self, limit: u32) -> Option<End>
-        requires { (x : Scenario) × (turn : ℕ) × IsAt (boxed shown) x self.now turn × (turn ≤ limit) }
-        ensures end { (x : Scenario) (turn : ℕ) → IsAt (boxed shown) x self.now turn → turn ≤ limit → result ≡ ending x (limit - turn) (state_at x turn) }
-        ensures goes { IsNone result → (x : Scenario) (turn : ℕ) → IsAt (boxed shown) x self.now turn → ending x 1 (state_at x turn) ≡ None }
+        requires { (x : Scenario) × (turn : ℕ) × IsAt (boxed shown) x self.now turn
+            × (turn ≤ limit) }
+        ensures end { (x : Scenario) (turn : ℕ) → IsAt (boxed shown) x self.now turn →
+            turn ≤ limit → result ≡ ending x (limit - turn) (state_at x turn) }
+        ensures goes { IsNone result → (x : Scenario) (turn : ℕ) →
+            IsAt (boxed shown) x self.now turn → ending x 1 (state_at x turn) ≡ None }
         ensures left { IsNone result → turns_of self.now.board < limit }
     {
         ending(&self.board, limit)
     }
 
-    /// The state here is kept at a place behind the first, where it has room. A state of the run is as long at each turn, so it has.
+    /// The state here is kept at a place behind the first, where it has room. A state of the run is
+    /// as long at each turn, so it has.
     fn keep_at(&mut self, place: usize)
         requires at { (x : Scenario) × (turn : ℕ) × IsAt (boxed shown) x self.old turn }
         requires behind { 0 < place }
         requires inside { place < 64 }
-        ensures at { (x : Scenario) (turn : ℕ) → IsAt (boxed shown) x self.old turn → IsAt (boxed shown) x self.new turn }
+        ensures at { (x : Scenario) (turn : ℕ) → IsAt (boxed shown) x self.old turn →
+            IsAt (boxed shown) x self.new turn }
         ensures turns { turns_of self.new.board ≡ turns_of self.old.board }
     {
         if self.kept[place].bytes.len() == saved_len(&self.board) {
@@ -138,7 +149,8 @@ impl Replay {
     /// A checkpoint is made where one is due.
     pub(crate) fn keep(&mut self)
         requires { (x : Scenario) × (turn : ℕ) × IsAt (boxed shown) x self.old turn }
-        ensures at { (x : Scenario) (turn : ℕ) → IsAt (boxed shown) x self.old turn → IsAt (boxed shown) x self.new turn }
+        ensures at { (x : Scenario) (turn : ℕ) → IsAt (boxed shown) x self.old turn →
+            IsAt (boxed shown) x self.new turn }
         ensures turns { turns_of self.new.board ≡ turns_of self.old.board }
     {
         let turn = self.board.turns();
@@ -149,9 +161,11 @@ impl Replay {
 
     /// On to a turn, or to the end of the run before it, without a checkpoint.
     pub(crate) fn run_to(&mut self, to: u32)
-        requires from { (x : Scenario) × (turn : ℕ) × IsAt (boxed shown) x self.old turn × (turn ≤ to) }
+        requires from { (x : Scenario) × (turn : ℕ) × IsAt (boxed shown) x self.old turn
+            × (turn ≤ to) }
         requires few { to ≤ 1000000000 }
-        ensures at { (x : Scenario) (turn : ℕ) → IsAt (boxed shown) x self.old turn → turn ≤ to → IsAt (boxed shown) x self.new (state_at x to).turn }
+        ensures at { (x : Scenario) (turn : ℕ) → IsAt (boxed shown) x self.old turn → turn ≤ to →
+            IsAt (boxed shown) x self.new (state_at x to).turn }
         ensures within { turns_of self.new.board ≤ to }
     {
         match play(&mut self.board, to, Level::Calls, &mut Nobody) {
@@ -162,9 +176,11 @@ impl Replay {
 
     /// On to a turn, or to the end of the run before it.
     pub(crate) fn go_to(&mut self, to: u32)
-        requires from { (x : Scenario) × (turn : ℕ) × IsAt (boxed shown) x self.old turn × (turn ≤ to) }
+        requires from { (x : Scenario) × (turn : ℕ) × IsAt (boxed shown) x self.old turn
+            × (turn ≤ to) }
         requires few { to ≤ 1000000000 }
-        ensures { (x : Scenario) (turn : ℕ) → IsAt (boxed shown) x self.old turn → turn ≤ to → IsAt (boxed shown) x self.new (state_at x to).turn }
+        ensures { (x : Scenario) (turn : ℕ) → IsAt (boxed shown) x self.old turn → turn ≤ to →
+            IsAt (boxed shown) x self.new (state_at x to).turn }
     {
         'stretches: while self.ending(to).is_none() {
             let stop = stop_before(self.board.turns(), to);
@@ -173,13 +189,16 @@ impl Replay {
         }
     }
 
-    /// Some turns on, none of them from turn `stop` on: where the last of them ran a task at a breakpoint, that task and its PC. No turn
-    /// before it did.
+    /// Some turns on, none of them from turn `stop` on: where the last of them ran a task at a
+    /// breakpoint, that task and its PC. No turn before it did.
     fn advance_past(&mut self, breakpoints: &[u32], stop: u32) -> Option<(u16, u32)>
-        requires from { (x : Scenario) × (turn : ℕ) × IsAt (boxed shown) x self.old turn × (ending x 1 (state_at x turn) ≡ None) }
+        requires from { (x : Scenario) × (turn : ℕ) × IsAt (boxed shown) x self.old turn
+            × (ending x 1 (state_at x turn) ≡ None) }
         requires left { turns_of self.old.board < stop }
         requires few { stop ≤ 1000000000 }
-        ensures went { (x : Scenario) (turn : ℕ) → IsAt (boxed shown) x self.old turn → ending x 1 (state_at x turn) ≡ None → WentPast (boxed shown) x breakpoints.now turn self.new result }
+        ensures went { (x : Scenario) (turn : ℕ) → IsAt (boxed shown) x self.old turn →
+            ending x 1 (state_at x turn) ≡ None →
+            WentPast (boxed shown) x breakpoints.now turn self.new result }
         ensures more { turns_of self.old.board < turns_of self.new.board }
         ensures within { turns_of self.new.board ≤ stop }
     {
@@ -188,12 +207,14 @@ impl Replay {
         hit
     }
 
-    /// On to a turn, or to the end of the run before it, but no further than behind the first turn that runs a task at a breakpoint: that
-    /// task and its PC.
+    /// On to a turn, or to the end of the run before it, but no further than behind the first turn
+    /// that runs a task at a breakpoint: that task and its PC.
     pub(crate) fn go_to_hit(&mut self, breakpoints: &[u32], to: u32) -> Option<(u16, u32)>
-        requires from { (x : Scenario) × (turn : ℕ) × IsAt (boxed shown) x self.old turn × (turn ≤ to) }
+        requires from { (x : Scenario) × (turn : ℕ) × IsAt (boxed shown) x self.old turn
+            × (turn ≤ to) }
         requires few { to ≤ 1000000000 }
-        ensures { (x : Scenario) (turn : ℕ) → IsAt (boxed shown) x self.old turn → turn ≤ to → CameTo (boxed shown) x breakpoints.now turn to self.new result }
+        ensures { (x : Scenario) (turn : ℕ) → IsAt (boxed shown) x self.old turn → turn ≤ to →
+            CameTo (boxed shown) x breakpoints.now turn to self.new result }
     {
         'stretches: while self.ending(to).is_none() {
             let stop = stop_before(self.board.turns(), to);
@@ -211,7 +232,8 @@ impl Replay {
         ensures inside { result.0 < length self.now.kept.items }
         ensures is { HoldsAt (λ c. c.turn ≡ Some result.1) self.now.kept.items result.0 }
         ensures early { result.1 ≤ to }
-        ensures last { (k turn : ℕ) → k < length self.now.kept.items → HoldsAt (λ c. c.turn ≡ Some turn) self.now.kept.items k → turn ≤ to → turn ≤ result.1 }
+        ensures last { (k turn : ℕ) → k < length self.now.kept.items →
+            HoldsAt (λ c. c.turn ≡ Some turn) self.now.kept.items k → turn ≤ to → turn ≤ result.1 }
     {
         let mut best = (0, 0);
         for (k, checkpoint) in self.kept.iter().enumerate() {
@@ -223,8 +245,11 @@ impl Replay {
     /// To the turn of a checkpoint.
     pub(crate) fn load(&mut self, place: usize)
         requires inside { place < length self.old.kept.items }
-        requires saved { (x : Scenario) × (turn : ℕ) × IsAt (boxed shown) x self.old turn × (from : ℕ) × HoldsAt (λ c. c.turn ≡ Some from) self.old.kept.items place }
-        ensures { (x : Scenario) (turn from : ℕ) → IsAt (boxed shown) x self.old turn → HoldsAt (λ c. c.turn ≡ Some from) self.old.kept.items place → IsAt (boxed shown) x self.new from }
+        requires saved { (x : Scenario) × (turn : ℕ) × IsAt (boxed shown) x self.old turn
+            × (from : ℕ) × HoldsAt (λ c. c.turn ≡ Some from) self.old.kept.items place }
+        ensures { (x : Scenario) (turn from : ℕ) → IsAt (boxed shown) x self.old turn →
+            HoldsAt (λ c. c.turn ≡ Some from) self.old.kept.items place →
+            IsAt (boxed shown) x self.new from }
     {
         saved_states_are_accepted();
         load_into(&mut self.board, self.kept[place].bytes.as_slice());
@@ -233,7 +258,8 @@ impl Replay {
     /// Back to a turn, from the last checkpoint there or before.
     pub(crate) fn back_to(&mut self, to: u32)
         requires { (x : Scenario) × (turn : ℕ) × IsAt (boxed shown) x self.old turn × (to ≤ turn) }
-        ensures { (x : Scenario) (turn : ℕ) → IsAt (boxed shown) x self.old turn → to ≤ turn → IsAt (boxed shown) x self.new to }
+        ensures { (x : Scenario) (turn : ℕ) → IsAt (boxed shown) x self.old turn → to ≤ turn →
+            IsAt (boxed shown) x self.new to }
     {
         let (place, _turn) = self.last_until(to);
         self.load(place);

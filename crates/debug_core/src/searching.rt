@@ -1,4 +1,5 @@
-//! A run is searched, forwards and back, for a turn of which such a note is told, or one that changes a byte.
+//! A run is searched, forwards and back, for a turn of which such a note is told, or one that
+//! changes a byte.
 
 ghost use Rattle.std.specs.Prelude.{ℕ, ◌≡◌, ◌≤◌, ◌<◌, ◌+◌, None, find};
 ghost use Rattle.board_model.specs.declared.outcomes.Level.TheVariants.{All};
@@ -96,7 +97,8 @@ fn first_sought(kind: NoteKind, number: Option<u32>, notes: &[Note]) -> Option<N
 impl Replay {
     /// There can be such a turn.
     pub(crate) fn can_find(&self, sought: &Sought) -> bool
-        ensures { (x : Scenario) (turn : ℕ) → IsAt (boxed shown) x self.now turn → result ≡ can_be sought.now (state_at x turn).memory }
+        ensures { (x : Scenario) (turn : ℕ) → IsAt (boxed shown) x self.now turn →
+            result ≡ can_be sought.now (state_at x turn).memory }
     {
         match sought {
             Sought::Note { .. } => true,
@@ -106,19 +108,27 @@ impl Replay {
 
     /// One whole turn, of which each instruction is noted too.
     pub(crate) fn make_turn(&mut self)
-        requires { (x : Scenario) × (n : ℕ) × IsAt (boxed shown) x self.old n × (ending x 1 (state_at x n) ≡ None) × (n < 1000000000) }
-        ensures at { (x : Scenario) (n : ℕ) → IsAt (boxed shown) x self.old n → ending x 1 (state_at x n) ≡ None → n < 1000000000 → IsAt (boxed shown) x self.new (n + 1) }
-        ensures notes { (x : Scenario) (n : ℕ) → IsAt (boxed shown) x self.old n → notes_of self.new.board ≡ (turn All x (state_at x n)).notes }
+        requires { (x : Scenario) × (n : ℕ) × IsAt (boxed shown) x self.old n
+            × (ending x 1 (state_at x n) ≡ None) × (n < 1000000000) }
+        ensures at { (x : Scenario) (n : ℕ) → IsAt (boxed shown) x self.old n →
+            ending x 1 (state_at x n) ≡ None → n < 1000000000 →
+            IsAt (boxed shown) x self.new (n + 1) }
+        ensures notes { (x : Scenario) (n : ℕ) → IsAt (boxed shown) x self.old n →
+            notes_of self.new.board ≡ (turn All x (state_at x n)).notes }
     {
         self.board.turn_at(Level::All);
     }
 
-    /// Some turns on, none of them from turn `stop` on: the first note that is sought of the last of them. No turn before told one.
+    /// Some turns on, none of them from turn `stop` on: the first note that is sought of the last
+    /// of them. No turn before told one.
     fn advance_to_note(&mut self, kind: NoteKind, number: Option<u32>, stop: u32) -> Option<Answer>
-        requires from { (x : Scenario) × (turn : ℕ) × IsAt (boxed shown) x self.old turn × (ending x 1 (state_at x turn) ≡ None) }
+        requires from { (x : Scenario) × (turn : ℕ) × IsAt (boxed shown) x self.old turn
+            × (ending x 1 (state_at x turn) ≡ None) }
         requires left { turns_of self.old.board < stop }
         requires few { stop ≤ 1000000000 }
-        ensures went { (x : Scenario) (turn : ℕ) → IsAt (boxed shown) x self.old turn → ending x 1 (state_at x turn) ≡ None → WentFor (boxed shown) x (Sought.Note kind number) turn self.new result }
+        ensures went { (x : Scenario) (turn : ℕ) → IsAt (boxed shown) x self.old turn →
+            ending x 1 (state_at x turn) ≡ None →
+            WentFor (boxed shown) x (Sought.Note kind number) turn self.new result }
         ensures more { turns_of self.old.board < turns_of self.new.board }
         ensures within { turns_of self.new.board ≤ stop }
     {
@@ -128,13 +138,16 @@ impl Replay {
         Some(Answer::Told { turn, note })
     }
 
-    /// Some turns on, none of them from turn `stop` on: what the last of them changed of the byte at an address. No turn before
-    /// changed it.
+    /// Some turns on, none of them from turn `stop` on: what the last of them changed of the byte
+    /// at an address. No turn before changed it.
     fn advance_past_change(&mut self, at: u32, stop: u32) -> Option<Answer>
-        requires from { (x : Scenario) × (turn : ℕ) × IsAt (boxed shown) x self.old turn × (ending x 1 (state_at x turn) ≡ None) }
+        requires from { (x : Scenario) × (turn : ℕ) × IsAt (boxed shown) x self.old turn
+            × (ending x 1 (state_at x turn) ≡ None) }
         requires left { turns_of self.old.board < stop }
         requires few { stop ≤ 1000000000 }
-        ensures went { (x : Scenario) (turn : ℕ) → IsAt (boxed shown) x self.old turn → ending x 1 (state_at x turn) ≡ None → WentFor (boxed shown) x (Sought.Change at) turn self.new result }
+        ensures went { (x : Scenario) (turn : ℕ) → IsAt (boxed shown) x self.old turn →
+            ending x 1 (state_at x turn) ≡ None →
+            WentFor (boxed shown) x (Sought.Change at) turn self.new result }
         ensures more { turns_of self.old.board < turns_of self.new.board }
         ensures within { turns_of self.new.board ≤ stop }
     {
@@ -148,12 +161,16 @@ impl Replay {
         })
     }
 
-    /// Some turns on, none of them from turn `stop` on: what is found in the last of them. In no turn before it was found.
+    /// Some turns on, none of them from turn `stop` on: what is found in the last of them. In no
+    /// turn before it was found.
     fn advance_for(&mut self, sought: &Sought, stop: u32) -> Option<Answer>
-        requires from { (x : Scenario) × (turn : ℕ) × IsAt (boxed shown) x self.old turn × (ending x 1 (state_at x turn) ≡ None) }
+        requires from { (x : Scenario) × (turn : ℕ) × IsAt (boxed shown) x self.old turn
+            × (ending x 1 (state_at x turn) ≡ None) }
         requires left { turns_of self.old.board < stop }
         requires few { stop ≤ 1000000000 }
-        ensures went { (x : Scenario) (turn : ℕ) → IsAt (boxed shown) x self.old turn → ending x 1 (state_at x turn) ≡ None → WentFor (boxed shown) x sought.now turn self.new result }
+        ensures went { (x : Scenario) (turn : ℕ) → IsAt (boxed shown) x self.old turn →
+            ending x 1 (state_at x turn) ≡ None →
+            WentFor (boxed shown) x sought.now turn self.new result }
         ensures more { turns_of self.old.board < turns_of self.new.board }
         ensures within { turns_of self.new.board ≤ stop }
     {
@@ -163,11 +180,14 @@ impl Replay {
         }
     }
 
-    /// On to a turn, or to the end of the run before it, but no further than behind the first turn in which it is found: what is.
+    /// On to a turn, or to the end of the run before it, but no further than behind the first turn
+    /// in which it is found: what is.
     pub(crate) fn go_for(&mut self, sought: &Sought, to: u32) -> Option<Answer>
-        requires from { (x : Scenario) × (turn : ℕ) × IsAt (boxed shown) x self.old turn × (turn ≤ to) }
+        requires from { (x : Scenario) × (turn : ℕ) × IsAt (boxed shown) x self.old turn
+            × (turn ≤ to) }
         requires few { to ≤ 1000000000 }
-        ensures { (x : Scenario) (turn : ℕ) → IsAt (boxed shown) x self.old turn → turn ≤ to → CameFor (boxed shown) x sought.now turn to self.new result }
+        ensures { (x : Scenario) (turn : ℕ) → IsAt (boxed shown) x self.old turn → turn ≤ to →
+            CameFor (boxed shown) x sought.now turn to self.new result }
     {
         'stretches: while self.ending(to).is_none() {
             let stop = stop_before(self.board.turns(), to);
@@ -180,13 +200,16 @@ impl Replay {
         None
     }
 
-    /// The last turn below `to`, from here on, in which it is found, and what is. Nothing is kept on the way: it would take the place of
-    /// what the way further back goes on from.
+    /// The last turn below `to`, from here on, in which it is found, and what is. Nothing is kept
+    /// on the way: it would take the place of what the way further back goes on from.
     fn last_found(&mut self, sought: &Sought, to: u32) -> Option<(u32, Answer)>
-        requires from { (x : Scenario) × (turn : ℕ) × IsAt (boxed shown) x self.old turn × (turn ≤ to) × ((state_at x to).turn ≡ to) }
+        requires from { (x : Scenario) × (turn : ℕ) × IsAt (boxed shown) x self.old turn
+            × (turn ≤ to) × ((state_at x to).turn ≡ to) }
         requires few { to ≤ 1000000000 }
-        ensures at { (x : Scenario) (turn : ℕ) → IsAt (boxed shown) x self.old turn → turn ≤ to → (state_at x to).turn ≡ to → IsAt (boxed shown) x self.new to }
-        ensures last { (x : Scenario) (turn : ℕ) → IsAt (boxed shown) x self.old turn → turn ≤ to → (state_at x to).turn ≡ to → IsLastFound x sought.now turn to result }
+        ensures at { (x : Scenario) (turn : ℕ) → IsAt (boxed shown) x self.old turn → turn ≤ to →
+            (state_at x to).turn ≡ to → IsAt (boxed shown) x self.new to }
+        ensures last { (x : Scenario) (turn : ℕ) → IsAt (boxed shown) x self.old turn → turn ≤ to →
+            (state_at x to).turn ≡ to → IsLastFound x sought.now turn to result }
     {
         let mut last = None;
         'stretches: while self.board.turns() < to {
@@ -198,11 +221,14 @@ impl Replay {
         last
     }
 
-    /// Back to the last checkpoint before a turn, or to turn `low` where that is later: the turn there.
+    /// Back to the last checkpoint before a turn, or to turn `low` where that is later: the turn
+    /// there.
     fn back_before(&mut self, low: u32, to: u32) -> u32
-        requires from { (x : Scenario) × (turn : ℕ) × IsAt (boxed shown) x self.old turn × (to ≤ turn) }
+        requires from { (x : Scenario) × (turn : ℕ) × IsAt (boxed shown) x self.old turn
+            × (to ≤ turn) }
         requires some { low < to }
-        ensures at { (x : Scenario) (turn : ℕ) → IsAt (boxed shown) x self.old turn → to ≤ turn → IsAt (boxed shown) x self.new result }
+        ensures at { (x : Scenario) (turn : ℕ) → IsAt (boxed shown) x self.old turn → to ≤ turn →
+            IsAt (boxed shown) x self.new result }
         ensures above { low ≤ result }
         ensures before { result < to }
     {
@@ -213,11 +239,13 @@ impl Replay {
         from
     }
 
-    /// Back to turn `low`, but no further than before the last turn before this one in which it is found: what is. From checkpoint to
-    /// checkpoint, the last first, so each turn is made once at most, and then those from the last checkpoint to the one that was found.
+    /// Back to turn `low`, but no further than before the last turn before this one in which it is
+    /// found: what is. From checkpoint to checkpoint, the last first, so each turn is made once at
+    /// most, and then those from the last checkpoint to the one that was found.
     pub(crate) fn back_for(&mut self, sought: &Sought, low: u32) -> Option<Answer>
         requires { (x : Scenario) × (turn : ℕ) × IsAt (boxed shown) x self.old turn × (low ≤ turn) }
-        ensures { (x : Scenario) (turn : ℕ) → IsAt (boxed shown) x self.old turn → low ≤ turn → WentBackFor (boxed shown) x sought.now low turn self.new result }
+        ensures { (x : Scenario) (turn : ℕ) → IsAt (boxed shown) x self.old turn → low ≤ turn →
+            WentBackFor (boxed shown) x sought.now low turn self.new result }
     {
         let mut to = self.board.turns();
         'segments: while low < to {

@@ -92,7 +92,8 @@ fn bytes_line(at: u32, bytes: &[u8], line: &mut Line)
 
 /// The registers and flags of a task, in two lines.
 fn push_registers<S: Sink>(words: &[u32; 16], flags: Flags, out: &mut S) -> Result<(), Failed>
-    ensures bytes { Pushes (S.seen out.old).written (S.seen out.new).written (low_text words.now ++ high_text words.now flags) result }
+    ensures bytes { Pushes (S.seen out.old).written (S.seen out.new).written
+        (low_text words.now ++ high_text words.now flags) result }
     ensures cause { HasCause (S.seen out.old).faults (S.seen out.new).faults result }
 {
     push_low(words, out)?;
@@ -101,7 +102,8 @@ fn push_registers<S: Sink>(words: &[u32; 16], flags: Flags, out: &mut S) -> Resu
 
 /// A note of a turn, in its line.
 fn push_note<S: Sink>(turn: u32, note: &Note, out: &mut S) -> Result<(), Failed>
-    ensures bytes { Pushes (S.seen out.old).written (S.seen out.new).written (line_of turn note.now) result }
+    ensures bytes { Pushes (S.seen out.old).written (S.seen out.new).written (line_of turn note.now)
+        result }
     ensures cause { HasCause (S.seen out.old).faults (S.seen out.new).faults result }
 {
     let mut lines = TurnLines::new(turn);
@@ -199,9 +201,11 @@ fn device_line(device: u8, kind: Kind, base: u32, count: u32, queue: &[u8], line
     line.push_str("\n");
 }
 
-/// The text of an answer: one line, or two of registers, a push each. After a failing push nothing more is pushed.
+/// The text of an answer: one line, or two of registers, a push each. After a failing push nothing
+/// more is pushed.
 pub(crate) fn push_answer<S: Sink>(answer: &Answer, out: &mut S) -> Result<(), Failed>
-    ensures bytes { Pushes (S.seen out.old).written (S.seen out.new).written (text_of answer.now) result }
+    ensures bytes { Pushes (S.seen out.old).written (S.seen out.new).written (text_of answer.now)
+        result }
     ensures cause { HasCause (S.seen out.old).faults (S.seen out.new).faults result }
 {
     let mut line = Line::new();
@@ -243,7 +247,8 @@ pub(crate) fn push_answer<S: Sink>(answer: &Answer, out: &mut S) -> Result<(), F
 
 /// The answer to a line that is refused.
 pub(crate) fn push_refused<S: Sink>(cause: u8, out: &mut S) -> Result<(), Failed>
-    ensures bytes { Pushes (S.seen out.old).written (S.seen out.new).written (refusal_line cause) result }
+    ensures bytes { Pushes (S.seen out.old).written (S.seen out.new).written (refusal_line cause)
+        result }
     ensures cause { HasCause (S.seen out.old).faults (S.seen out.new).faults result }
 {
     let mut line = Line::new();

@@ -1,6 +1,6 @@
 #![tactic(auto)]
-//! Which task runs, and whose message is received: strict priority (Hubris Reference, Scheduling), and of
-//! equals the next in order (this project's profile).
+//! Which task runs, and whose message is received: strict priority (Hubris Reference, Scheduling),
+//! and of equals the next in order (this project's profile).
 
 ghost use Rattle.std.specs.Prelude.{◌≡◌, ◌<◌, IfSome};
 ghost use Rattle.task_table.specs.model.State.{Setup, Turn};
@@ -17,13 +17,14 @@ pub fn choose(k: &Kernel) -> Option<usize>
     first_around(k.order(), k.ready(), k.current())
 }
 
-/// The task whose message the receiver takes where it hears any, or None where none offers it a call:
-/// of those that do and have the lowest priority number (Hubris Reference, on RECV) the first after the
-/// receiver, cyclically (this project's profile).
+/// The task whose message the receiver takes where it hears any, or None where none offers it a
+/// call: of those that do and have the lowest priority number (Hubris Reference, on RECV) the first
+/// after the receiver, cyclically (this project's profile).
 pub fn best_sender(k: &Kernel, receiver: usize) -> Option<usize>
     requires stood { StandsForSome k.now }
     requires there { receiver < task_count k.now }
-    ensures best { (g : Setup) (t : Turn) → Stands g k.now t → result ≡ best_sender g t.state receiver }
+    ensures best { (g : Setup) (t : Turn) → Stands g k.now t →
+        result ≡ best_sender g t.state receiver }
     ensures inside { IfSome result (λ i. i < task_count k.now) }
 {
     first_around(k.order(), k.clients(receiver), receiver + 1)

@@ -117,7 +117,8 @@ pub fn inject(k: &mut Kernel, task: usize)
     requires there { task < task_count k.old }
     requires room { note_count k.old + 4 ≤ turn_notes }
     ensures holds { (g : Setup) (t : Turn) → Holds g k.old t → Holds g k.new (injected g task t) }
-    ensures stands { (g : Setup) (t : Turn) → Stands g k.old t → Stands g k.new (injected g task t) }
+    ensures stands { (g : Setup) (t : Turn) → Stands g k.old t →
+        Stands g k.new (injected g task t) }
     ensures frame { AddsAtMost k.old 4 k.new }
 {
     match k.health(task) {
@@ -138,7 +139,8 @@ fn is_faulted(health: Health) -> bool
 fn first_faulted(k: &Kernel, index: usize) -> usize
     requires { index < task_count k.now }
     ensures small { result < task_count k.now }
-    ensures value { (g : Setup) (t : Turn) → Holds g k.now t → result ≡ first_faulted t.state index }
+    ensures value { (g : Setup) (t : Turn) → Holds g k.now t →
+        result ≡ first_faulted t.state index }
 {
     for task in index..k.task_count() {
         if is_faulted(k.health(task)) {
@@ -153,7 +155,8 @@ fn find_fault(k: &mut Kernel, args: &SendArgs, index: usize)
     requires there { index < task_count k.old }
     requires room { note_count k.old + 1 ≤ turn_notes }
     requires reply { IsWithinRam (memory_of k.old) args.now.reply_base 4 }
-    ensures holds { (g : Setup) (t : Turn) → Holds g k.old t → Holds g k.new (fault_found args.now index t) }
+    ensures holds { (g : Setup) (t : Turn) → Holds g k.old t →
+        Holds g k.new (fault_found args.now index t) }
     ensures frame { AddsNotes k.old 1 k.new }
 {
     let found = first_faulted(k, index);
@@ -171,7 +174,8 @@ fn carry_out(k: &mut Kernel, args: &SendArgs, request: Request, task: usize)
     requires room { note_count k.old + restart_notes ≤ turn_notes }
     requires message { args.now.message_base + (meaning request).message ≤ 2 ^ 32 }
     requires reply { IsWithinRam (memory_of k.old) args.now.reply_base (meaning request).reply }
-    ensures holds { (g : Setup) (t : Turn) → Stands g k.old t → Holds g k.new ((meaning request).does g args.now task t) }
+    ensures holds { (g : Setup) (t : Turn) → Stands g k.old t →
+        Holds g k.new ((meaning request).does g args.now task t) }
     ensures frame { AddsAtMost k.old restart_notes k.new }
 {
     match request {
@@ -194,7 +198,8 @@ fn serve(k: &mut Kernel, caller: usize, args: &SendArgs, request: Request)
     requires room { note_count k.old + syscall_notes ≤ turn_notes }
     requires message { args.now.message_base + args.now.message_length ≤ 2 ^ 32 }
     requires reply { IsWithinRam (memory_of k.old) args.now.reply_base args.now.reply_capacity }
-    ensures holds { (g : Setup) (t : Turn) → Stands g k.old t → Holds g k.new (served g caller args.now (Some (meaning request)) t) }
+    ensures holds { (g : Setup) (t : Turn) → Stands g k.old t →
+        Holds g k.new (served g caller args.now (Some (meaning request)) t) }
     ensures frame { AddsAtMost k.old syscall_notes k.new }
 {
     if args.message_length != request.message_length()
@@ -219,7 +224,8 @@ fn hear_request(k: &mut Kernel, caller: usize, args: &SendArgs)
     requires there { caller < task_count k.old }
     requires room { note_count k.old + syscall_notes ≤ turn_notes }
     requires stood { StandsForSome k.old }
-    ensures holds { (g : Setup) (t : Turn) → Stands g k.old t → Holds g k.new (heard g caller args.now t) }
+    ensures holds { (g : Setup) (t : Turn) → Stands g k.old t →
+        Holds g k.new (heard g caller args.now t) }
     ensures frame { AddsAtMost k.old syscall_notes k.new }
 {
     let message = Slice {
@@ -250,7 +256,8 @@ fn kernel_message_rows(k: &mut Kernel, caller: usize)
     requires there { caller < task_count k.old }
     requires room { note_count k.old + syscall_notes ≤ turn_notes }
     requires stood { StandsForSome k.old }
-    ensures holds { (g : Setup) (t : Turn) → Stands g k.old t → Holds g k.new (requested g caller t) }
+    ensures holds { (g : Setup) (t : Turn) → Stands g k.old t →
+        Holds g k.new (requested g caller t) }
     ensures frame { AddsAtMost k.old syscall_notes k.new }
 {
     if caller != 0 {
@@ -260,16 +267,20 @@ fn kernel_message_rows(k: &mut Kernel, caller: usize)
     hear_request(k, caller, &args);
 }
 
-/// A SEND to the kernel, which the supervisor alone may make: bits 15 to 0 of r4 are the operation, r5 and r6
-/// the message, r7 and r8 the buffer for the answer; leases are not looked at. The first word of the message is
-/// the index of a task.
+/// A SEND to the kernel, which the supervisor alone may make: bits 15 to 0 of r4 are the operation,
+/// r5 and r6 the message, r7 and r8 the buffer for the answer; leases are not looked at. The first
+/// word of the message is the index of a task.
 ///
-/// - 1: how the task is, in four words (health 0 well, 1 stopped, 2 faulted; and of a fault its number, x and y).
-/// - 2: the task is restarted, and started where the second word is not 0. It may not be the supervisor.
+/// - 1: how the task is, in four words (health 0 well, 1 stopped, 2 faulted; and of a fault its
+///   number, x and y).
+/// - 2: the task is restarted, and started where the second word is not 0. It may not be the
+///   supervisor.
 /// - 3: the task is made to fault, unless it has faulted. It may not be the supervisor.
-/// - 9: the index of the first task from that one on that has faulted, in one word; 0 where there is none.
+/// - 9: the index of the first task from that one on that has faulted, in one word; 0 where there
+///   is none.
 ///
-/// r4 is 0 then, and r5 the length of the answer (docs/FORMATS.md; Hubris Reference, on supervision).
+/// r4 is 0 then, and r5 the length of the answer (docs/FORMATS.md; Hubris Reference, on
+/// supervision).
 pub fn kernel_message(k: &mut Kernel, caller: usize)
     requires { MayCall k.old caller }
     ensures { Performs requested k.old caller k.new }

@@ -17,7 +17,8 @@ fn answer_dead(k: &mut Kernel, task: usize, other: usize)
     requires there { task < task_count k.old }
     requires other { other < task_count k.old }
     requires room { note_count k.old + 2 ≤ turn_notes }
-    ensures holds { (g : Setup) (t : Turn) → Holds g k.old t → AreFew t.state → Holds g k.new (dead_answered task t other) }
+    ensures holds { (g : Setup) (t : Turn) → Holds g k.old t → AreFew t.state →
+        Holds g k.new (dead_answered task t other) }
     ensures frame { AddsAtMost k.old 2 k.new }
 {
     let code = dead_code(k.generation(task));
@@ -36,7 +37,8 @@ fn answer_dead(k: &mut Kernel, task: usize, other: usize)
 fn restart_task(k: &mut Kernel, task: usize, start: bool)
     requires there { task < task_count k.old }
     requires room { note_count k.old + restart_notes ≤ turn_notes }
-    ensures holds { (g : Setup) (t : Turn) → Stands g k.old t → Holds g k.new (restarted g task start t) }
+    ensures holds { (g : Setup) (t : Turn) → Stands g k.old t →
+        Holds g k.new (restarted g task start t) }
     ensures frame { AddsAtMost k.old restart_notes k.new }
 {
     k.close(task, Ending::Restart);
@@ -51,14 +53,15 @@ fn restart_task(k: &mut Kernel, task: usize, start: bool)
     }
 }
 
-/// A task is restarted: its call and its listen are dropped, and it is born again, well where it is to start
-/// and else stopped; its memory stays. Then each task in order that waits for an answer of it, or for a message
-/// of it alone, goes on and gets the dead code with its new generation (Hubris Reference, on supervision and
-/// on task ids).
+/// A task is restarted: its call and its listen are dropped, and it is born again, well where it is
+/// to start and else stopped; its memory stays. Then each task in order that waits for an answer of
+/// it, or for a message of it alone, goes on and gets the dead code with its new generation (Hubris
+/// Reference, on supervision and on task ids).
 pub fn restart(k: &mut Kernel, task: usize, start: bool)
     requires there { task < task_count k.old }
     requires room { note_count k.old + restart_notes ≤ turn_notes }
-    ensures stands { (g : Setup) (t : Turn) → Stands g k.old t → Stands g k.new (restarted g task start t) }
+    ensures stands { (g : Setup) (t : Turn) → Stands g k.old t →
+        Stands g k.new (restarted g task start t) }
     ensures frame { AddsAtMost k.old restart_notes k.new }
 {
     restart_task(k, task, start);

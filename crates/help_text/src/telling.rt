@@ -12,7 +12,8 @@ use crate::texts::{
 use command_line::CommandName;
 use outside_io::{Failed, Sink, push_lines};
 
-/// What is said of a command: its words and files, the limits, the statuses, and the causes of its files.
+/// What is said of a command: its words and files, the limits, the statuses, and the causes of its
+/// files.
 fn parts_on(command: CommandName) -> &'static [&'static [&'static str]]
     ensures { map (λ part. map (λ line. line.now) part.now) result.now ≡ parts_on command }
 {
@@ -111,10 +112,11 @@ fn parts(about: Option<CommandName>) -> &'static [&'static [&'static str]]
     }
 }
 
-/// Pushes what `help` says, a line and a push each (docs/FORMATS.md, Command line). After a failing push nothing more is
-/// pushed.
+/// Pushes what `help` says, a line and a push each (docs/FORMATS.md, Command line). After a failing
+/// push nothing more is pushed.
 pub fn push_help<S: Sink>(about: Option<CommandName>, out: &mut S) -> Result<(), Failed>
-    ensures bytes { Pushes (S.seen out.old).written (S.seen out.new).written (help_text about) result }
+    ensures bytes { Pushes (S.seen out.old).written (S.seen out.new).written (help_text about)
+        result }
     ensures cause { HasCause (S.seen out.old).faults (S.seen out.new).faults result }
 {
     for part in parts(about) {

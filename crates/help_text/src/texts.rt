@@ -1,4 +1,5 @@
-//! What `help` says, made of the tables of docs/FORMATS.md by .ci/help.awk: not to be changed by hand.
+//! What `help` says, made of the tables of docs/FORMATS.md by .ci/help.awk: not to be changed by
+//! hand.
 
 /// The commands.
 pub(crate) const COMMANDS: &[&str] = &[

@@ -46,8 +46,8 @@ fn main(rt: HostRuntime) -> ExitCode {
     let Ok(words) = words(&rt) else {
         return ExitCode::from(5);
     };
-    // Lines go out together, since a call of the system for each would be most of the time of `--all`; at times the run,
-    // and after each answer the debugger, passes on what is held back.
+    // Lines go out together, since a call of the system for each would be most of the time of
+    // `--all`; at times the run, and after each answer the debugger, passes on what is held back.
     let Ok(writer) = BufWriter::with_capacity(rt.alloc(), 65_536, io::writer(&rt)) else {
         return ExitCode::from(5);
     };
@@ -59,7 +59,8 @@ fn main(rt: HostRuntime) -> ExitCode {
     if status != 4 && out.flush().is_ok() {
         return ExitCode::from(status);
     }
-    // A writer that is dropped tries again to write what it holds back: nothing is written after a failure.
+    // A writer that is dropped tries again to write what it holds back: nothing is written after a
+    // failure.
     let (_, _held) = out.into_output().into_parts();
     ExitCode::from(4)
 }

@@ -22,8 +22,10 @@ use thumb_asm::{AsmFault, Object, assemble_with};
 /// Puts the code into the flash at this place.
 fn put(flash: &mut [u8], at: usize, code: &[u8])
     requires { at + length code.now ≤ length flash.old }
-    ensures stands { (k : ℕ) → k < length code.now → slice_index flash.new (at + k) ≡ slice_index code.now k }
-    ensures kept { (k : ℕ) → (k < at) ⊎ (at + length code.now ≤ k) → slice_index flash.new k ≡ slice_index flash.old k }
+    ensures stands { (k : ℕ) → k < length code.now →
+        slice_index flash.new (at + k) ≡ slice_index code.now k }
+    ensures kept { (k : ℕ) → (k < at) ⊎ (at + length code.now ≤ k) →
+        slice_index flash.new k ≡ slice_index flash.old k }
 {
     for k in 0..code.len() {
         flash[at + k] = code[k];
@@ -38,8 +40,10 @@ fn assemble_next(
 ) -> Result<Object, AsmFault>
     requires left { next_task builder.now < length (described builder.now).tasks }
     requires own { names_of own.now ≡ own_symbols (described builder.now) (next_task builder.now) }
-    ensures assembled { IfOk result (λ o. IsAssembled (described builder.now) (next_task builder.now) bytes.now o.bytes.items (get_by_text o.labels)) }
-    ensures refused { IfErr result (λ e. Refuses e (source_cause (described builder.now) (next_task builder.now) bytes.now)) }
+    ensures assembled { IfOk result (λ o. IsAssembled (described builder.now)
+        (next_task builder.now) bytes.now o.bytes.items (get_by_text o.labels)) }
+    ensures refused { IfErr result (λ e. Refuses e
+        (source_cause (described builder.now) (next_task builder.now) bytes.now)) }
 {
     let base = flash_base(builder.app, &builder.layout, builder.done);
     assemble_with(builder.alloc, bytes, base, &builder.shared, own)
@@ -48,8 +52,10 @@ fn assemble_next(
 /// What the next task's source is assembled to.
 fn assembled(builder: &Builder<'_>, bytes: &[u8]) -> Result<Object, BuildFault>
     requires left { next_task builder.now < length (described builder.now).tasks }
-    ensures assembled { IfOk result (λ o. IsAssembled (described builder.now) (next_task builder.now) bytes.now o.bytes.items (get_by_text o.labels)) }
-    ensures refused { IfErr result (RefusesSource (described builder.now) (next_task builder.now) bytes.now) }
+    ensures assembled { IfOk result (λ o. IsAssembled (described builder.now)
+        (next_task builder.now) bytes.now o.bytes.items (get_by_text o.labels)) }
+    ensures refused { IfErr result (RefusesSource (described builder.now) (next_task builder.now)
+        bytes.now) }
 {
     let next = builder.done;
     let own = own_symbols(builder.alloc, builder.app, &builder.layout, next)?;
@@ -69,8 +75,8 @@ impl<'a> Builder<'a> {
     ///
     /// # Errors
     ///
-    /// `Flash` where the tasks' flash has no room, else `Ram` where the RAM of tasks and regions has none;
-    /// `Memory` where memory ran out.
+    /// `Flash` where the tasks' flash has no room, else `Ram` where the RAM of tasks and regions
+    /// has none; `Memory` where memory ran out.
     pub fn open(alloc: Global, app: &'a App) -> Result<Builder<'a>, BuildFault>
         ensures described { IfOk result (λ b. described b ≡ app_of app.now) }
         ensures none { IfOk result (HasAccepted []) }
@@ -90,7 +96,8 @@ impl<'a> Builder<'a> {
         })
     }
 
-    /// The index of the task whose source is the next, or the number of tasks where each has been accepted.
+    /// The index of the task whose source is the next, or the number of tasks where each has been
+    /// accepted.
     pub fn next(&self) -> usize
         ensures { result ≡ next_task self.now }
     {
@@ -110,13 +117,15 @@ impl<'a> Builder<'a> {
     ///
     /// # Errors
     ///
-    /// `Source` where the assembler refuses it, else `Code` where its bytes are more than the task's flash;
-    /// `Memory` where memory ran out.
+    /// `Source` where the assembler refuses it, else `Code` where its bytes are more than the
+    /// task's flash; `Memory` where memory ran out.
     pub fn source(&mut self, bytes: &[u8]) -> Result<(), BuildFault>
         requires { next_task self.old < length (described self.old).tasks }
         ensures described { described self.new ≡ described self.old }
-        ensures accepted { OnOk result ((sources : List (List ℕ)) → HasAccepted sources self.old → HasAccepted (sources ++ bytes.now ∷ []) self.new) }
-        ensures refused { IfErr result (RefusesSource (described self.old) (next_task self.old) bytes.now) }
+        ensures accepted { OnOk result ((sources : List (List ℕ)) → HasAccepted sources self.old →
+            HasAccepted (sources ++ bytes.now ∷ []) self.new) }
+        ensures refused { IfErr result (RefusesSource (described self.old) (next_task self.old)
+            bytes.now) }
         ensures unchanged { OnErr result (self.new ≡ self.old) }
     {
         let object = assembled(self, bytes)?;

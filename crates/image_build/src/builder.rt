@@ -12,7 +12,8 @@ use app_toml::App;
 use std::alloc::Global;
 use thumb_asm::Symbols;
 
-/// An application, of which the first tasks' sources have been accepted; `shared` are the symbols that all sources share.
+/// An application, of which the first tasks' sources have been accepted; `shared` are the symbols
+/// that all sources share.
 #[derive(Drop)]
 pub struct Builder<'a> {
     pub(crate) alloc: Global,

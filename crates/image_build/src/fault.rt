@@ -15,8 +15,8 @@ pub enum BuildFault {
     /// The tasks' RAM and the regions need so many bytes, which is more than the board has.
     #[error("{needed} bytes of RAM are needed")]
     Ram { needed: u64 },
-    /// The assembler refuses the task's source, with a number of docs/FORMATS.md, Assembler, and the
-    /// line, counted from 1.
+    /// The assembler refuses the task's source, with a number of docs/FORMATS.md, Assembler, and
+    /// the line, counted from 1.
     #[error("task {task}: cause {cause} at line {line}")]
     Source { task: usize, cause: u8, line: usize },
     /// The task's source gives so many bytes, which is more than its flash has.

@@ -40,11 +40,14 @@ fn header_of(
     names: &[u8],
 ) -> Header
     requires laid { IsLaid (app_of app.now) layout.now }
-    requires tasks { tasks.now ≡ map task_record (tasks_from (app_of app.now) 0 (app_of app.now).tasks) }
-    requires regions { regions.now ≡ map region_record (all_regions (tasks_from (app_of app.now) 0 (app_of app.now).tasks)) }
+    requires tasks { tasks.now ≡ map task_record
+        (tasks_from (app_of app.now) 0 (app_of app.now).tasks) }
+    requires regions { regions.now ≡ map region_record
+        (all_regions (tasks_from (app_of app.now) 0 (app_of app.now).tasks)) }
     requires lines { lines.now ≡ map line_record (lines_built (app_of app.now)) }
     requires names { names.now ≡ all_names (tasks_from (app_of app.now) 0 (app_of app.now).tasks) }
-    ensures { (flash : List ℕ) → length flash ≡ flash_needed (app_of app.now) → result ≡ header_of Second (image_data_built (app_of app.now) flash) }
+    ensures { (flash : List ℕ) → length flash ≡ flash_needed (app_of app.now) →
+        result ≡ header_of Second (image_data_built (app_of app.now) flash) }
 {
     app.facts();
     app.relations();
@@ -62,11 +65,12 @@ fn header_of(
 }
 
 impl<'a> Builder<'a> {
-    /// The image, once the source of each task has been accepted; `Memory` where memory ran out, and then the
-    /// builder is gone.
+    /// The image, once the source of each task has been accepted; `Memory` where memory ran out,
+    /// and then the builder is gone.
     pub fn finish(self) -> Result<Image, BuildFault>
         requires { next_task self ≡ length (described self).tasks }
-        ensures built { IfOk result (λ i. (sources : List (List ℕ)) → HasAccepted sources self.entry → Built (described self.entry) sources (image_data i)) }
+        ensures built { IfOk result (λ i. (sources : List (List ℕ)) →
+            HasAccepted sources self.entry → Built (described self.entry) sources (image_data i)) }
         ensures sound { IfOk result (λ i. Sound (image_data i)) }
         ensures memory { IfErr result (λ e. e ≡ BuildFault.Memory) }
     {
@@ -89,18 +93,20 @@ impl<'a> Builder<'a> {
     }
 }
 
-/// The image of the application and of these sources, one for each task, or the first of: too little
-/// flash, too little RAM, then by task a cause of the assembler, and more code than the task has flash.
-/// docs/FORMATS.md, Building.
+/// The image of the application and of these sources, one for each task, or the first of: too
+/// little flash, too little RAM, then by task a cause of the assembler, and more code than the task
+/// has flash. docs/FORMATS.md, Building.
 ///
 /// # Errors
 ///
 /// Those of `Builder`; `Memory` may come in place of any.
 pub fn build(alloc: Global, app: &App, sources: &[Vec<u8>]) -> Result<Image, BuildFault>
     requires { length sources.now ≡ length (app_of app.now).tasks }
-    ensures built { IfOk result (λ i. Built (app_of app.now) (map (λ v. v.items) sources.now) (image_data i)) }
+    ensures built { IfOk result (λ i. Built (app_of app.now) (map (λ v. v.items) sources.now)
+        (image_data i)) }
     ensures sound { IfOk result (λ i. Sound (image_data i)) }
-    ensures accepted { IfOk result (λ i. IsAccepted (app_of app.now) (map (λ v. v.items) sources.now)) }
+    ensures accepted { IfOk result (λ i. IsAccepted (app_of app.now)
+        (map (λ v. v.items) sources.now)) }
     ensures refused { IfErr result (Refuses (app_of app.now) (map (λ v. v.items) sources.now)) }
 {
     let mut builder = Builder::open(alloc, app)?;

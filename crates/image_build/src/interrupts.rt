@@ -39,7 +39,8 @@ fn push_line(
 ) -> Result<(), AllocError>
     requires { All (λ i. IsOwned (app_of app.now) (interrupt_of i)) interrupts.now }
     ensures { OnOk result (out.new.items ≡ out.old.items
-        ++ map line_record (map (line_built (app_of app.now)) (filter (λ i. i.line == line) (map interrupt_of interrupts.now)))) }
+        ++ map line_record (map (line_built (app_of app.now))
+        (filter (λ i. i.line == line) (map interrupt_of interrupts.now)))) }
 {
     for interrupt in interrupts {
         if interrupt.line == line {

@@ -15,8 +15,8 @@ use mem_banks::{FLASH, RAM};
 use mem_plan::{PlanFault, plan, rounded};
 use std::alloc::{AllocError, Global};
 
-/// The bases of the tasks' flash, and of the tasks' RAM and then of the regions; how many bytes of each
-/// they take.
+/// The bases of the tasks' flash, and of the tasks' RAM and then of the regions; how many bytes of
+/// each they take.
 #[derive(Drop)]
 pub(crate) struct Layout {
     pub(crate) flash: Vec<u32>,
@@ -47,7 +47,8 @@ fn tasks_ram(alloc: Global, tasks: &[TaskSpec]) -> Result<Vec<u32>, AllocError>
 }
 
 fn push_regions(sizes: &mut Vec<u32>, regions: &[RegionSpec]) -> Result<(), AllocError>
-    ensures { OnOk result (sizes.new.items ≡ sizes.old.items ++ map (λ r. r.size) (map region_of regions.now)) }
+    ensures { OnOk result (sizes.new.items ≡ sizes.old.items
+        ++ map (λ r. r.size) (map region_of regions.now)) }
 {
     for region in regions {
         sizes.push(region.size)?;
@@ -93,7 +94,8 @@ fn planned(alloc: Global, sizes: &[u32], base: u32, room: u32) -> Result<(Vec<u3
 }
 
 fn flash_plan(alloc: Global, app: &App) -> Result<(Vec<u32>, u32), BuildFault>
-    ensures planned { IfOk result (λ p. IsPlanned 0x08000000 (flash_sizes (app_of app.now)) p.0.items) }
+    ensures planned { IfOk result (λ p. IsPlanned 0x08000000 (flash_sizes (app_of app.now))
+        p.0.items) }
     ensures accepted { IfOk result (λ p. p.1 ≡ flash_needed (app_of app.now)) }
     ensures room { IfOk result (λ p. flash_needed (app_of app.now) ≤ (app_of app.now).flash) }
     ensures refused { IfErr result (LacksFlash (app_of app.now)) }
@@ -108,7 +110,8 @@ fn flash_plan(alloc: Global, app: &App) -> Result<(Vec<u32>, u32), BuildFault>
 }
 
 fn ram_plan(alloc: Global, app: &App) -> Result<(Vec<u32>, u32), BuildFault>
-    ensures planned { IfOk result (λ p. IsPlanned 0x20000000 (ram_sizes (app_of app.now)) p.0.items) }
+    ensures planned { IfOk result (λ p. IsPlanned 0x20000000 (ram_sizes (app_of app.now))
+        p.0.items) }
     ensures accepted { IfOk result (λ p. p.1 ≡ ram_needed (app_of app.now)) }
     ensures room { IfOk result (λ p. ram_needed (app_of app.now) ≤ (app_of app.now).ram) }
     ensures refused { IfErr result (LacksRam (app_of app.now)) }
@@ -122,7 +125,8 @@ fn ram_plan(alloc: Global, app: &App) -> Result<(Vec<u32>, u32), BuildFault>
     }
 }
 
-/// Where the application's memory lies. Flash first: where neither has room, the flash is what is refused.
+/// Where the application's memory lies. Flash first: where neither has room, the flash is what is
+/// refused.
 pub(crate) fn laid_out(alloc: Global, app: &App) -> Result<Layout, BuildFault>
     ensures laid { IfOk result (IsLaid (app_of app.now)) }
     ensures refused { IfErr result (LacksRoom (app_of app.now)) }

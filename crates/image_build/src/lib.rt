@@ -1,5 +1,6 @@
 //! Builds an image of an application and of its tasks' sources: plans flash and RAM, assembles each
-//! source at its task's flash, and makes the parts of the image. docs/FORMATS.md, Building, has the rules.
+//! source at its task's flash, and makes the parts of the image. docs/FORMATS.md, Building, has the
+//! rules.
 #![tactic(auto)]
 
 mod accepting;

@@ -38,7 +38,8 @@ pub(crate) fn flash_base(app: &App, layout: &Layout, i: usize) -> u32
     requires laid { IsLaid (app_of app.now) layout.now }
     ensures base { result ≡ flash_base (app_of app.now) i }
     ensures low { 0x08000000 ≤ result }
-    ensures high { result + rounded (task_at (app_of app.now) i).flash ≤ 0x08000000 + flash_needed (app_of app.now) }
+    ensures high { result + rounded (task_at (app_of app.now) i).flash ≤ 0x08000000 + flash_needed
+        (app_of app.now) }
     ensures most { result ≤ 0x08100000 }
 {
     app.facts();

@@ -58,7 +58,9 @@ fn push_named(
 ) -> Result<(), AllocError>
     requires laid { IsLaid (app_of app.now) layout.now }
     requires known { All (λ n. IsKnown (app_of app.now) (string_bytes n)) names.now }
-    ensures { OnOk result (out.new.items ≡ out.old.items ++ map region_record (map (named (app_of app.now) is_written) (map string_bytes names.now))) }
+    ensures { OnOk result (out.new.items ≡ out.old.items
+        ++ map region_record (map (named (app_of app.now) is_written)
+        (map string_bytes names.now))) }
 {
     for name in names {
         out.push(named(app, layout, is_written, name.as_str()))?;
@@ -75,7 +77,8 @@ pub(crate) fn push_task_regions(
 ) -> Result<(), AllocError>
     requires task { i < length (app_of app.now).tasks }
     requires laid { IsLaid (app_of app.now) layout.now }
-    ensures { OnOk result (out.new.items ≡ out.old.items ++ map region_record (task_regions (app_of app.now) i (task_at (app_of app.now) i))) }
+    ensures { OnOk result (out.new.items ≡ out.old.items
+        ++ map region_record (task_regions (app_of app.now) i (task_at (app_of app.now) i))) }
 {
     app.facts();
     let task = task(app, i);

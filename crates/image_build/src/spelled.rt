@@ -18,7 +18,8 @@ fn push_name(out: &mut Vec<u8>, name: &str) -> Result<(), AllocError>
 
 fn push_names(out: &mut Vec<u8>, names: &[String]) -> Result<(), AllocError>
     requires { All (λ n. length (string_bytes n) ≤ 24) names.now }
-    ensures { OnOk result (out.new.items ≡ out.old.items ++ names_bytes (map string_bytes names.now)) }
+    ensures { OnOk result (out.new.items ≡ out.old.items
+        ++ names_bytes (map string_bytes names.now)) }
 {
     for name in names {
         push_name(out, name.as_str())?;
@@ -28,7 +29,8 @@ fn push_names(out: &mut Vec<u8>, names: &[String]) -> Result<(), AllocError>
 
 /// The names of all tasks' notifications, in their order.
 pub(crate) fn all_names(alloc: Global, app: &App) -> Result<Vec<u8>, AllocError>
-    ensures { IfOk result (λ v. v.items ≡ all_names (tasks_from (app_of app.now) 0 (app_of app.now).tasks)) }
+    ensures { IfOk result (λ v. v.items ≡ all_names
+        (tasks_from (app_of app.now) 0 (app_of app.now).tasks)) }
 {
     app.facts();
     let tasks = app.tasks();

@@ -1,4 +1,5 @@
-//! The symbols that a task's source may name: its own ones, and those that the sources of all tasks share.
+//! The symbols that a task's source may name: its own ones, and those that the sources of all tasks
+//! share.
 
 ghost use Rattle.std.specs.Prelude.{◌≡◌, ◌≤◌, ◌<◌, ◌+◌, ◌^◌, ◌∷◌, ◌++◌, [], codes, length, map, string_bytes, IfOk, OnOk};
 ghost use Rattle.app_toml.specs.Held.{app_of};
@@ -20,7 +21,8 @@ use thumb_asm::Symbols;
 type Entries = Vec<(String, u32)>;
 
 fn push(out: &mut Entries, prefix: &str, name: &str, value: u32) -> Result<(), AllocError>
-    ensures { OnOk result (names_of out.new.items ≡ names_of out.old.items ++ (prefix.now ++ name.now, value) ∷ []) }
+    ensures { OnOk result (names_of out.new.items ≡ names_of out.old.items
+        ++ (prefix.now ++ name.now, value) ∷ []) }
 {
     let mut symbol = String::from_str(*out.allocator(), prefix)?;
     symbol.push_str(name)?;
@@ -30,7 +32,8 @@ fn push(out: &mut Entries, prefix: &str, name: &str, value: u32) -> Result<(), A
 
 fn push_notes(out: &mut Entries, prefix: &str, notifications: &[String]) -> Result<(), AllocError>
     requires { length notifications.now ≤ 32 }
-    ensures { OnOk result (names_of out.new.items ≡ names_of out.old.items ++ note_symbols prefix.now 0 (map string_bytes notifications.now)) }
+    ensures { OnOk result (names_of out.new.items ≡ names_of out.old.items
+        ++ note_symbols prefix.now 0 (map string_bytes notifications.now)) }
 {
     for k in 0..notifications.len() {
         push(out, prefix, notifications[k].as_str(), bit(k))?;
@@ -42,7 +45,8 @@ fn push_ram(out: &mut Entries, task: &TaskSpec, base: u32) -> Result<(), AllocEr
     requires ram { task.now.ram ≤ 1048576 }
     requires stack { base + task.now.stack < 2 ^ 32 }
     ensures { OnOk result (names_of out.new.items ≡ names_of out.old.items
-        ++ ((codes "ram", base) ∷ (codes "ram_size", rounded task.now.ram) ∷ (codes "stack_top", base + task.now.stack) ∷ [])) }
+        ++ ((codes "ram", base) ∷ (codes "ram_size", rounded task.now.ram) ∷
+        (codes "stack_top", base + task.now.stack) ∷ [])) }
 {
     push(out, "ram", "", base)?;
     push(out, "ram_size", "", rounded(task.ram))?;
@@ -52,7 +56,8 @@ fn push_ram(out: &mut Entries, task: &TaskSpec, base: u32) -> Result<(), AllocEr
 
 fn push_regions(out: &mut Entries, app: &App, layout: &Layout) -> Result<(), AllocError>
     requires { IsLaid (app_of app.now) layout.now }
-    ensures { OnOk result (names_of out.new.items ≡ names_of out.old.items ++ region_symbols (app_of app.now) 0 (app_of app.now).regions) }
+    ensures { OnOk result (names_of out.new.items ≡ names_of out.old.items
+        ++ region_symbols (app_of app.now) 0 (app_of app.now).regions) }
 {
     let regions = app.regions();
     let first = app.tasks().len();
@@ -68,7 +73,8 @@ fn push_regions(out: &mut Entries, app: &App, layout: &Layout) -> Result<(), All
 }
 
 fn push_devices(out: &mut Entries, devices: &[DeviceSpec]) -> Result<(), AllocError>
-    ensures { OnOk result (names_of out.new.items ≡ names_of out.old.items ++ device_symbols (map device_of devices.now)) }
+    ensures { OnOk result (names_of out.new.items ≡ names_of out.old.items
+        ++ device_symbols (map device_of devices.now)) }
 {
     for device in devices {
         push(out, "region_", device.name.as_str(), device.base)?;
@@ -90,7 +96,8 @@ fn push_task(out: &mut Entries, index: u32, task: &TaskSpec) -> Result<(), Alloc
     requires { length task.now.notifications.items ≤ 32 }
     ensures { OnOk result (names_of out.new.items ≡ names_of out.old.items
         ++ ((codes "task_" ++ string_bytes task.now.name, index)
-        ∷ note_symbols (codes "note_" ++ string_bytes task.now.name ++ codes "_") 0 (map string_bytes task.now.notifications.items))) }
+        ∷ note_symbols (codes "note_" ++ string_bytes task.now.name ++ codes "_") 0
+        (map string_bytes task.now.notifications.items))) }
 {
     push(out, "task_", task.name.as_str(), index)?;
     let prefix = note_prefix(*out.allocator(), task.name.as_str())?;
@@ -98,7 +105,8 @@ fn push_task(out: &mut Entries, index: u32, task: &TaskSpec) -> Result<(), Alloc
 }
 
 fn push_tasks(out: &mut Entries, app: &App) -> Result<(), AllocError>
-    ensures { OnOk result (names_of out.new.items ≡ names_of out.old.items ++ task_symbols 0 (app_of app.now).tasks) }
+    ensures { OnOk result (names_of out.new.items ≡ names_of out.old.items
+        ++ task_symbols 0 (app_of app.now).tasks) }
 {
     app.facts();
     let tasks = app.tasks();
@@ -137,7 +145,8 @@ fn shared_entries(alloc: Global, app: &App, layout: &Layout) -> Result<Entries, 
     Ok(out)
 }
 
-/// An index of the symbols that all sources share: regions, devices, and the tasks with their notifications.
+/// An index of the symbols that all sources share: regions, devices, and the tasks with their
+/// notifications.
 pub(crate) fn shared_symbols(
     alloc: Global,
     app: &App,

@@ -36,7 +36,8 @@ pub(crate) fn task_records(
     layout: &Layout,
 ) -> Result<Vec<TaskRecord>, AllocError>
     requires { IsLaid (app_of app.now) layout.now }
-    ensures { IfOk result (λ v. v.items ≡ map task_record (tasks_from (app_of app.now) 0 (app_of app.now).tasks)) }
+    ensures { IfOk result (λ v. v.items ≡ map task_record
+        (tasks_from (app_of app.now) 0 (app_of app.now).tasks)) }
 {
     let count = app.tasks().len();
     let mut out = Vec::new(alloc);
@@ -53,7 +54,8 @@ pub(crate) fn region_records(
     layout: &Layout,
 ) -> Result<Vec<RegionRecord>, AllocError>
     requires { IsLaid (app_of app.now) layout.now }
-    ensures { IfOk result (λ v. v.items ≡ map region_record (all_regions (tasks_from (app_of app.now) 0 (app_of app.now).tasks))) }
+    ensures { IfOk result (λ v. v.items ≡ map region_record
+        (all_regions (tasks_from (app_of app.now) 0 (app_of app.now).tasks))) }
 {
     let count = app.tasks().len();
     let mut out = Vec::new(alloc);

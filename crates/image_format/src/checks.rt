@@ -53,8 +53,8 @@ fn check_second(h: &Header) -> Option<(u8, u32)>
     }
 }
 
-/// The first field of the header that is refused: a cause and the place of a byte, None where none is.
-/// docs/FORMATS.md, Image.
+/// The first field of the header that is refused: a cause and the place of a byte, None where none
+/// is. docs/FORMATS.md, Image.
 #[tactic(auto, unfolding(crate::specs::Steps::field_fault))]
 pub fn check_fields(h: &Header) -> Option<(u8, u32)>
     ensures { result ≡ field_fault h.now }
@@ -144,7 +144,8 @@ pub fn check_count(h: &Header, tasks: &[TaskRecord]) -> Option<(u8, u32)>
     }
 }
 
-/// Of one interrupt's record of the first form, which lies at the place; its line is to be at least so high.
+/// Of one interrupt's record of the first form, which lies at the place; its line is to be at least
+/// so high.
 fn check_first_line(least: u16, tasks: u16, l: &LineRecord, place: u32) -> Option<(u8, u32)>
     requires { place + 8 ≤ 2 ^ 32 }
     ensures { result ≡ line_fault First least tasks l.now place }
@@ -162,7 +163,8 @@ fn check_first_line(least: u16, tasks: u16, l: &LineRecord, place: u32) -> Optio
     }
 }
 
-/// Of one interrupt's record of the second form, which lies at the place; its line is to be at least so high.
+/// Of one interrupt's record of the second form, which lies at the place; its line is to be at
+/// least so high.
 fn check_second_line(least: u16, tasks: u16, l: &LineRecord, place: u32) -> Option<(u8, u32)>
     requires { place + 8 ≤ 2 ^ 32 }
     ensures { result ≡ line_fault Second least tasks l.now place }
@@ -196,8 +198,8 @@ fn check_line(
     }
 }
 
-/// The first refusal of the interrupts in order: a cause and the place of a byte, None where none is.
-/// docs/FORMATS.md, Image.
+/// The first refusal of the interrupts in order: a cause and the place of a byte, None where none
+/// is. docs/FORMATS.md, Image.
 #[tactic(auto, using(crate::proofs::Limits::few_lines, crate::proofs::Limits::early_lines))]
 pub fn check_lines(h: &Header, lines: &[LineRecord]) -> Option<(u8, u32)>
     requires fields { field_fault h.now ≡ None }

@@ -6,8 +6,8 @@ ghost use Rattle.image_format.specs.Accepted.{Accepted};
 
 use crate::records::{Header, LineRecord, RegionRecord, TaskRecord};
 
-/// An image that no check refuses; `picture` of its specs is what it says. Its parts are those of the second form, in
-/// whichever form it was read.
+/// An image that no check refuses; `picture` of its specs is what it says. Its parts are those of
+/// the second form, in whichever form it was read.
 #[derive(Drop)]
 pub struct Image {
     pub(crate) header: Header,

@@ -8,14 +8,19 @@ pub fn bytes_spell_one_image()
     ensures { (p q : ImageData) (bytes : List ℕ) → Spells p bytes → Spells q bytes → p ≡ q }
 {}
 
-/// Where bytes of the first form spell an image, its spelling in the second form spells that image and no other.
+/// Where bytes of the first form spell an image, its spelling in the second form spells that image
+/// and no other.
 pub fn one_spelling()
-    ensures { (p : ImageData) (bytes : List ℕ) → SpellsFirst p bytes → Spells p (spelling p) × ((q : ImageData) → Spells q (spelling p) → q ≡ p) }
+    ensures { (p : ImageData) (bytes : List ℕ) → SpellsFirst p bytes → Spells p (spelling p)
+        × ((q : ImageData) → Spells q (spelling p) → q ≡ p) }
 {}
 
-/// Bytes are not refused exactly where they spell a sound image, and then they are read as that image.
+/// Bytes are not refused exactly where they spell a sound image, and then they are read as that
+/// image.
 pub fn accepted_bytes_spell_a_sound_image()
-    ensures spelled { (p : ImageData) (bytes : List ℕ) → AreBytes bytes → image_or_fault bytes ≡ Ok p → Spells p bytes }
+    ensures spelled { (p : ImageData) (bytes : List ℕ) → AreBytes bytes →
+        image_or_fault bytes ≡ Ok p → Spells p bytes }
     ensures sound { (p : ImageData) (bytes : List ℕ) → image_or_fault bytes ≡ Ok p → Sound p }
-    ensures accepted { (p : ImageData) (bytes : List ℕ) → Spells p bytes → Sound p → image_or_fault bytes ≡ Ok p }
+    ensures accepted { (p : ImageData) (bytes : List ℕ) → Spells p bytes → Sound p →
+        image_or_fault bytes ≡ Ok p }
 {}

@@ -1,5 +1,5 @@
-//! Images in their two forms, `HBI1` and `HBI2`: their bytes read and written, and the checks that an image passes.
-//! docs/FORMATS.md, Image, has the layouts and the table of causes.
+//! Images in their two forms, `HBI1` and `HBI2`: their bytes read and written, and the checks that
+//! an image passes. docs/FORMATS.md, Image, has the layouts and the table of causes.
 #![tactic(auto)]
 
 mod checks;

@@ -10,8 +10,9 @@ use crate::image::Image;
 use crate::records::{Header, LineRecord, RegionRecord, TaskRecord};
 
 impl Image {
-    /// The image of these parts, which no check refuses: the records as they lie in a file of the second form, the
-    /// regions and the names in the order of the tasks, each name its length and its bytes, and the bytes of flash.
+    /// The image of these parts, which no check refuses: the records as they lie in a file of the
+    /// second form, the regions and the names in the order of the tasks, each name its length and
+    /// its bytes, and the bytes of flash.
     pub fn of_parts(
         header: Header,
         tasks: Vec<TaskRecord>,

@@ -128,8 +128,8 @@ fn check_all_names(end: u32, tasks: &[TaskRecord], names: &[u8]) -> Option<(u8, 
     check_left(rest)
 }
 
-/// The first refusal of the names in order, and of bytes behind them: a cause and the place of a byte, None where none is.
-/// docs/FORMATS.md, Image.
+/// The first refusal of the names in order, and of bytes behind them: a cause and the place of a
+/// byte, None where none is. docs/FORMATS.md, Image.
 #[tactic(auto, using(crate::proofs::Limits::few_names, crate::proofs::Limits::early_names))]
 pub fn check_names(h: &Header, tasks: &[TaskRecord], names: &[u8]) -> Option<(u8, u32)>
     requires fields { field_fault h.now ≡ None }

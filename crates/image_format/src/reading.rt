@@ -159,8 +159,10 @@ fn read_parts(alloc: Global, bytes: &[u8]) -> Result<Parts, ImageFault>
       names = p.names.items;
       flash = p.flash.items;
     })) }
-    ensures plain { IfOk result (λ p. p.header.form ≡ First → (p.header.zero ≡ 0) × (p.header.names ≡ 0)) }
-    ensures refused { IfErr result (λ e. IfSome (stated e) (λ t. records_or_fault bytes.now ≡ Err t)) }
+    ensures plain { IfOk result (λ p. p.header.form ≡ First → (p.header.zero ≡ 0)
+        × (p.header.names ≡ 0)) }
+    ensures refused { IfErr result (λ e. IfSome (stated e)
+        (λ t. records_or_fault bytes.now ≡ Err t)) }
 {
     let header = match header_of(bytes) {
         Ok(header) => header,
@@ -186,7 +188,8 @@ fn kept(parts: Parts) -> Image
       names = parts.names.items;
       flash = parts.flash.items;
     }) }
-    requires plain { parts.header.form ≡ First → (parts.header.zero ≡ 0) × (parts.header.names ≡ 0) }
+    requires plain { parts.header.form ≡ First → (parts.header.zero ≡ 0)
+        × (parts.header.names ≡ 0) }
     ensures { records_in result ≡ record {
       header = record parts.header { form = Second };
       tasks = parts.tasks.items;
@@ -209,8 +212,8 @@ fn kept(parts: Parts) -> Image
 }
 
 impl Image {
-    /// The image that the bytes spell in either form, or the first cause by which they are refused with its place,
-    /// in the order of docs/FORMATS.md, Image; `Memory` where memory ran out.
+    /// The image that the bytes spell in either form, or the first cause by which they are refused
+    /// with its place, in the order of docs/FORMATS.md, Image; `Memory` where memory ran out.
     pub fn read(alloc: Global, bytes: &[u8]) -> Result<Image, ImageFault>
         ensures ok { IfOk result (λ i. image_or_fault bytes.now ≡ Ok (image_data i)) }
         ensures refused { IfErr result (λ e.

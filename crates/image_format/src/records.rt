@@ -11,9 +11,10 @@ pub enum ImageForm {
     Second,
 }
 
-/// What an image begins with, after its first four letters: how many tasks, interrupts and regions it has, a zero, how many
-/// bytes of flash and of RAM, the bits posted to task 0 at a fault, and how many bytes the names take. The first form has
-/// neither the zero nor the bytes of names: both are 0 then.
+/// What an image begins with, after its first four letters: how many tasks, interrupts and regions
+/// it has, a zero, how many bytes of flash and of RAM, the bits posted to task 0 at a fault, and
+/// how many bytes the names take. The first form has neither the zero nor the bytes of names: both
+/// are 0 then.
 #[derive(Clone, Copy)]
 pub struct Header {
     pub form: ImageForm,
@@ -27,8 +28,9 @@ pub struct Header {
     pub names: u32,
 }
 
-/// A task: its priority (0 is the highest), flags (bit 0: started), how many regions and how many names it has, where it
-/// begins (bit 0 set) and its first stack pointer. In the first form the number of names is a byte that is to be 0.
+/// A task: its priority (0 is the highest), flags (bit 0: started), how many regions and how many
+/// names it has, where it begins (bit 0 set) and its first stack pointer. In the first form the
+/// number of names is a byte that is to be 0.
 #[derive(Clone, Copy)]
 pub struct TaskRecord {
     pub priority: u8,

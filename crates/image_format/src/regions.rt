@@ -168,8 +168,8 @@ fn check_entry(own: &[RegionRecord], t: &TaskRecord, place: u32) -> Option<(u8, 
     }
 }
 
-/// The first refusal of the tasks' entries in order: a cause and the place of a byte, None where none is.
-/// docs/FORMATS.md, Image.
+/// The first refusal of the tasks' entries in order: a cause and the place of a byte, None where
+/// none is. docs/FORMATS.md, Image.
 #[tactic(auto, using(crate::proofs::Limits::few_tasks, crate::proofs::Limits::few_regions, crate::proofs::Limits::all_counted))]
 pub fn check_entries(
     h: &Header,

@@ -37,7 +37,8 @@ fn push_four(out: &mut Vec<u8>, a: u8, b: u8, c: u8, d: u8) -> Result<(), AllocE
 
 fn push_counts(out: &mut Vec<u8>, h: &Header) -> Result<(), AllocError>
     ensures { OnOk result (out.new.items ≡ out.old.items
-        ++ (half_bytes h.now.tasks ++ half_bytes h.now.lines ++ half_bytes h.now.regions ++ half_bytes h.now.zero)) }
+        ++ (half_bytes h.now.tasks ++ half_bytes h.now.lines ++ half_bytes h.now.regions
+        ++ half_bytes h.now.zero)) }
 {
     push_half(out, h.tasks)?;
     push_half(out, h.lines)?;
@@ -47,7 +48,8 @@ fn push_counts(out: &mut Vec<u8>, h: &Header) -> Result<(), AllocError>
 
 fn push_sizes(out: &mut Vec<u8>, h: &Header) -> Result<(), AllocError>
     ensures { OnOk result (out.new.items ≡ out.old.items
-        ++ (num_bytes h.now.flash ++ num_bytes h.now.ram ++ num_bytes h.now.bits ++ num_bytes h.now.names)) }
+        ++ (num_bytes h.now.flash ++ num_bytes h.now.ram ++ num_bytes h.now.bits
+        ++ num_bytes h.now.names)) }
 {
     push_num(out, h.flash)?;
     push_num(out, h.ram)?;
@@ -108,7 +110,8 @@ fn push_regions(out: &mut Vec<u8>, regions: &[RegionRecord]) -> Result<(), Alloc
 
 fn push_lines(out: &mut Vec<u8>, lines: &[LineRecord]) -> Result<(), AllocError>
     requires { All (λ l. l.zero ≡ 0) lines.now }
-    ensures { OnOk result (out.new.items ≡ out.old.items ++ flat_map (line_bytes Second) lines.now) }
+    ensures { OnOk result (out.new.items ≡ out.old.items
+        ++ flat_map (line_bytes Second) lines.now) }
 {
     for l in lines {
         push_line(out, l)?;
@@ -130,7 +133,8 @@ fn bytes_of(image: &Image) -> Result<Vec<u8>, AllocError>
 }
 
 impl Image {
-    /// The one spelling of the image in the second form, as docs/FORMATS.md, Image, has it; read again it is the same image.
+    /// The one spelling of the image in the second form, as docs/FORMATS.md, Image, has it; read
+    /// again it is the same image.
     pub fn write(&self) -> Result<Vec<u8>, AllocError>
         ensures exact { IfOk result (λ v. v.items ≡ spelling (image_data self.now)) }
         ensures spells { IfOk result (λ v. Spells (image_data self.now) v.items) }

@@ -50,7 +50,8 @@ fn region_values(alloc: Global, regions: &[Region]) -> Result<Vec<Value>, AllocE
 
 fn regions_of(alloc: Global, image: &Image, i: usize) -> Result<Vec<Value>, AllocError>
     requires { i < length (image_data image.now).tasks }
-    ensures { IfOk result (λ v. map view v.items ≡ map region_data (task_in (image_data image.now) i).regions) }
+    ensures { IfOk result (λ v. map view v.items ≡ map region_data
+        (task_in (image_data image.now) i).regions) }
 {
     let regions = image.regions(alloc, i)?;
     region_values(alloc, regions.as_slice())
@@ -76,7 +77,8 @@ fn name_values(alloc: Global, names: &[String]) -> Result<Vec<Value>, AllocError
 /// The names of the i-th task's notifications.
 fn names_of(alloc: Global, image: &Image, i: usize) -> Result<Vec<Value>, AllocError>
     requires { i < length (image_data image.now).tasks }
-    ensures { IfOk result (λ v. map view v.items ≡ map string (task_in (image_data image.now) i).names) }
+    ensures { IfOk result (λ v. map view v.items ≡ map string
+        (task_in (image_data image.now) i).names) }
 {
     let names = image.notifications(alloc, i)?;
     name_values(alloc, names.as_slice())
@@ -153,7 +155,8 @@ fn regions_by_task(alloc: Global, image: &Image) -> Result<Vec<Vec<Region>>, All
 fn is_alone_beside(tasks: &[Vec<Region>], i: usize, j: usize) -> bool
     requires own { i < length tasks.now }
     requires other { j < length tasks.now }
-    ensures { result ≡ is_alone (own_regions (map vec_items tasks.now) i) (regions_beside (map vec_items tasks.now) i j) }
+    ensures { result ≡ is_alone (own_regions (map vec_items tasks.now) i)
+        (regions_beside (map vec_items tasks.now) i j) }
 {
     let own = tasks[i].as_slice();
     if j == i {
@@ -176,9 +179,11 @@ fn is_loner(tasks: &[Vec<Region>], i: usize) -> bool
     true
 }
 
-/// The indices of the tasks that share nothing with another one, ascending, where these are the regions of each.
+/// The indices of the tasks that share nothing with another one, ascending, where these are the
+/// regions of each.
 fn loners_among(alloc: Global, tasks: &[Vec<Region>]) -> Result<Vec<usize>, AllocError>
-    ensures { IfOk result (λ v. v.items ≡ filter (is_loner (map vec_items tasks.now)) (range_with_len 0 (length tasks.now))) }
+    ensures { IfOk result (λ v. v.items ≡ filter (is_loner (map vec_items tasks.now))
+        (range_with_len 0 (length tasks.now))) }
 {
     let mut loners = Vec::new(alloc);
     for i in 0..tasks.len() {
@@ -224,15 +229,16 @@ fn image_value(alloc: Global, image: &Image) -> Result<Value, AllocError>
 }
 
 /// The image as one JSON object without blanks, its keys in byte order (docs/FORMATS.md, Listing):
-/// how many bytes of flash and of RAM, the interrupts, the tasks that share nothing with another one, the bits
-/// posted to the supervisor at a fault, and the tasks, each with the names of its notifications and its regions;
-/// rights as a sum of 1 read, 2 write, 4 execute, 8 device.
+/// how many bytes of flash and of RAM, the interrupts, the tasks that share nothing with another
+/// one, the bits posted to the supervisor at a fault, and the tasks, each with the names of its
+/// notifications and its regions; rights as a sum of 1 read, 2 write, 4 execute, 8 device.
 ///
 /// # Errors
 ///
 /// `AllocError` where memory ran out.
 pub fn list(alloc: Global, image: &Image) -> Result<String, AllocError>
-    ensures { IfOk result (λ s. string_bytes s ≡ compact_text (listed_object (image_data image.now))) }
+    ensures { IfOk result (λ s. string_bytes s ≡ compact_text
+        (listed_object (image_data image.now))) }
 {
     image_value(alloc, image)?.to_string(alloc)
 }

@@ -76,7 +76,8 @@ fn push_pair(found: &mut Vec<(u32, u8)>, pair: &str) -> Result<bool, AllocError>
     Ok(true)
 }
 
-/// Adds the bytes of `address=bytes` pairs parted by commas, or none of `-`, and says whether the text is so.
+/// Adds the bytes of `address=bytes` pairs parted by commas, or none of `-`, and says whether the
+/// text is so.
 fn push_pairs(found: &mut Vec<(u32, u8)>, text: &str) -> Result<bool, AllocError> {
     if text == "-" {
         return Ok(true);

@@ -43,7 +43,8 @@ fn is_same(memory: &Memory, wanted: &Memory) -> bool
 
 /// Whether an instruction left what the case wants, with these bytes of memory.
 fn is_wanted(case: &Case, cpu: &Cpu, outcome: Outcome, memory: &Memory, wanted: &Memory) -> bool
-    requires { banks_of wanted.now ≡ with_bytes (banks_before case.now) case.now.wanted_bytes.items }
+    requires { banks_of wanted.now ≡ with_bytes (banks_before case.now)
+        case.now.wanted_bytes.items }
     ensures { IsTrue result ↔ IsWanted case.now cpu.now outcome memory.now }
 {
     if !is_end(case, cpu, outcome) {
@@ -55,8 +56,10 @@ fn is_wanted(case: &Case, cpu: &Cpu, outcome: Outcome, memory: &Memory, wanted: 
 /// Whether the instruction of a case, with the case's bytes in a memory of zeros, does just what is
 /// wanted, to registers, flags and every byte. With an odd PC none does.
 pub fn passes(alloc: Global, case: &Case) -> Result<bool, AllocError>
-    ensures judged { IfOk result (λ passed. reg_at case.now.cpu.regs program_counter % 2 ≡ 0 → Judges case.now passed) }
-    ensures odd { IfOk result (λ passed. reg_at case.now.cpu.regs program_counter % 2 ≡ 1 → passed ≡ false) }
+    ensures judged { IfOk result (λ passed. reg_at case.now.cpu.regs program_counter % 2 ≡ 0 →
+        Judges case.now passed) }
+    ensures odd { IfOk result (λ passed. reg_at case.now.cpu.regs program_counter % 2 ≡ 1 →
+        passed ≡ false) }
 {
     if case.cpu.regs.get(PROGRAM_COUNTER) % 2 != 0 {
         return Ok(false);

@@ -15,7 +15,8 @@ use task_table::{Found, Kernel};
 fn post_rows(k: &mut Kernel, caller: usize)
     requires there { caller < task_count k.old }
     requires room { note_count k.old + syscall_notes ≤ turn_notes }
-    ensures holds { (g : Setup) (t : Turn) → Holds g k.old t → Holds g k.new (post_made g caller t) }
+    ensures holds { (g : Setup) (t : Turn) → Holds g k.old t →
+        Holds g k.new (post_made g caller t) }
     ensures frame { AddsAtMost k.old syscall_notes k.new }
 {
     let args = IdArgs::of(&k.arguments(caller));
@@ -29,8 +30,9 @@ fn post_rows(k: &mut Kernel, caller: usize)
     }
 }
 
-/// POST: r4 is the id of a task, r5 the bits to post to it. r4 is 0 then, or the dead code where the id is
-/// that of an earlier birth; an id of no task is a misuse (Hubris Reference, on notifications).
+/// POST: r4 is the id of a task, r5 the bits to post to it. r4 is 0 then, or the dead code where
+/// the id is that of an earlier birth; an id of no task is a misuse (Hubris Reference, on
+/// notifications).
 pub fn post_call(k: &mut Kernel, caller: usize)
     requires { MayCall k.old caller }
     ensures { Performs post_made k.old caller k.new }
@@ -42,7 +44,8 @@ pub fn post_call(k: &mut Kernel, caller: usize)
 fn refresh_rows(k: &mut Kernel, caller: usize)
     requires there { caller < task_count k.old }
     requires room { note_count k.old + syscall_notes ≤ turn_notes }
-    ensures holds { (g : Setup) (t : Turn) → Holds g k.old t → Holds g k.new (refreshed g caller t) }
+    ensures holds { (g : Setup) (t : Turn) → Holds g k.old t →
+        Holds g k.new (refreshed g caller t) }
     ensures frame { AddsAtMost k.old syscall_notes k.new }
 {
     let args = IdArgs::of(&k.arguments(caller));
@@ -54,8 +57,8 @@ fn refresh_rows(k: &mut Kernel, caller: usize)
     k.answer(caller, &[u32::from(id.number)]);
 }
 
-/// REFRESH_TASK_ID: r4 is an id of any birth of a task, and becomes that of the present one; an id of no
-/// task is a misuse (Hubris Reference, on task ids).
+/// REFRESH_TASK_ID: r4 is an id of any birth of a task, and becomes that of the present one; an id
+/// of no task is a misuse (Hubris Reference, on task ids).
 pub fn refresh(k: &mut Kernel, caller: usize)
     requires { MayCall k.old caller }
     ensures { Performs refreshed k.old caller k.new }

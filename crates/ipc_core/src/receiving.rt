@@ -31,7 +31,8 @@ enum Sender {
 
 /// Whom the caller's receive names; None where that is no other task.
 fn sender_of(k: &Kernel, caller: usize, args: &RecvArgs) -> Option<Sender>
-    ensures named { (g : Setup) (t : Turn) → Holds g k.now t → IsNamed t.state caller args.now result }
+    ensures named { (g : Setup) (t : Turn) → Holds g k.now t →
+        IsNamed t.state caller args.now result }
     ensures inside { IfSome result (IsInside (task_count k.now)) }
 {
     if !args.closed {
@@ -57,7 +58,9 @@ fn receive_or_listen(k: &mut Kernel, caller: usize, client: usize, from: FromInd
     requires whom { IsListened (task_count k.old) from }
     requires room { note_count k.old + 2 ≤ turn_notes }
     requires ready { IsReceiving k.old caller }
-    ensures holds { (g : Setup) (t : Turn) → Stands g k.old t → IsIdle t.state caller → Holds g k.new (receives_or_listens caller (asked t.state caller) (from_of t.state from) (offer_by t.state client caller) t) }
+    ensures holds { (g : Setup) (t : Turn) → Stands g k.old t → IsIdle t.state caller →
+        Holds g k.new (receives_or_listens caller (asked t.state caller) (from_of t.state from)
+        (offer_by t.state client caller) t) }
     ensures frame { AddsAtMost k.old 2 k.new }
 {
     match k.offered(client, caller) {
@@ -73,7 +76,8 @@ fn receive_message(k: &mut Kernel, caller: usize, sender: Sender, best: Option<u
     requires best { IfSome best (λ i. i < task_count k.old) }
     requires room { note_count k.old + 2 ≤ turn_notes }
     requires ready { IsReceiving k.old caller }
-    ensures holds { (g : Setup) (t : Turn) → Stands g k.old t → IsIdle t.state caller → AsksFor t.state caller sender → Holds g k.new (message_received caller best t) }
+    ensures holds { (g : Setup) (t : Turn) → Stands g k.old t → IsIdle t.state caller →
+        AsksFor t.state caller sender → Holds g k.new (message_received caller best t) }
     ensures frame { AddsAtMost k.old 2 k.new }
 {
     match sender {
@@ -96,7 +100,9 @@ fn receive_input(k: &mut Kernel, caller: usize, mask: u32, sender: Sender, best:
     requires best { IfSome best (λ i. i < task_count k.old) }
     requires room { note_count k.old + 2 ≤ turn_notes }
     requires ready { IsReceiving k.old caller }
-    ensures holds { (g : Setup) (t : Turn) → Stands g k.old t → IsIdle t.state caller → mask ≡ (asked t.state caller).mask → AsksFor t.state caller sender → Holds g k.new (input_received caller best t) }
+    ensures holds { (g : Setup) (t : Turn) → Stands g k.old t → IsIdle t.state caller →
+        mask ≡ (asked t.state caller).mask → AsksFor t.state caller sender →
+        Holds g k.new (input_received caller best t) }
     ensures frame { AddsAtMost k.old 2 k.new }
 {
     if k.posted_bits(caller) & mask != 0 {
@@ -112,7 +118,8 @@ fn recv_rows(k: &mut Kernel, caller: usize, best: Option<usize>)
     requires best { IfSome best (λ i. i < task_count k.old) }
     requires room { note_count k.old + syscall_notes ≤ turn_notes }
     requires stood { StandsForSome k.old }
-    ensures holds { (g : Setup) (t : Turn) → Stands g k.old t → IsIdle t.state caller → Holds g k.new (received g caller best t) }
+    ensures holds { (g : Setup) (t : Turn) → Stands g k.old t → IsIdle t.state caller →
+        Holds g k.new (received g caller best t) }
     ensures frame { AddsAtMost k.old syscall_notes k.new }
 {
     let args = RecvArgs::of(&k.arguments(caller));
@@ -128,15 +135,17 @@ fn recv_rows(k: &mut Kernel, caller: usize, best: Option<usize>)
     }
 }
 
-/// RECV: r4 and r5 are the buffer, r6 a mask of notifications; where bit 31 of r7 is set, the receive is
-/// closed to the sender whose id is in bits 15 to 0 (0xFFFF: to the kernel alone). Notifications under the
-/// mask come before messages; where there is neither, the caller listens (Hubris Reference, on RECV).
+/// RECV: r4 and r5 are the buffer, r6 a mask of notifications; where bit 31 of r7 is set, the
+/// receive is closed to the sender whose id is in bits 15 to 0 (0xFFFF: to the kernel alone).
+/// Notifications under the mask come before messages; where there is neither, the caller listens
+/// (Hubris Reference, on RECV).
 ///
 /// `best` is the best sender to the caller.
 pub fn recv(k: &mut Kernel, caller: usize, best: Option<usize>)
     requires may_call { MayCall k.old caller }
     requires best { IfSome best (λ i. i < task_count k.old) }
-    ensures stands { (g : Setup) (t : Turn) → Stands g k.old t → is_ready t.state caller ≡ true → best ≡ best_sender g t.state caller → Stands g k.new (received g caller best t) }
+    ensures stands { (g : Setup) (t : Turn) → Stands g k.old t → is_ready t.state caller ≡ true →
+        best ≡ best_sender g t.state caller → Stands g k.new (received g caller best t) }
     ensures frame { AddsAtMost k.old syscall_notes k.new }
 {
     recv_rows(k, caller, best);

@@ -22,7 +22,9 @@ fn reply_checked(k: &mut Kernel, caller: usize, client: usize, call: &OpenCall, 
     requires client { client < task_count k.old }
     requires room { note_count k.old + syscall_notes ≤ turn_notes }
     requires taken { IsTaken k.old caller client call.now }
-    ensures holds { (g : Setup) (t : Turn) (c : Call) → Stands g k.old t → taken_by t.state client caller ≡ Some c → kept_call c ≡ call.now → Holds g k.new (replied_to g caller args.now (Some c) t) }
+    ensures holds { (g : Setup) (t : Turn) (c : Call) → Stands g k.old t →
+        taken_by t.state client caller ≡ Some c → kept_call c ≡ call.now →
+        Holds g k.new (replied_to g caller args.now (Some c) t) }
     ensures frame { AddsAtMost k.old syscall_notes k.new }
 {
     if !is_valid(args.reply_base, args.reply_length) {
@@ -43,7 +45,8 @@ fn reply_to_client(k: &mut Kernel, caller: usize, client: usize, args: &ReplyArg
     requires client { client < task_count k.old }
     requires room { note_count k.old + syscall_notes ≤ turn_notes }
     requires stood { StandsForSome k.old }
-    ensures holds { (g : Setup) (t : Turn) → Stands g k.old t → Holds g k.new (replied_to g caller args.now (taken_by t.state client caller) t) }
+    ensures holds { (g : Setup) (t : Turn) → Stands g k.old t →
+        Holds g k.new (replied_to g caller args.now (taken_by t.state client caller) t) }
     ensures frame { AddsAtMost k.old syscall_notes k.new }
 {
     match k.taken(client, caller) {
@@ -68,10 +71,10 @@ fn reply_rows(k: &mut Kernel, caller: usize)
     }
 }
 
-/// REPLY: r4 is the client's id, r5 the response code, r6 and r7 are the reply. The client gets the reply in
-/// its buffer, the code in r4 and the reply's length in r5. A client that does not await the caller's reply is
-/// left alone; a reply that is longer than the client's buffer is the caller's misuse (Hubris Reference, on
-/// REPLY).
+/// REPLY: r4 is the client's id, r5 the response code, r6 and r7 are the reply. The client gets the
+/// reply in its buffer, the code in r4 and the reply's length in r5. A client that does not await
+/// the caller's reply is left alone; a reply that is longer than the client's buffer is the
+/// caller's misuse (Hubris Reference, on REPLY).
 pub fn reply(k: &mut Kernel, caller: usize)
     requires { MayCall k.old caller }
     ensures { Performs replied k.old caller k.new }
@@ -84,7 +87,9 @@ fn fault_client(k: &mut Kernel, caller: usize, client: usize, reason: Reason)
     requires there { caller < task_count k.old }
     requires client { client < task_count k.old }
     requires room { note_count k.old + syscall_notes ≤ turn_notes }
-    ensures holds { (g : Setup) (t : Turn) → Stands g k.old t → Holds g k.new (reply_faulted_to g caller (reason_number reason) (taken_by t.state client caller) t) }
+    ensures holds { (g : Setup) (t : Turn) → Stands g k.old t →
+        Holds g k.new (reply_faulted_to g caller (reason_number reason)
+        (taken_by t.state client caller) t) }
     ensures frame { AddsAtMost k.old syscall_notes k.new }
 {
     if k.taken(client, caller).is_some() {
@@ -98,7 +103,8 @@ fn fault_client(k: &mut Kernel, caller: usize, client: usize, reason: Reason)
 fn reply_fault_rows(k: &mut Kernel, caller: usize)
     requires there { caller < task_count k.old }
     requires room { note_count k.old + syscall_notes ≤ turn_notes }
-    ensures holds { (g : Setup) (t : Turn) → Stands g k.old t → Holds g k.new (reply_faulted g caller t) }
+    ensures holds { (g : Setup) (t : Turn) → Stands g k.old t →
+        Holds g k.new (reply_faulted g caller t) }
     ensures frame { AddsAtMost k.old syscall_notes k.new }
 {
     let args = ReplyArgs::of(&k.arguments(caller));
@@ -110,9 +116,9 @@ fn reply_fault_rows(k: &mut Kernel, caller: usize)
     }
 }
 
-/// REPLY_FAULT: r4 is the client's id, r5 the number of a reason, 0 to 5. The client faults, and the fault
-/// tells the caller's id and the reason. A client that does not await the caller's reply is left alone; another
-/// reason is the caller's misuse (Hubris Reference, on REPLY_FAULT).
+/// REPLY_FAULT: r4 is the client's id, r5 the number of a reason, 0 to 5. The client faults, and
+/// the fault tells the caller's id and the reason. A client that does not await the caller's reply
+/// is left alone; another reason is the caller's misuse (Hubris Reference, on REPLY_FAULT).
 pub fn reply_fault(k: &mut Kernel, caller: usize)
     requires { MayCall k.old caller }
     ensures { Performs reply_faulted k.old caller k.new }

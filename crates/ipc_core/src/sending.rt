@@ -26,7 +26,8 @@ enum Recipient {
 
 /// Which other task an id names; None where it names none.
 fn recipient_of(k: &Kernel, caller: usize, id: TaskId) -> Option<Recipient>
-    ensures named { (g : Setup) (t : Turn) → Holds g k.now t → IsRecipientOf t.state caller id.number result }
+    ensures named { (g : Setup) (t : Turn) → Holds g k.now t →
+        IsRecipientOf t.state caller id.number result }
     ensures inside { IfSome result (IsAmong (task_count k.now)) }
 {
     if usize::from(id.index()) == caller {
@@ -46,9 +47,11 @@ fn is_valid_table(base: u32, leases: u32) -> bool
     Range::of(base, 12 * u64::from(leases)).is_some()
 }
 
-/// Whether the message, the reply buffer or the lease table of a send reaches beyond the address space.
+/// Whether the message, the reply buffer or the lease table of a send reaches beyond the address
+/// space.
 fn reaches_out(args: &SendArgs) -> bool
-    ensures { result ≡ (not (is_valid (message_of args.now)) || (not (is_valid (reply_room args.now)) || not (is_valid (table_of args.now)))) }
+    ensures { result ≡ (not (is_valid (message_of args.now)) ||
+        (not (is_valid (reply_room args.now)) || not (is_valid (table_of args.now)))) }
 {
     !is_valid(args.message_base, args.message_length)
         || !is_valid(args.reply_base, args.reply_capacity)
@@ -62,7 +65,9 @@ fn send_checked(k: &mut Kernel, caller: usize, recipient: Recipient, args: &Send
     requires room { note_count k.old + syscall_notes ≤ turn_notes }
     requires number { next_call_of k.old + 1 < 2 ^ 32 }
     requires idle { (g : Setup) × (t : Turn) × Stands g k.old t × IsIdle t.state caller }
-    ensures holds { (g : Setup) (t : Turn) → Stands g k.old t → IsIdle t.state caller → IsRecipient t.state caller args.now.recipient.number recipient → Holds g k.new (sent_to g caller args.now t) }
+    ensures holds { (g : Setup) (t : Turn) → Stands g k.old t → IsIdle t.state caller →
+        IsRecipient t.state caller args.now.recipient.number recipient →
+        Holds g k.new (sent_to g caller args.now t) }
     ensures frame { AddsAtMost k.old syscall_notes k.new }
 {
     if reaches_out(args) {
@@ -86,7 +91,8 @@ fn send_rows(k: &mut Kernel, caller: usize)
     requires room { note_count k.old + syscall_notes ≤ turn_notes }
     requires number { next_call_of k.old + 1 < 2 ^ 32 }
     requires idle { (g : Setup) × (t : Turn) × Stands g k.old t × IsIdle t.state caller }
-    ensures holds { (g : Setup) (t : Turn) → Stands g k.old t → IsIdle t.state caller → Holds g k.new (sent g caller t) }
+    ensures holds { (g : Setup) (t : Turn) → Stands g k.old t → IsIdle t.state caller →
+        Holds g k.new (sent g caller t) }
     ensures frame { AddsAtMost k.old syscall_notes k.new }
 {
     let args = SendArgs::of(&k.arguments(caller));
@@ -96,11 +102,11 @@ fn send_rows(k: &mut Kernel, caller: usize)
     }
 }
 
-/// SEND: r4 has the recipient's id in bits 31 to 16 and the operation in bits 15 to 0, r5 and r6 are the
-/// message, r7 and r8 the buffer for the reply, r9 and r10 the table of leases and their number. The caller
-/// waits for the reply; where the id is that of an earlier birth, r4 is the dead code and r5 is 0 at once. A
-/// recipient that is the caller or no task is a misuse, and so is a range that reaches beyond the address
-/// space (Hubris Reference, on SEND).
+/// SEND: r4 has the recipient's id in bits 31 to 16 and the operation in bits 15 to 0, r5 and r6
+/// are the message, r7 and r8 the buffer for the reply, r9 and r10 the table of leases and their
+/// number. The caller waits for the reply; where the id is that of an earlier birth, r4 is the dead
+/// code and r5 is 0 at once. A recipient that is the caller or no task is a misuse, and so is a
+/// range that reaches beyond the address space (Hubris Reference, on SEND).
 pub fn send(k: &mut Kernel, caller: usize)
     requires may_call { MayCall k.old caller }
     requires number { next_call_of k.old + 1 < 2 ^ 32 }

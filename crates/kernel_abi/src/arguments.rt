@@ -192,7 +192,8 @@ impl InfoArgs {
     }
 }
 
-/// IRQ_CONTROL and IRQ_STATUS: the notification of the caller's lines, and for IRQ_CONTROL whether to enable them.
+/// IRQ_CONTROL and IRQ_STATUS: the notification of the caller's lines, and for IRQ_CONTROL whether
+/// to enable them.
 #[derive(Clone, Copy, PartialEq, Eq)]
 pub struct IrqArgs {
     pub bits: u32,

@@ -1,5 +1,5 @@
-//! The words that a kernel and its tasks exchange: ids, faults, arguments of system calls, lease entries,
-//! and the lines of a trace as data.
+//! The words that a kernel and its tasks exchange: ids, faults, arguments of system calls, lease
+//! entries, and the lines of a trace as data.
 #![tactic(auto)]
 
 ghost use Rattle.std.specs.Prelude.{◌≡◌, ◌+◌, ◌<◌, ◌≤◌, ◌^◌, IfSome, MatchOption, is_some, nat_le};
@@ -295,15 +295,16 @@ pub enum Borrow {
     Info,
 }
 
-/// What a device is: a console counts the bytes that are stored to it and gives them out, a port keeps the
-/// bytes that come from outside until they are loaded.
+/// What a device is: a console counts the bytes that are stored to it and gives them out, a port
+/// keeps the bytes that come from outside until they are loaded.
 #[derive(Clone, Copy, PartialEq, Eq)]
 pub enum Kind {
     Console,
     Port,
 }
 
-/// What came of a byte from outside: it stands in the queue now, the queue was full, or the device is no port.
+/// What came of a byte from outside: it stands in the queue now, the queue was full, or the device
+/// is no port.
 #[derive(Clone, Copy, PartialEq, Eq)]
 pub enum Fed {
     Queued,
@@ -374,7 +375,8 @@ pub enum Note {
         client: u16,
         server: u16,
     },
-    /// The server of an open call used one of its leases, from an offset on, and so many bytes moved.
+    /// The server of an open call used one of its leases, from an offset on, and so many bytes
+    /// moved.
     Borrow {
         call: u32,
         borrow: Borrow,
@@ -387,7 +389,8 @@ pub enum Note {
         task: u16,
         generation: u8,
     },
-    /// A byte came from outside for a device; what came of it, or None where there is no such device.
+    /// A byte came from outside for a device; what came of it, or None where there is no such
+    /// device.
     In {
         device: u8,
         byte: u8,
@@ -404,7 +407,8 @@ pub enum Note {
         bits: u32,
         status: u32,
     },
-    /// The supervisor asked for the first faulted task from an index on, and was answered this index.
+    /// The supervisor asked for the first faulted task from an index on, and was answered this
+    /// index.
     Find {
         index: u16,
         found: u16,

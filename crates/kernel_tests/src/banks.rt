@@ -72,8 +72,8 @@ fn copies(memory: &mut Memory, from: u32, to: u32, count: u32) -> bool
     has(memory, &list)
 }
 
-/// Whether a copy does so from and to each place that is at most four bytes from the given ones, in both
-/// directions.
+/// Whether a copy does so from and to each place that is at most four bytes from the given ones, in
+/// both directions.
 fn copies_around(memory: &mut Memory, from: u32, to: u32, count: u32) -> bool
     requires size { length memory.old.bytes.ram ≡ 1280 }
     requires source { (4 ≤ from) × (from + count + 4 ≤ 1280) }

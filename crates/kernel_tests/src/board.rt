@@ -29,7 +29,8 @@ fn with_script(
     requires small { length script.now < 1000 }
     ensures stood { IfOk result (λ b. StandsForSome (boxed shown) b) }
     ensures turns { IfOk result (λ b. turns_of b ≡ 0) }
-    ensures first { IfOk result (λ b. (x : Scenario) × (s : State) × Holds (boxed shown) x b s × (is_held s.memory 0x08000000 ≡ true)) }
+    ensures first { IfOk result (λ b. (x : Scenario) × (s : State) × Holds (boxed shown) x b s
+        × (is_held s.memory 0x08000000 ≡ true)) }
 {
     let mut bytes = [0; 300];
     bytes[..44].copy_from_slice(&HEAD);
@@ -43,7 +44,8 @@ fn with_script(
     Board::open(alloc, &image, &script, Vec::new(alloc))
 }
 
-/// The turns and the time, whether the first note is of the first tick, how many notes there are, and whether the run ended.
+/// The turns and the time, whether the first note is of the first tick, how many notes there are,
+/// and whether the run ended.
 type Shown = (u32, u64, bool, usize, Option<End>);
 
 fn shown(board: &Board) -> Shown

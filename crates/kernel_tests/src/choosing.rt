@@ -19,8 +19,8 @@ fn a_task(alloc: Global, priority: u8, started: bool) -> TaskStart
     }
 }
 
-/// A kernel of 512 tasks, with so many priority numbers in turn, of which those before the first one and each
-/// at such a gap are not started; this one is the current one.
+/// A kernel of 512 tasks, with so many priority numbers in turn, of which those before the first
+/// one and each at such a gap are not started; this one is the current one.
 fn many_tasks(
     alloc: Global,
     numbers: u16,

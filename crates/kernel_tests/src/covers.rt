@@ -81,8 +81,9 @@ in all 2 of 2 instructions, 0 of 0 ways
     Ok(())
 }
 
-// An instruction of two halfwords, `cmp r0, #1`, a `beq` that is not taken, and a branch to itself. Behind them stand a halfword of
-// zeros and `movs r0, #5`, to which nothing leads; a `bl`, to which the `beq` leads; a `bx lr` behind it; and its target, `pop {pc}`.
+// An instruction of two halfwords, `cmp r0, #1`, a `beq` that is not taken, and a branch to itself.
+// Behind them stand a halfword of zeros and `movs r0, #5`, to which nothing leads; a `bl`, to which
+// the `beq` leads; a `bx lr` behind it; and its target, `pop {pc}`.
 #[test]
 fn what_is_not_executed(rt: HostRuntime) -> Result<(), Fail> {
     let code = [
@@ -109,7 +110,8 @@ in all 4 of 7 instructions, 1 of 2 ways
     Ok(())
 }
 
-// `movs r0, #0`, a load from address 0, at which the task faults, and `movs r0, #1` behind it, to which nothing leads so.
+// `movs r0, #0`, a load from address 0, at which the task faults, and `movs r0, #1` behind it, to
+// which nothing leads so.
 #[test]
 fn what_faults_leads_nowhere(rt: HostRuntime) -> Result<(), Fail> {
     let code = [0x00, 0x20, 0x00, 0x68, 0x01, 0x20];
@@ -127,7 +129,8 @@ in all 2 of 2 instructions, 0 of 0 ways
     Ok(())
 }
 
-// The same two instructions: three labels of theirs, in no order, and one where no instruction is known.
+// The same two instructions: three labels of theirs, in no order, and one where no instruction is
+// known.
 #[test]
 fn labels_stand_before_their_instructions(rt: HostRuntime) -> Result<(), Fail> {
     let alloc = rt.alloc();
@@ -159,8 +162,8 @@ fn insn(number: usize, at: u32) -> InsnLine {
     InsnLine { number, at }
 }
 
-// `movs r0, #1`, `cmp r0, #1`, a `bne` that is not taken, and a branch to itself; and behind them a `beq` that is never reached, which
-// is told as another source's.
+// `movs r0, #1`, `cmp r0, #1`, a `bne` that is not taken, and a branch to itself; and behind them a
+// `beq` that is never reached, which is told as another source's.
 #[test]
 fn what_lcov_reads(rt: HostRuntime) -> Result<(), Fail> {
     let alloc = rt.alloc();

@@ -1,5 +1,5 @@
-//! Texts of commands (docs/FORMATS.md, Commands): what each says, and each cause with its line; and sessions with two runs, by what
-//! their commands are answered, all at once and line by line.
+//! Texts of commands (docs/FORMATS.md, Commands): what each says, and each cause with its line; and
+//! sessions with two runs, by what their commands are answered, all at once and line by line.
 ghost use Rattle.std.specs.Prelude.{◌≤◌, length};
 
 use board_core::Board;
@@ -201,7 +201,8 @@ high 00000000 00000000 00000000 00000000 00000000 20000140 ffffffff 08000100 000
     Ok(())
 }
 
-/// Turn 65,536 has a checkpoint: what is behind it is reached from there, and what is before it from the start.
+/// Turn 65,536 has a checkpoint: what is behind it is reached from there, and what is before it
+/// from the start.
 #[test]
 fn back_on_either_side_of_a_checkpoint(rt: HostRuntime) -> Result<(), Fail> {
     let mut image = [0; 618];
@@ -240,7 +241,8 @@ high 00000000 00000000 00000000 00000000 00000000 20000140 ffffffff 08000102 000
     Ok(())
 }
 
-/// What the lines of a file are answered one by one, over the run of an image in which nothing happens from outside.
+/// What the lines of a file are answered one by one, over the run of an image in which nothing
+/// happens from outside.
 fn live_answers(
     rt: &impl Abort,
     alloc: Global,

@@ -1,5 +1,5 @@
-//! Eight devices that a board was handed, four consoles and four ports in turn: what each gives out and what it has come to, after
-//! stores, bytes from outside and loads.
+//! Eight devices that a board was handed, four consoles and four ports in turn: what each gives out
+//! and what it has come to, after stores, bytes from outside and loads.
 ghost use Rattle.std.specs.Prelude.{◌+◌, ◌≤◌};
 ghost use Rattle.board_core.specs.Data.{boxed};
 ghost use Rattle.board_core.specs.Stands.{StandsForSome, turns_of};
@@ -19,8 +19,8 @@ const HEAD: [u8; 56] = [
     0, 0, 0, 0, 0, 0, 0, 8, 0, 1, 0, 0, 5, 0, 0, 0, 0, 0, 0, 0x40, 0, 8, 0, 0, 11, 0, 0, 0,
 ];
 
-// A byte to the first console, 65, and from there on what the port behind the last one gave; that byte once more; and so with each
-// pair, up to a store behind the last device, which faults.
+// A byte to the first console, 65, and from there on what the port behind the last one gave; that
+// byte once more; and so with each pair, up to a store behind the last device, which faults.
 const CODE: [u8; 24] = [
     0x01, 0x21, 0x89, 0x07, 0x01, 0x22, 0x52, 0x02, 0x01, 0x23, 0x1b, 0x02, 0x41, 0x20, 0x08, 0x70,
     0xc8, 0x5c, 0x08, 0x70, 0x89, 0x18, 0xfa, 0xe7,
@@ -49,7 +49,8 @@ fn given_out(alloc: Global, board: &mut Board, turns: u32) -> Result<Vec<(usize,
     Ok(out)
 }
 
-/// Where a device is, how many bytes were stored to it, how many wait in it, and the first of them, if one waits.
+/// Where a device is, how many bytes were stored to it, how many wait in it, and the first of them,
+/// if one waits.
 type Told = (u32, u32, usize, Option<u8>);
 
 fn told(rt: &impl Abort, board: &Board, k: usize) -> Told {

@@ -1,4 +1,5 @@
-//! The loop of docs/GUIDE.md, From a crate of one's own: whole turns of a board with a console, up to the end of the run.
+//! The loop of docs/GUIDE.md, From a crate of one's own: whole turns of a board with a console, up
+//! to the end of the run.
 ghost use Rattle.board_core.specs.Data.{boxed};
 ghost use Rattle.board_core.specs.Stands.{StandsForSome};
 
@@ -17,8 +18,8 @@ const HEAD: [u8; 56] = [
     0, 0, 0, 0, 0, 0, 0, 8, 0, 1, 0, 0, 5, 0, 0, 0, 0, 0, 0, 0x40, 0, 1, 0, 0, 11, 0, 0, 0,
 ];
 
-// `movs r1, #1`, `lsls r1, r1, #30`, then twice `movs r0`, `strb r0, [r1]` for the two letters, `movs r2, #0` up to turn 10, and
-// `udf #0`.
+// `movs r1, #1`, `lsls r1, r1, #30`, then twice `movs r0`, `strb r0, [r1]` for the two letters,
+// `movs r2, #0` up to turn 10, and `udf #0`.
 const CODE: [u8; 24] = [
     0x01, 0x21, 0x89, 0x07, 0x48, 0x20, 0x08, 0x70, 0x69, 0x20, 0x08, 0x70, 0x00, 0x22, 0x00, 0x22,
     0x00, 0x22, 0x00, 0x22, 0x00, 0x22, 0x00, 0xde,

@@ -1,4 +1,5 @@
-//! Timelines and pictures (docs/FORMATS.md, Timeline, Picture): the texts of a short run of two tasks.
+//! Timelines and pictures (docs/FORMATS.md, Timeline, Picture): the texts of a short run of two
+//! tasks.
 ghost use Rattle.std.specs.Prelude.{◌≡◌, ◌≤◌, IfOk, length};
 ghost use Rattle.board_core.specs.Data.{boxed};
 ghost use Rattle.board_core.specs.Stands.{StandsForSome, turns_of};
@@ -12,8 +13,8 @@ use std::alloc::{AllocError, Global};
 use std::process::Abort;
 use std::test::Fail;
 
-// An image of a supervisor and of one task that runs at the start, without the zeros behind these; their flash is at 08000000 and
-// at 08000100.
+// An image of a supervisor and of one task that runs at the start, without the zeros behind these;
+// their flash is at 08000000 and at 08000100.
 const HEAD: [u8; 92] = [
     0x48, 0x42, 0x49, 0x31, 2, 0, 4, 0, 0, 2, 0, 0, 0, 2, 0, 0, 1, 0, 0, 0, 0, 1, 2, 0, 1, 0, 0, 8,
     0x40, 0, 0, 0x20, 1, 1, 2, 0, 1, 1, 0, 8, 0x40, 1, 0, 0x20, 0, 0, 0, 8, 0, 1, 0, 0, 5, 0, 0, 0,
@@ -21,8 +22,9 @@ const HEAD: [u8; 92] = [
     0, 0, 3, 0, 0, 0,
 ];
 
-// Task 0: `movs r6, #1`, `movs r7, #1`, `mov r11, r7`, `svc #0`: it receives, from anyone. Then `movs r4, #1`, `movs r5, #0`,
-// `movs r6, #0`, `movs r7, #0`, `movs r0, #2`, `mov r11, r0`, `svc #0`: it replies to task 1.
+// Task 0: `movs r6, #1`, `movs r7, #1`, `mov r11, r7`, `svc #0`: it receives, from anyone. Then
+// `movs r4, #1`, `movs r5, #0`, `movs r6, #0`, `movs r7, #0`, `movs r0, #2`, `mov r11, r0`, `svc
+// #0`: it replies to task 1.
 const SERVES: [u8; 22] = [
     1, 0x26, 1, 0x27, 0xbb, 0x46, 0, 0xdf, 1, 0x24, 0, 0x25, 0, 0x26, 0, 0x27, 2, 0x20, 0x83, 0x46,
     0, 0xdf,
@@ -31,8 +33,8 @@ const SERVES: [u8; 22] = [
 // Task 1: `movs r4, #0`, `mov r11, r4`, `svc #0`: it sends to task 0.
 const SENDS: [u8; 6] = [0, 0x24, 0xa3, 0x46, 0, 0xdf];
 
-// Task 0 runs up to its receive in turn 3, and task 1 up to its send in turn 6, which is taken at once; the reply is in turn 13,
-// and task 0 runs on.
+// Task 0 runs up to its receive in turn 3, and task 1 up to its send in turn 6, which is taken at
+// once; the reply is in turn 13, and task 0 runs on.
 const CALL: &[u8] = b"\
 {\"traceEvents\":[
 {\"args\":{\"name\":\"outside\"},\"name\":\"thread_name\",\"ph\":\"M\",\"pid\":0,\"tid\":0},

@@ -1,5 +1,6 @@
-//! Tests of the kernel's crates over their public calls, with values from outside: what the text of no run shows. Receives, timers
-//! and who sends are stored runs (crates/stored_runs). Nothing else is here.
+//! Tests of the kernel's crates over their public calls, with values from outside: what the text of
+//! no run shows. Receives, timers and who sends are stored runs (crates/stored_runs). Nothing else
+//! is here.
 #![tactic(auto)]
 
 #[cfg(test)]

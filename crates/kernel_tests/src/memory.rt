@@ -8,7 +8,8 @@ use task_table::{Memory, RAM};
 pub fn memory_of(alloc: Global, flash: &[u8], ram: u32) -> Result<Memory, AllocError>
     requires flash { length flash.now ≤ 1048576 }
     requires ram { ram ≤ 262144 }
-    ensures value { IfOk result (λ m. m ≡ record { bytes = record { flash = flash.now; ram = replicate ram 0 }; regions = [] }) }
+    ensures value { IfOk result (λ m. m ≡ record
+        { bytes = record { flash = flash.now; ram = replicate ram 0 }; regions = [] }) }
 {
     Memory::open(alloc, flash, ram, &[])
 }
@@ -18,7 +19,11 @@ pub fn memory_with_ram(alloc: Global, flash: &[u8], ram: u32) -> Result<Memory, 
     requires flash { length flash.now ≤ 1048576 }
     requires some { 0 < ram }
     requires ram { ram ≤ 262144 }
-    ensures value { IfOk result (λ m. m ≡ record { bytes = record { flash = flash.now; ram = replicate ram 0 }; regions = (0x20000000, ram) ∷ [] }) }
+    ensures value { IfOk result (λ m. m ≡ record {
+      bytes = record { flash = flash.now; ram = replicate ram 0 };
+      regions = (0x20000000, ram) ∷
+          [];
+    }) }
 {
     Memory::open(alloc, flash, ram, &[(RAM, ram)])
 }

@@ -1,5 +1,5 @@
-//! Why bytes are refused as a saved state: a base, what is changed of it, and the cause and the place that docs/FORMATS.md, Saved
-//! state, says; 0 and 0 where they are accepted.
+//! Why bytes are refused as a saved state: a base, what is changed of it, and the cause and the
+//! place that docs/FORMATS.md, Saved state, says; 0 and 0 where they are accepted.
 ghost use Rattle.std.specs.Prelude.{◌≤◌, length};
 
 use kernel_abi::Kind;

@@ -1,4 +1,5 @@
-//! Sweeps (docs/FORMATS.md, Sweep): every arrival time of some ticks, which make no difference to one task.
+//! Sweeps (docs/FORMATS.md, Sweep): every arrival time of some ticks, which make no difference to
+//! one task.
 
 use crate::covers::image_of;
 use board_core::Board;
@@ -9,7 +10,8 @@ use std::process::Abort;
 use std::test::Fail;
 use sweep_core::Sweeper;
 
-/// Whether one of the times 0 to 3 makes a difference to a branch to itself, and what is told, in six turns at most.
+/// Whether one of the times 0 to 3 makes a difference to a branch to itself, and what is told, in
+/// six turns at most.
 fn sweep_of(
     rt: &impl Abort,
     alloc: Global,

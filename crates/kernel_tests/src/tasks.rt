@@ -81,7 +81,8 @@ fn memory_is_copied_where_ranges_overlap(rt: HostRuntime) -> Result<(), Fail> {
 
 /// A kernel of two tasks, the second of which is not started, and of one owned line.
 fn two_tasks(alloc: Global) -> Result<Kernel, AllocError>
-    ensures { IfOk result (λ k. (task_count k ≡ 2) × (note_count k ≡ 0) × (length (memory_of k).ram ≡ 8)) }
+    ensures { IfOk result (λ k. (task_count k ≡ 2) × (note_count k ≡ 0)
+        × (length (memory_of k).ram ≡ 8)) }
 {
     let memory = memory_with_ram(alloc, &[0x20, 0x21, 0x42], 8)?;
     let region = Region {

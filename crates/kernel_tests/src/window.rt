@@ -5,7 +5,8 @@ ghost use Rattle.std.specs.Prelude.{◌≡◌, ◌<◌, length, slice_set};
 use std::test::Fail;
 use task_table::{FLASH, Memory, RAM, WindowUser};
 
-/// Looks at the first byte of the code and of the second area, and writes over the first one of the data and of both areas.
+/// Looks at the first byte of the code and of the second area, and writes over the first one of the
+/// data and of both areas.
 #[derive(Drop)]
 pub struct Stamp {
     pub seen: u8,
@@ -68,7 +69,8 @@ impl WindowUser for Sizes {
 // No region.
 const NONE: (u32, u32) = (RAM, 0);
 
-/// Whether a window of four regions is opened. What the stamp saw and wrote is right then, and else nothing is written.
+/// Whether a window of four regions is opened. What the stamp saw and wrote is right then, and else
+/// nothing is written.
 fn is_lent(
     memory: &mut Memory,
     flash: (u32, u32),
@@ -117,8 +119,8 @@ const REGIONS: [(u32, u32); 5] = [
     (RAM + 64, 256),
 ];
 
-/// Whether each area is opened beside these, as the first one, as the second one, and beside each other one, just where no
-/// two of all are the same.
+/// Whether each area is opened beside these, as the first one, as the second one, and beside each
+/// other one, just where no two of all are the same.
 fn opens_each_area(memory: &mut Memory, flash: usize, ram: usize) -> bool
     requires flash { flash < 5 }
     requires ram { ram < 5 }
@@ -213,7 +215,8 @@ fn regions_of_a_memory_are_opened(rt: HostRuntime) -> Result<(), Fail> {
     Ok(())
 }
 
-// No bytes are beside it, also where the RAM begins with a region. An empty region elsewhere is none.
+// No bytes are beside it, also where the RAM begins with a region. An empty region elsewhere is
+// none.
 #[test]
 fn a_text_alone_is_opened(rt: HostRuntime) -> Result<(), Fail> {
     let regions = [(FLASH, 32), (RAM, 8)];
@@ -243,7 +246,8 @@ fn a_text_alone_is_opened(rt: HostRuntime) -> Result<(), Fail> {
     Ok(())
 }
 
-// The second area of the first window is the data of the other one, and the first area of the first one is its second.
+// The second area of the first window is the data of the other one, and the first area of the first
+// one is its second.
 #[test]
 fn a_second_area_is_read_and_written(rt: HostRuntime) -> Result<(), Fail> {
     let mut memory = Memory::open(rt.alloc(), &[7; 64], 512, &REGIONS)?;

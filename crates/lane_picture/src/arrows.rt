@@ -23,7 +23,8 @@ fn way_class(way: ArrowKind) -> &'static str
 /// Where an arrow begins: on the side of its lane that is the nearer one to the other's.
 fn start_line(picture: &LanePicture<'_>, arrow: &Arrow) -> u64
     requires { IsBounded picture.now }
-    ensures { result ≡ (if nat_lt arrow.now.from arrow.now.to then lane_bottom (drawn_of picture.now) arrow.now.from else lane_top (drawn_of picture.now) arrow.now.from) }
+    ensures { result ≡ (if nat_lt arrow.now.from arrow.now.to then lane_bottom
+        (drawn_of picture.now) arrow.now.from else lane_top (drawn_of picture.now) arrow.now.from) }
 {
     let lane = u32::from(arrow.from);
     if arrow.from < arrow.to {
@@ -36,7 +37,8 @@ fn start_line(picture: &LanePicture<'_>, arrow: &Arrow) -> u64
 /// Where it ends.
 fn end_line(picture: &LanePicture<'_>, arrow: &Arrow) -> u64
     requires { IsBounded picture.now }
-    ensures { result ≡ (if nat_lt arrow.now.from arrow.now.to then lane_top (drawn_of picture.now) arrow.now.to else lane_bottom (drawn_of picture.now) arrow.now.to) }
+    ensures { result ≡ (if nat_lt arrow.now.from arrow.now.to then lane_top (drawn_of picture.now)
+        arrow.now.to else lane_bottom (drawn_of picture.now) arrow.now.to) }
 {
     let lane = u32::from(arrow.to);
     if arrow.from < arrow.to {
@@ -49,7 +51,8 @@ fn end_line(picture: &LanePicture<'_>, arrow: &Arrow) -> u64
 #[tactic(auto, unfolding(crate::specs::Drawing::arrow_text))]
 fn push_arrow(picture: &LanePicture<'_>, arrow: &Arrow, out: &mut Vec<u8>) -> Result<(), AllocError>
     requires { IsBounded picture.now }
-    ensures { OnOk result (out.new.items ≡ out.old.items ++ arrow_text (drawn_of picture.now) arrow.now) }
+    ensures { OnOk result (out.new.items ≡ out.old.items
+        ++ arrow_text (drawn_of picture.now) arrow.now) }
 {
     push_text("<path class=\"", out)?;
     push_text(way_class(arrow.way), out)?;

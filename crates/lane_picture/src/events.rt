@@ -18,7 +18,9 @@ fn begin_row(
     out: &mut Vec<u8>,
 ) -> Result<(), AllocError>
     requires { IsBounded picture.now }
-    ensures { OnOk result (out.new.items ≡ out.old.items ++ (codes "<text x=\"176\" y=\"" ++ decimal (row_line (drawn_of picture.now) j) ++ codes "\" class=\"" ++ class.now ++ codes "\">")) }
+    ensures { OnOk result (out.new.items ≡ out.old.items
+        ++ (codes "<text x=\"176\" y=\"" ++ decimal (row_line (drawn_of picture.now) j)
+        ++ codes "\" class=\"" ++ class.now ++ codes "\">")) }
 {
     push_text("<text x=\"176\" y=\"", out)?;
     push_decimal(row_line(picture, j), out)?;
@@ -43,7 +45,8 @@ fn push_row(
     out: &mut Vec<u8>,
 ) -> Result<(), AllocError>
     requires { IsBounded picture.now }
-    ensures { OnOk result (out.new.items ≡ out.old.items ++ row_text (drawn_of picture.now) j class.now text.now) }
+    ensures { OnOk result (out.new.items ≡ out.old.items
+        ++ row_text (drawn_of picture.now) j class.now text.now) }
 {
     begin_row(picture, j, class, out)?;
     push_text(text, out)?;
@@ -63,7 +66,9 @@ fn push_event(picture: &LanePicture<'_>, j: u32, out: &mut Vec<u8>) -> Result<()
 
 fn push_each_event(picture: &LanePicture<'_>, out: &mut Vec<u8>) -> Result<(), AllocError>
     requires { IsBounded picture.now }
-    ensures { OnOk result (out.new.items ≡ out.old.items ++ flat_map (event_text (drawn_of picture.now)) (range_with_len 0 (length (drawn_of picture.now).events))) }
+    ensures { OnOk result (out.new.items ≡ out.old.items
+        ++ flat_map (event_text (drawn_of picture.now))
+        (range_with_len 0 (length (drawn_of picture.now).events))) }
 {
     for j in 0..picture.events.len() {
         push_event(picture, j as u32, out)?;

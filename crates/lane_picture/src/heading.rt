@@ -132,7 +132,8 @@ fn push_grid_line_within(
     out: &mut Vec<u8>,
 ) -> Result<(), AllocError>
     requires { IsBounded picture.now }
-    ensures { OnOk result (out.new.items ≡ out.old.items ++ grid_line_within (drawn_of picture.now) turn) }
+    ensures { OnOk result (out.new.items ≡ out.old.items
+        ++ grid_line_within (drawn_of picture.now) turn) }
 {
     if turn <= u64::from(picture.turns) {
         push_grid_line(picture, turn as u32, out)

@@ -1,4 +1,5 @@
-//! The lane of a task: its words, the boxes of what it does, and the marks of its faults and births.
+//! The lane of a task: its words, the boxes of what it does, and the marks of its faults and
+//! births.
 ghost use Rattle.std.specs.Prelude.{◌≡◌, ◌++◌, ◌<◌, ◌*◌, ◌≤◌};
 ghost use Rattle.std.specs.Result.{OnOk};
 ghost use Rattle.std.specs.List.{flat_map, range_with_len};
@@ -50,7 +51,8 @@ fn push_word_box(
 ) -> Result<(), AllocError>
     requires bounded { IsBounded picture.now }
     requires word { word < 7 }
-    ensures { OnOk result (out.new.items ≡ out.old.items ++ word_box (drawn_of picture.now) i word k) }
+    ensures { OnOk result (out.new.items ≡ out.old.items
+        ++ word_box (drawn_of picture.now) i word k) }
 {
     let cell = cell_at(picture, k, i);
     let low = word_height(picture, &cell, word);
@@ -75,7 +77,9 @@ fn push_word_boxes(
 ) -> Result<(), AllocError>
     requires bounded { IsBounded picture.now }
     requires word { word < 7 }
-    ensures { OnOk result (out.new.items ≡ out.old.items ++ flat_map (word_box (drawn_of picture.now) i word) (range_with_len 0 (columns (drawn_of picture.now)))) }
+    ensures { OnOk result (out.new.items ≡ out.old.items
+        ++ flat_map (word_box (drawn_of picture.now) i word)
+        (range_with_len 0 (columns (drawn_of picture.now)))) }
 {
     for k in 0..columns(picture) {
         push_word_box(picture, i, word, k, out)?;
@@ -92,7 +96,8 @@ fn push_word_path(
 ) -> Result<(), AllocError>
     requires bounded { IsBounded picture.now }
     requires word { word < 7 }
-    ensures { OnOk result (out.new.items ≡ out.old.items ++ word_path (drawn_of picture.now) i word) }
+    ensures { OnOk result (out.new.items ≡ out.old.items
+        ++ word_path (drawn_of picture.now) i word) }
 {
     push_text("<path class=\"a", out)?;
     push_decimal(word as u64, out)?;
@@ -103,7 +108,8 @@ fn push_word_path(
 
 fn push_word_paths(picture: &LanePicture<'_>, i: u32, out: &mut Vec<u8>) -> Result<(), AllocError>
     requires { IsBounded picture.now }
-    ensures { OnOk result (out.new.items ≡ out.old.items ++ flat_map (word_path (drawn_of picture.now) i) (range_with_len 0 7)) }
+    ensures { OnOk result (out.new.items ≡ out.old.items
+        ++ flat_map (word_path (drawn_of picture.now) i) (range_with_len 0 7)) }
 {
     for word in 0..7 {
         push_word_path(picture, i, word, out)?;
@@ -137,7 +143,9 @@ fn push_fault_box(
 
 fn push_fault_boxes(picture: &LanePicture<'_>, i: u32, out: &mut Vec<u8>) -> Result<(), AllocError>
     requires { IsBounded picture.now }
-    ensures { OnOk result (out.new.items ≡ out.old.items ++ flat_map (fault_box (drawn_of picture.now) i) (range_with_len 0 (columns (drawn_of picture.now)))) }
+    ensures { OnOk result (out.new.items ≡ out.old.items
+        ++ flat_map (fault_box (drawn_of picture.now) i)
+        (range_with_len 0 (columns (drawn_of picture.now)))) }
 {
     for k in 0..columns(picture) {
         push_fault_box(picture, i, k, out)?;
@@ -165,7 +173,9 @@ fn push_birth_box(
 
 fn push_birth_boxes(picture: &LanePicture<'_>, i: u32, out: &mut Vec<u8>) -> Result<(), AllocError>
     requires { IsBounded picture.now }
-    ensures { OnOk result (out.new.items ≡ out.old.items ++ flat_map (birth_box (drawn_of picture.now) i) (range_with_len 0 (columns (drawn_of picture.now)))) }
+    ensures { OnOk result (out.new.items ≡ out.old.items
+        ++ flat_map (birth_box (drawn_of picture.now) i)
+        (range_with_len 0 (columns (drawn_of picture.now)))) }
 {
     for k in 0..columns(picture) {
         push_birth_box(picture, i, k, out)?;
@@ -216,7 +226,9 @@ fn push_lane(picture: &LanePicture<'_>, i: u32, out: &mut Vec<u8>) -> Result<(),
 
 pub fn push_lanes(picture: &LanePicture<'_>, out: &mut Vec<u8>) -> Result<(), AllocError>
     requires { IsBounded picture.now }
-    ensures { OnOk result (out.new.items ≡ out.old.items ++ flat_map (lane_text (drawn_of picture.now)) (range_with_len 0 (tasks (drawn_of picture.now)))) }
+    ensures { OnOk result (out.new.items ≡ out.old.items
+        ++ flat_map (lane_text (drawn_of picture.now))
+        (range_with_len 0 (tasks (drawn_of picture.now)))) }
 {
     for i in 0..tasks(picture) {
         push_lane(picture, i, out)?;

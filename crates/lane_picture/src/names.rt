@@ -22,7 +22,8 @@ fn push_longest(
     longest: Option<Longest>,
     out: &mut Vec<u8>,
 ) -> Result<(), AllocError>
-    ensures { OnOk result (out.new.items ≡ out.old.items ++ longest_text (drawn_of picture.now) longest) }
+    ensures { OnOk result (out.new.items ≡ out.old.items
+        ++ longest_text (drawn_of picture.now) longest) }
 {
     match longest {
         None => Ok(()),
@@ -42,7 +43,8 @@ fn push_asked(
     asked: Option<AskedCall>,
     out: &mut Vec<u8>,
 ) -> Result<(), AllocError>
-    ensures { OnOk result (out.new.items ≡ out.old.items ++ asked_text (drawn_of picture.now) asked) }
+    ensures { OnOk result (out.new.items ≡ out.old.items
+        ++ asked_text (drawn_of picture.now) asked) }
 {
     match asked {
         None => Ok(()),
@@ -60,7 +62,8 @@ fn push_calls(
     calls: &TaskCalls,
     out: &mut Vec<u8>,
 ) -> Result<(), AllocError>
-    ensures { OnOk result (out.new.items ≡ out.old.items ++ calls_text (drawn_of picture.now) calls.now) }
+    ensures { OnOk result (out.new.items ≡ out.old.items
+        ++ calls_text (drawn_of picture.now) calls.now) }
 {
     if calls.count == 0 {
         Ok(())
@@ -74,7 +77,8 @@ fn push_calls(
 
 /// The calls of a task.
 pub fn push_calls_at(picture: &LanePicture<'_>, i: u32, out: &mut Vec<u8>) -> Result<(), AllocError>
-    ensures { OnOk result (out.new.items ≡ out.old.items ++ calls_text (drawn_of picture.now) (calls_at (drawn_of picture.now) i)) }
+    ensures { OnOk result (out.new.items ≡ out.old.items
+        ++ calls_text (drawn_of picture.now) (calls_at (drawn_of picture.now) i)) }
 {
     match picture.calls.get(i as usize) {
         Some(calls) => push_calls(picture, calls, out),

@@ -1,7 +1,8 @@
 //! What a picture is made of.
 
-/// A column of turns of a task: in how many of them it did each thing, in the order of the words (runs, ready, offers, awaits,
-/// listens, faulted, stopped), and whether it faulted and was born in one of them.
+/// A column of turns of a task: in how many of them it did each thing, in the order of the words
+/// (runs, ready, offers, awaits, listens, faulted, stopped), and whether it faulted and was born in
+/// one of them.
 #[derive(Clone, Copy)]
 pub struct Cell {
     pub words: [u32; 7],
@@ -17,7 +18,8 @@ pub struct AskedCall {
     pub since: u32,
 }
 
-/// A call that was closed: the index of its server, the turn of the offer, and how many turns it was open.
+/// A call that was closed: the index of its server, the turn of the offer, and how many turns it
+/// was open.
 #[derive(Clone, Copy)]
 pub struct Longest {
     pub server: u16,
@@ -25,7 +27,8 @@ pub struct Longest {
     pub turns: u32,
 }
 
-/// The calls of a task: how many it offered, which one it has asked and is open, and the first of the longest of those that were closed.
+/// The calls of a task: how many it offered, which one it has asked and is open, and the first of
+/// the longest of those that were closed.
 #[derive(Clone, Copy)]
 pub struct TaskCalls {
     pub count: u64,

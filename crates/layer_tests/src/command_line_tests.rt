@@ -1,4 +1,5 @@
-//! What no stored run has (crates/stored_runs has the other words): the greatest numbers at once, and a program of another name.
+//! What no stored run has (crates/stored_runs has the other words): the greatest numbers at once,
+//! and a program of another name.
 use command_line::{Detail, Job, read_words};
 use std::alloc::{AllocError, Global};
 

@@ -1,4 +1,5 @@
-//! A console and a port, over the calls of a device: what is shown, taken, counted and given out at which offset.
+//! A console and a port, over the calls of a device: what is shown, taken, counted and given out at
+//! which offset.
 use devices::{Console, Device, Port};
 use kernel_abi::{Fed, Kind};
 

@@ -1,5 +1,5 @@
-//! A source that is refused, and another in its place; sources at once and one by one. Images that are built are stored
-//! rows (crates/stored_runs).
+//! A source that is refused, and another in its place; sources at once and one by one. Images that
+//! are built are stored rows (crates/stored_runs).
 
 use app_toml::App;
 use image_build::{Builder, build};
@@ -44,7 +44,8 @@ fn a_refused_source_may_be_followed_by_another(rt: HostRuntime) {
     assert!(rt; bytes.as_slice().get(..74) == Some(ONE_IMAGE.as_slice()));
 }
 
-/// Three tasks; `note_last_go` is a notification of the third in every source, and one of its own in the second's.
+/// Three tasks; `note_last_go` is a notification of the third in every source, and one of its own
+/// in the second's.
 const THREE: &str = "[board]
 flash = 65536
 ram = 16384

@@ -1,5 +1,5 @@
-//! Does the assembler read what an instruction's text says? Each code of one halfword that is an instruction, and many of two,
-//! are decoded, written as text at an address, and assembled there.
+//! Does the assembler read what an instruction's text says? Each code of one halfword that is an
+//! instruction, and many of two, are decoded, written as text at an address, and assembled there.
 use arrayvec::ArrayString;
 use std::alloc::Global;
 use thumb_asm::assemble;

@@ -82,7 +82,8 @@ fn devices_and_nothing(rt: HostRuntime) {
     assert!(rt; found == [Some(0x4000_0000), None, None]);
 }
 
-// Over the end of a region to one that adjoins, without the right there, of a device, past the flash, and in no region.
+// Over the end of a region to one that adjoins, without the right there, of a device, past the
+// flash, and in no region.
 #[test]
 fn accesses(rt: HostRuntime) {
     let regions = sample();

@@ -1,5 +1,6 @@
-//! What no run shows of scripts: how many events there may be (docs/FORMATS.md, Script), where the turns end, bytes for devices, and
-//! scripts that are copied or made of events. The order of events and what is refused are stored rows (crates/stored_runs).
+//! What no run shows of scripts: how many events there may be (docs/FORMATS.md, Script), where the
+//! turns end, bytes for devices, and scripts that are copied or made of events. The order of events
+//! and what is refused are stored rows (crates/stored_runs).
 use run_script::{Event, Script, ScriptFault};
 use std::alloc::{AllocError, Global};
 use std::test::Fail;
@@ -89,7 +90,8 @@ fn bytes_for_devices(rt: HostRuntime) -> Result<(), Fail> {
     Ok(())
 }
 
-/// The first event of turn 4, the first two of turn 6, and the next turns from 1 and from 7 on with an event.
+/// The first event of turn 4, the first two of turn 6, and the next turns from 1 and from 7 on with
+/// an event.
 fn shown(script: &Script) -> ([Option<Event>; 3], [Option<u32>; 2]) {
     let events = [
         script.event_at(4, 0),

@@ -290,7 +290,8 @@ fn first_causes(rt: HostRuntime) -> Result<(), Fail> {
     Ok(())
 }
 
-/// A source, its cause or 0, and its first byte or 0: `given` is 9 of its own, and 7 of those that it shares with others.
+/// A source, its cause or 0, and its first byte or 0: `given` is 9 of its own, and 7 of those that
+/// it shares with others.
 const SHARED: [(&str, u8, u8); 4] = [
     (".word given", 0, 9),
     (".word far", 0, 4),

@@ -1,4 +1,5 @@
-//! Codes with the texts and refusals that a second reading of the table of instructions has for them.
+//! Codes with the texts and refusals that a second reading of the table of instructions has for
+//! them.
 use arrayvec::ArrayString;
 use thumb_decode::decode;
 use thumb_insn::Decoded;

@@ -1,5 +1,5 @@
-//! The codes that LLVM 14's assembler (`llvm-mc -triple=thumbv6m-none-eabi`) gives for one text or more of each row of the table in
-//! docs/FORMATS.md, and what has no code.
+//! The codes that LLVM 14's assembler (`llvm-mc -triple=thumbv6m-none-eabi`) gives for one text or
+//! more of each row of the table in docs/FORMATS.md, and what has no code.
 use arrayvec::ArrayString;
 use thumb_decode::decode;
 use thumb_encode::{Fit, encode};

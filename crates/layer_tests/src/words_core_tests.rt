@@ -1,4 +1,5 @@
-//! What is expected was recorded from Unicorn 2.0.1 as a Cortex-M0, or is the manual's rule at an edge.
+//! What is expected was recorded from Unicorn 2.0.1 as a Cortex-M0, or is the manual's rule at an
+//! edge.
 use words_core::{Flags, Regs, add_with_carry, asr, extend, lsl, lsr, ror};
 
 /// Flags from four digits, N first.
@@ -52,7 +53,8 @@ enum Shift {
     Turn,
 }
 
-/// Which shift of which word by how much, with the carry before, and what comes of it with the carry.
+/// Which shift of which word by how much, with the carry before, and what comes of it with the
+/// carry.
 const SHIFTS: [(Shift, u32, u8, bool, u32, bool); 32] = [
     (Shift::Left, 0xFFFF_FF82, 8, false, 0xFFFF_8200, true),
     (Shift::Left, 0xA902_5ADF, 31, true, 0x8000_0000, true),

@@ -17,8 +17,8 @@ use crate::way::Way;
 use kernel_abi::{Access, Borrow, BorrowArgs, LeaseEntry, Note, Usage, dead_code};
 use task_table::{Found, Kernel, OpenCall, Slice};
 
-/// A borrow of a lease: which way and by which arguments, who borrows from whom, and the number of the
-/// lender's call.
+/// A borrow of a lease: which way and by which arguments, who borrows from whom, and the number of
+/// the lender's call.
 #[derive(Clone, Copy)]
 struct Loan {
     way: Way,
@@ -32,18 +32,22 @@ struct Loan {
 fn refuse(k: &mut Kernel, borrower: usize, code: u32)
     requires there { borrower < task_count k.old }
     requires room { note_count k.old < turn_notes }
-    ensures holds { (g : Setup) (t : Turn) → Holds g k.old t → Holds g k.new (refused borrower code t) }
+    ensures holds { (g : Setup) (t : Turn) → Holds g k.old t →
+        Holds g k.new (refused borrower code t) }
     ensures frame { AddsNotes k.old 1 k.new }
 {
     k.answer(borrower, &[code, 0]);
 }
 
-/// The bytes of a loan move: so many, at least one, of which those of the lease begin at an address.
+/// The bytes of a loan move: so many, at least one, of which those of the lease begin at an
+/// address.
 fn move_bytes(k: &mut Kernel, loan: &Loan, leased: u32, count: u32)
     requires some { 0 < count }
     requires leased { IsLeased loan.now.way (memory_of k.old) leased count }
     requires buffer { IsBuffer loan.now.way (memory_of k.old) loan.now.args.buffer_base count }
-    ensures holds { (g : Setup) (t : Turn) (c : Call) → Holds g k.old t → Holds g k.new (moved (way_of loan.now.way).borrow c leased loan.now.args.buffer_base count t) }
+    ensures holds { (g : Setup) (t : Turn) (c : Call) → Holds g k.old t →
+        Holds g k.new (moved (way_of loan.now.way).borrow c leased loan.now.args.buffer_base count
+        t) }
     ensures stay { StayKept k.old loan.now leased count k.new }
     ensures frame { AddsNotes k.old 0 k.new }
 {
@@ -58,7 +62,8 @@ fn move_bytes(k: &mut Kernel, loan: &Loan, leased: u32, count: u32)
 fn answer_lent(k: &mut Kernel, loan: &Loan, count: u32)
     requires there { loan.now.borrower < task_count k.old }
     requires room { note_count k.old + 2 ≤ turn_notes }
-    ensures holds { (g : Setup) (t : Turn) → Holds g k.old t → Holds g k.new (lent_answered loan.now count t) }
+    ensures holds { (g : Setup) (t : Turn) → Holds g k.old t →
+        Holds g k.new (lent_answered loan.now count t) }
     ensures entries { entries_of k.new ≡ entries_of k.old }
     ensures frame { AddsNotes k.old 2 k.new }
 {
@@ -72,8 +77,8 @@ fn answer_lent(k: &mut Kernel, loan: &Loan, count: u32)
     k.answer(loan.borrower, &[0, count]);
 }
 
-/// The bytes of the lease from an address on, so many, at least one, which the lender may lend by its
-/// regions.
+/// The bytes of the lease from an address on, so many, at least one, which the lender may lend by
+/// its regions.
 fn lend_bytes(k: &mut Kernel, loan: &Loan, leased: u32, count: u32)
     requires borrower { loan.now.borrower < task_count k.old }
     requires lender { loan.now.lender < task_count k.old }
@@ -82,8 +87,11 @@ fn lend_bytes(k: &mut Kernel, loan: &Loan, leased: u32, count: u32)
     requires valid { leased + count ≤ 2 ^ 32 }
     requires stood { StandsForSome k.old }
     requires buffer { IsBuffer loan.now.way (memory_of k.old) loan.now.args.buffer_base count }
-    ensures holds { let x = loan.now in (g : Setup) (t : Turn) (c : Call) → Holds g k.old t → IsLoanOf x c → Holds g k.new (lent g (way_of x.way) x.borrower x.args c record { base = leased; len = count } t) }
-    ensures stay { let x = loan.now in (g : Setup) (t : Turn) → Holds g k.old t → MayLend g x record { base = leased; len = count } → StayKept k.old x leased count k.new }
+    ensures holds { let x = loan.now in (g : Setup) (t : Turn) (c : Call) → Holds g k.old t →
+        IsLoanOf x c → Holds g k.new (lent g (way_of x.way) x.borrower x.args c record
+        { base = leased; len = count } t) }
+    ensures stay { let x = loan.now in (g : Setup) (t : Turn) → Holds g k.old t →
+        MayLend g x record { base = leased; len = count } → StayKept k.old x leased count k.new }
     ensures frame { AddsAtMost k.old 5 k.new }
 {
     if let Some(at) = k.bad_byte(loan.lender, loan.way.lender_right(), leased, count) {
@@ -102,9 +110,14 @@ fn lend(k: &mut Kernel, loan: &Loan, entry: &LeaseEntry)
     requires valid { entry.now.base + entry.now.len ≤ 2 ^ 32 }
     requires inside { loan.now.args.offset ≤ entry.now.len }
     requires stood { StandsForSome k.old }
-    requires buffer { IsBuffer loan.now.way (memory_of k.old) loan.now.args.buffer_base loan.now.args.buffer_length }
-    ensures holds { let x = loan.now in (g : Setup) (t : Turn) (c : Call) → Holds g k.old t → IsLoanOf x c → Holds g k.new (lent g (way_of x.way) x.borrower x.args c (part_of x.args entry.now) t) }
-    ensures stay { let x = loan.now in let part = part_of x.args entry.now in (g : Setup) (t : Turn) → Holds g k.old t → MayLend g x part → StayKept k.old x part.base part.len k.new }
+    requires buffer { IsBuffer loan.now.way (memory_of k.old) loan.now.args.buffer_base
+        loan.now.args.buffer_length }
+    ensures holds { let x = loan.now in (g : Setup) (t : Turn) (c : Call) → Holds g k.old t →
+        IsLoanOf x c → Holds g k.new (lent g (way_of x.way) x.borrower x.args c
+        (part_of x.args entry.now) t) }
+    ensures stay { let x = loan.now in let part = part_of x.args entry.now in
+        (g : Setup) (t : Turn) → Holds g k.old t → MayLend g x part →
+        StayKept k.old x part.base part.len k.new }
     ensures frame { AddsAtMost k.old 5 k.new }
 {
     let count = loan.args.buffer_length.min(entry.len - loan.args.offset);
@@ -124,8 +137,11 @@ fn borrow_into(k: &mut Kernel, loan: &Loan, entry: &LeaseEntry)
     requires valid { entry.now.base + entry.now.len ≤ 2 ^ 32 }
     requires inside { loan.now.args.offset ≤ entry.now.len }
     requires stood { StandsForSome k.old }
-    ensures holds { let x = loan.now in (g : Setup) (t : Turn) (c : Call) → Holds g k.old t → IsLoanOf x c → Holds g k.new (buffered g (way_of x.way) x.borrower x.args c entry.now t) }
-    ensures stay { let x = loan.now in let part = part_of x.args entry.now in (g : Setup) (t : Turn) → Holds g k.old t → IsGranted g x entry.now → StayKept k.old x part.base part.len k.new }
+    ensures holds { let x = loan.now in (g : Setup) (t : Turn) (c : Call) → Holds g k.old t →
+        IsLoanOf x c → Holds g k.new (buffered g (way_of x.way) x.borrower x.args c entry.now t) }
+    ensures stay { let x = loan.now in let part = part_of x.args entry.now in
+        (g : Setup) (t : Turn) → Holds g k.old t → IsGranted g x entry.now →
+        StayKept k.old x part.base part.len k.new }
     ensures frame { AddsAtMost k.old 5 k.new }
 {
     let buffer = Slice {
@@ -147,8 +163,11 @@ fn borrow_entry(k: &mut Kernel, loan: &Loan, entry: &LeaseEntry)
     requires lender { loan.now.lender < task_count k.old }
     requires room { note_count k.old + 5 ≤ turn_notes }
     requires stood { StandsForSome k.old }
-    ensures holds { let x = loan.now in (g : Setup) (t : Turn) (c : Call) → Holds g k.old t → IsLoanOf x c → Holds g k.new (granted g (way_of x.way) x.borrower x.args c entry.now t) }
-    ensures stay { let x = loan.now in let part = part_of x.args entry.now in (g : Setup) (t : Turn) → Holds g k.old t → IsGranted g x entry.now → StayKept k.old x part.base part.len k.new }
+    ensures holds { let x = loan.now in (g : Setup) (t : Turn) (c : Call) → Holds g k.old t →
+        IsLoanOf x c → Holds g k.new (granted g (way_of x.way) x.borrower x.args c entry.now t) }
+    ensures stay { let x = loan.now in let part = part_of x.args entry.now in
+        (g : Setup) (t : Turn) → Holds g k.old t → IsGranted g x entry.now →
+        StayKept k.old x part.base part.len k.new }
     ensures frame { AddsAtMost k.old 5 k.new }
 {
     if !is_lease_valid(entry) {
@@ -171,8 +190,12 @@ fn borrow_from(k: &mut Kernel, loan: &Loan, call: &OpenCall)
     requires room { note_count k.old + 5 ≤ turn_notes }
     requires fits { call.now.table + 12 * call.now.leases ≤ 2 ^ 32 }
     requires lent { (borrower : ℕ) × IsLent k.old loan.now.lender borrower call.now }
-    ensures holds { let x = loan.now in (g : Setup) (t : Turn) (c : Call) → Holds g k.old t → kept_call c ≡ call.now → IsLoanOf x c → Holds g k.new (borrowed_by g (way_of x.way) x.borrower x.args (Some c) t) }
-    ensures held { let x = loan.now in (g : Setup) (t : Turn) (c : Call) → Holds g k.old t → kept_call c ≡ call.now → IsLoanOf x c → IsEntryRead g x.lender c x.args.lease → HoldsGranted g x c t.state k.new }
+    ensures holds { let x = loan.now in (g : Setup) (t : Turn) (c : Call) → Holds g k.old t →
+        kept_call c ≡ call.now → IsLoanOf x c →
+        Holds g k.new (borrowed_by g (way_of x.way) x.borrower x.args (Some c) t) }
+    ensures held { let x = loan.now in (g : Setup) (t : Turn) (c : Call) → Holds g k.old t →
+        kept_call c ≡ call.now → IsLoanOf x c → IsEntryRead g x.lender c x.args.lease →
+        HoldsGranted g x c t.state k.new }
     ensures frame { AddsAtMost k.old 5 k.new }
 {
     let lease = loan.args.lease;
@@ -193,8 +216,10 @@ fn borrow(k: &mut Kernel, caller: usize, way: Way)
     requires there { caller < task_count k.old }
     requires room { note_count k.old + syscall_notes ≤ turn_notes }
     requires stood { StandsForSome k.old }
-    ensures holds { (g : Setup) (t : Turn) → Stands g k.old t → Holds g k.new (borrowed g (way_of way) caller t) }
-    ensures held { (g : Setup) (t : Turn) → Stands g k.old t → KeepsBorrowed g (way_of way) caller t k.new }
+    ensures holds { (g : Setup) (t : Turn) → Stands g k.old t →
+        Holds g k.new (borrowed g (way_of way) caller t) }
+    ensures held { (g : Setup) (t : Turn) → Stands g k.old t →
+        KeepsBorrowed g (way_of way) caller t k.new }
     ensures frame { AddsAtMost k.old syscall_notes k.new }
 {
     let args = BorrowArgs::of(&k.arguments(caller));
@@ -217,25 +242,27 @@ fn borrow(k: &mut Kernel, caller: usize, way: Way)
     }
 }
 
-/// BORROW_READ: r4 is the id of the lender, r5 the lease, r6 an offset, r7 and r8 the caller's buffer. As many
-/// bytes of the lease from the offset on as the buffer has are copied into it. r4 is 0 and r5 how many bytes
-/// moved; where the lender has no such lease for the caller, or faults by it, r4 is 1 and r5 is 0 (Hubris
-/// Reference, on leases). Where r4 is 0, the entry of the lease is kept from then on, unless one of its bytes was
-/// written.
+/// BORROW_READ: r4 is the id of the lender, r5 the lease, r6 an offset, r7 and r8 the caller's
+/// buffer. As many bytes of the lease from the offset on as the buffer has are copied into it. r4
+/// is 0 and r5 how many bytes moved; where the lender has no such lease for the caller, or faults
+/// by it, r4 is 1 and r5 is 0 (Hubris Reference, on leases). Where r4 is 0, the entry of the lease
+/// is kept from then on, unless one of its bytes was written.
 pub fn borrow_read(k: &mut Kernel, caller: usize)
     requires { MayCall k.old caller }
     ensures performs { Performs (λ g. borrowed g reading) k.old caller k.new }
-    ensures held { (g : Setup) (t : Turn) → Stands g k.old t → is_ready t.state caller ≡ true → KeepsBorrowed g reading caller t k.new }
+    ensures held { (g : Setup) (t : Turn) → Stands g k.old t → is_ready t.state caller ≡ true →
+        KeepsBorrowed g reading caller t k.new }
 {
     borrow(k, caller, Way::Read);
 }
 
-/// BORROW_WRITE: as BORROW_READ, but the bytes of the caller's buffer are copied into the lease (Hubris
-/// Reference, on leases).
+/// BORROW_WRITE: as BORROW_READ, but the bytes of the caller's buffer are copied into the lease
+/// (Hubris Reference, on leases).
 pub fn borrow_write(k: &mut Kernel, caller: usize)
     requires { MayCall k.old caller }
     ensures performs { Performs (λ g. borrowed g writing) k.old caller k.new }
-    ensures held { (g : Setup) (t : Turn) → Stands g k.old t → is_ready t.state caller ≡ true → KeepsBorrowed g writing caller t k.new }
+    ensures held { (g : Setup) (t : Turn) → Stands g k.old t → is_ready t.state caller ≡ true →
+        KeepsBorrowed g writing caller t k.new }
 {
     borrow(k, caller, Way::Write);
 }

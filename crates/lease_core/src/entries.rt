@@ -20,15 +20,17 @@ pub(crate) fn is_lease_valid(entry: &LeaseEntry) -> bool
     kernel_abi::Range::of(entry.base, u64::from(entry.len)).is_some()
 }
 
-/// The entry of a lease of a call, or the first byte of it that the lender may not read, as memory has it.
-/// It is kept.
+/// The entry of a lease of a call, or the first byte of it that the lender may not read, as memory
+/// has it. It is kept.
 fn read_entry(k: &mut Kernel, lender: usize, call: &OpenCall, lease: u32) -> Result<LeaseEntry, u32>
     requires there { lender < task_count k.old }
     requires listed { lease < call.now.leases }
     requires fits { call.now.table + 12 * call.now.leases ≤ 2 ^ 32 }
     requires lent { (borrower : ℕ) × IsLent k.old lender borrower call.now }
-    ensures entry { (g : Setup) (t : Turn) → Holds g k.old t → IsEntryAt g t.state lender (call.now.table + 12 * lease) result }
-    ensures kept { IfOk result (λ e. IsKeptFor (entries_of k.new) lender (call.now.table + 12 * lease) e) }
+    ensures entry { (g : Setup) (t : Turn) → Holds g k.old t →
+        IsEntryAt g t.state lender (call.now.table + 12 * lease) result }
+    ensures kept { IfOk result (λ e. IsKeptFor (entries_of k.new) lender
+        (call.now.table + 12 * lease) e) }
     ensures holds { (g : Setup) (t : Turn) → Holds g k.old t → Holds g k.new t }
     ensures frame { AddsNotes k.old 0 k.new }
 {
@@ -45,15 +47,22 @@ fn read_entry(k: &mut Kernel, lender: usize, call: &OpenCall, lease: u32) -> Res
     Ok(entry)
 }
 
-/// The entry of a lease of a call, or the first byte of it that the lender may not read. It is kept from then
-/// on, or was before.
-pub(crate) fn entry_of(k: &mut Kernel, lender: usize, call: &OpenCall, lease: u32) -> Result<LeaseEntry, u32>
+/// The entry of a lease of a call, or the first byte of it that the lender may not read. It is kept
+/// from then on, or was before.
+pub(crate) fn entry_of(
+    k: &mut Kernel,
+    lender: usize,
+    call: &OpenCall,
+    lease: u32,
+) -> Result<LeaseEntry, u32>
     requires there { lender < task_count k.old }
     requires listed { lease < call.now.leases }
     requires fits { call.now.table + 12 * call.now.leases ≤ 2 ^ 32 }
     requires lent { (borrower : ℕ) × IsLent k.old lender borrower call.now }
-    ensures entry { (g : Setup) (t : Turn) (c : Call) → Holds g k.old t → kept_call c ≡ call.now → IsEntry g t.state lender c lease result }
-    ensures kept { IfOk result (λ e. IsKeptFor (entries_of k.new) lender (call.now.table + 12 * lease) e) }
+    ensures entry { (g : Setup) (t : Turn) (c : Call) → Holds g k.old t → kept_call c ≡ call.now →
+        IsEntry g t.state lender c lease result }
+    ensures kept { IfOk result (λ e. IsKeptFor (entries_of k.new) lender
+        (call.now.table + 12 * lease) e) }
     ensures holds { (g : Setup) (t : Turn) → Holds g k.old t → Holds g k.new t }
     ensures frame { AddsNotes k.old 0 k.new }
 {

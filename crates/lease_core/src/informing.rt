@@ -20,7 +20,8 @@ use task_table::{Found, Kernel, OpenCall};
 fn answer_nothing(k: &mut Kernel, caller: usize, code: u32)
     requires there { caller < task_count k.old }
     requires room { note_count k.old < turn_notes }
-    ensures holds { (g : Setup) (t : Turn) → Holds g k.old t → Holds g k.new (uninformed caller code t) }
+    ensures holds { (g : Setup) (t : Turn) → Holds g k.old t →
+        Holds g k.new (uninformed caller code t) }
     ensures frame { AddsNotes k.old 1 k.new }
 {
     k.answer(caller, &[code, 0, 0]);
@@ -38,8 +39,10 @@ fn inform_entry(
     requires there { caller < task_count k.old }
     requires lender { lender < task_count k.old }
     requires room { note_count k.old + 5 ≤ turn_notes }
-    ensures holds { (g : Setup) (t : Turn) (c : Call) → Holds g k.old t → c.client.index ≡ lender → c.number ≡ call → Holds g k.new (grant_answered g caller lease c entry.now t) }
-    ensures entries { is_valid (lease_range entry.now) ≡ true → entries_of k.new ≡ entries_of k.old }
+    ensures holds { (g : Setup) (t : Turn) (c : Call) → Holds g k.old t → c.client.index ≡ lender →
+        c.number ≡ call → Holds g k.new (grant_answered g caller lease c entry.now t) }
+    ensures entries { is_valid (lease_range entry.now) ≡ true →
+        entries_of k.new ≡ entries_of k.old }
     ensures frame { AddsAtMost k.old 5 k.new }
 {
     if !is_lease_valid(entry) {
@@ -63,8 +66,11 @@ fn inform_of(k: &mut Kernel, caller: usize, lender: usize, call: &OpenCall, leas
     requires room { note_count k.old + 5 ≤ turn_notes }
     requires fits { call.now.table + 12 * call.now.leases ≤ 2 ^ 32 }
     requires lent { (borrower : ℕ) × IsLent k.old lender borrower call.now }
-    ensures holds { (g : Setup) (t : Turn) (c : Call) → Holds g k.old t → kept_call c ≡ call.now → c.client.index ≡ lender → Holds g k.new (informed_by g caller lease (Some c) t) }
-    ensures held { (g : Setup) (t : Turn) (c : Call) → Holds g k.old t → kept_call c ≡ call.now → c.client.index ≡ lender → MayInform g lender t.state c lease → IsHeldAfter k.new t.state c lease }
+    ensures holds { (g : Setup) (t : Turn) (c : Call) → Holds g k.old t → kept_call c ≡ call.now →
+        c.client.index ≡ lender → Holds g k.new (informed_by g caller lease (Some c) t) }
+    ensures held { (g : Setup) (t : Turn) (c : Call) → Holds g k.old t → kept_call c ≡ call.now →
+        c.client.index ≡ lender → MayInform g lender t.state c lease →
+        IsHeldAfter k.new t.state c lease }
     ensures frame { AddsAtMost k.old 5 k.new }
 {
     if call.leases <= lease {
@@ -84,7 +90,8 @@ fn borrow_info_rows(k: &mut Kernel, caller: usize)
     requires there { caller < task_count k.old }
     requires room { note_count k.old + syscall_notes ≤ turn_notes }
     requires stood { StandsForSome k.old }
-    ensures holds { (g : Setup) (t : Turn) → Stands g k.old t → Holds g k.new (informed g caller t) }
+    ensures holds { (g : Setup) (t : Turn) → Stands g k.old t →
+        Holds g k.new (informed g caller t) }
     ensures held { (g : Setup) (t : Turn) → Stands g k.old t → KeepsInformed g caller t k.new }
     ensures frame { AddsAtMost k.old syscall_notes k.new }
 {
@@ -99,14 +106,15 @@ fn borrow_info_rows(k: &mut Kernel, caller: usize)
     }
 }
 
-/// BORROW_INFO: r4 is the id of the lender, r5 the lease. r4 is 0, r5 its attributes (bit 0 lends for
-/// reading, bit 1 for writing) and r6 its length; where the lender has no such lease for the caller, or faults
-/// by it, r4 is 1 and r5 and r6 are 0 (Hubris Reference, on leases). Where r4 is 0, the entry of the lease is
-/// kept from then on.
+/// BORROW_INFO: r4 is the id of the lender, r5 the lease. r4 is 0, r5 its attributes (bit 0 lends
+/// for reading, bit 1 for writing) and r6 its length; where the lender has no such lease for the
+/// caller, or faults by it, r4 is 1 and r5 and r6 are 0 (Hubris Reference, on leases). Where r4 is
+/// 0, the entry of the lease is kept from then on.
 pub fn borrow_info(k: &mut Kernel, caller: usize)
     requires { MayCall k.old caller }
     ensures performs { Performs informed k.old caller k.new }
-    ensures held { (g : Setup) (t : Turn) → Stands g k.old t → is_ready t.state caller ≡ true → KeepsInformed g caller t k.new }
+    ensures held { (g : Setup) (t : Turn) → Stands g k.old t → is_ready t.state caller ≡ true →
+        KeepsInformed g caller t k.new }
 {
     borrow_info_rows(k, caller);
 }

@@ -1,6 +1,6 @@
 #![tactic(auto)]
-//! Borrows of what a client has leased to its server: the system calls BORROW_READ, BORROW_WRITE and
-//! BORROW_INFO (Hubris Reference, on leases).
+//! Borrows of what a client has leased to its server: the system calls BORROW_READ, BORROW_WRITE
+//! and BORROW_INFO (Hubris Reference, on leases).
 
 mod borrowing;
 mod entries;
@@ -9,7 +9,6 @@ mod way;
 
 pub use borrowing::{borrow_read, borrow_write};
 pub use informing::borrow_info;
-
 
 /// The code of a lender that has no such lease for the borrower.
 pub(crate) const NO_LEASE: u32 = 1;

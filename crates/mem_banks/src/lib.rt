@@ -30,8 +30,8 @@ pub const RAM: u32 = 0x2000_0000;
 pub struct Memory {
     /// By base; an empty one where there is no memory at all.
     banks: Vec<Bank>,
-    /// For each page of 256 bytes the bank in which to look first. It is a hint: the bank's own bounds
-    /// say whether an address is in it.
+    /// For each page of 256 bytes the bank in which to look first. It is a hint: the bank's own
+    /// bounds say whether an address is in it.
     table: Vec<u16>,
     /// How many bytes the RAM has.
     ram: u32,
@@ -70,7 +70,10 @@ impl Memory {
         requires flash { length flash.now ≤ 1048576 }
         requires ram { ram ≤ 262144 }
         requires regions { AreRegions (length flash.now) ram regions.now }
-        ensures value { IfOk result (λ m. m ≡ record { bytes = record { flash = flash.now; ram = replicate ram 0 }; regions = regions.now }) }
+        ensures value { IfOk result (λ m. m ≡ record {
+          bytes = record { flash = flash.now; ram = replicate ram 0 };
+          regions = regions.now;
+        }) }
         ensures bytes { AreAllBytes flash.now }
     {
         let banks = all_banks(alloc, flash.len() as u32, ram, regions)?;
@@ -171,8 +174,8 @@ impl Memory {
         low + 65536 * high
     }
 
-    /// The number that 1, 2 or 4 bytes from an address on spell, the lowest first. Where there is no
-    /// memory a byte counts as 0.
+    /// The number that 1, 2 or 4 bytes from an address on spell, the lowest first. Where there is
+    /// no memory a byte counts as 0.
     #[inline(never)]
     pub fn number(&self, addr: u32, size: u32) -> u32
         requires { (size ≡ 1) ⊎ (size ≡ 2) ⊎ (size ≡ 4) }

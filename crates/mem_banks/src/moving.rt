@@ -21,7 +21,8 @@ fn put(bytes: &mut Vec<u8>, at: usize, new: &[u8])
 #[inline(always)]
 fn put_in(banks: &mut [Bank], k: usize, at: usize, new: &[u8])
     requires there { k < length banks.old }
-    requires fits { (d : Bank) → at + length new.now ≤ length (slice_index_or banks.old k d).bytes.items }
+    requires fits { (d : Bank) → at + length new.now ≤ length
+        (slice_index_or banks.old k d).bytes.items }
     ensures { IsPut banks.old k at new.now banks.new }
 {
     let bank = &mut banks[k];
@@ -66,13 +67,15 @@ fn store_pieces(banks: &mut [Bank], table: &[u16], addr: u32, bytes: &[u8])
     }
 }
 
-/// Copies bytes from a place of one bank to a place of another, or of the same one. Two banks are at hand
-/// at once, one to be read and one to be written.
+/// Copies bytes from a place of one bank to a place of another, or of the same one. Two banks are
+/// at hand at once, one to be read and one to be written.
 fn move_piece(banks: &mut [Bank], source: Place, target: Place, count: usize)
     requires source { source.bank < length banks.old }
     requires target { target.bank < length banks.old }
-    requires fits_source { (d : Bank) → source.at + count ≤ length (slice_index_or banks.old source.bank d).bytes.items }
-    requires fits_target { (d : Bank) → target.at + count ≤ length (slice_index_or banks.old target.bank d).bytes.items }
+    requires fits_source { (d : Bank) →
+        source.at + count ≤ length (slice_index_or banks.old source.bank d).bytes.items }
+    requires fits_target { (d : Bank) →
+        target.at + count ≤ length (slice_index_or banks.old target.bank d).bytes.items }
     ensures { IsMoved banks.old source.bank source.at target.bank target.at count banks.new }
 {
     let from = source.at;

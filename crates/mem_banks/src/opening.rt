@@ -1,4 +1,5 @@
-//! The banks of a memory that opens: one for each different region, and one for each stretch between.
+//! The banks of a memory that opens: one for each different region, and one for each stretch
+//! between.
 
 ghost use Rattle.std.specs.Prelude.{◌≡◌, ◌+◌, ◌<◌, ◌≤◌, ◌⊎◌, length, IfOk, replicate, All, Contains, ℕ};
 ghost use Rattle.std.specs.List.Sorted.{IsPermutation, IsNonDecreasingBy};
@@ -57,17 +58,21 @@ fn lay(
 ) -> Result<(), AllocError>
     requires order { base ≤ end }
     requires sorted { IsNonDecreasingBy (λ r. r.0) regions.now }
-    requires inside { (r : ℕ × ℕ) → Contains regions.now r → base ≤ r.0 → r.0 < end → (0 < r.1) × (r.0 + r.1 ≤ end) }
+    requires inside { (r : ℕ × ℕ) → Contains regions.now r → base ≤ r.0 → r.0 < end → (0 < r.1)
+        × (r.0 + r.1 ≤ end) }
     requires outside { (r : ℕ × ℕ) → Contains regions.now r → r.0 < base → r.0 + r.1 ≤ base }
-    requires apart { (r s : ℕ × ℕ) → Contains regions.now r → Contains regions.now s → (r ≡ s) ⊎ ((r.0 + r.1 ≤ s.0) ⊎ (s.0 + s.1 ≤ r.0)) }
+    requires apart { (r s : ℕ × ℕ) → Contains regions.now r → Contains regions.now s → (r ≡ s)
+        ⊎ ((r.0 + r.1 ≤ s.0) ⊎ (s.0 + s.1 ≤ r.0)) }
     requires sizes { (r : ℕ × ℕ) → Contains regions.now r → 0 < r.1 }
     requires place { IsNext banks.old.items base end }
     ensures laid { IfOk result (λ _. IsLaidOut banks.old.items banks.new.items base end) }
-    ensures parts { IfOk result (λ _. AreSoFar regions.now (spans_of banks.old.items) (spans_of banks.new.items) base end end) }
+    ensures parts { IfOk result (λ _. AreSoFar regions.now (spans_of banks.old.items)
+        (spans_of banks.new.items) base end end) }
 {
     let mut at = base;
     for &(start, size) in regions {
-        // Others have their bank already, since regions that overlap are the same, or lie elsewhere.
+        // Others have their bank already, since regions that overlap are the same, or lie
+        // elsewhere.
         if at <= start && start < end {
             fill(alloc, banks, at, start)?;
             add(alloc, banks, start, size)?;
@@ -77,8 +82,8 @@ fn lay(
     fill(alloc, banks, at, end)
 }
 
-/// The banks of so much flash and RAM, all of zero bytes. Where there is no memory at all there is one
-/// empty bank, so that each entry of the table names one.
+/// The banks of so much flash and RAM, all of zero bytes. Where there is no memory at all there is
+/// one empty bank, so that each entry of the table names one.
 pub fn all_banks(
     alloc: Global,
     flash: u32,
@@ -125,8 +130,8 @@ fn blank(alloc: Global, count: usize) -> Result<Vec<u16>, AllocError>
     vec![in alloc; 0u16; count]
 }
 
-/// The table of pages: for each the first bank that has a byte of it, and the first of all where none
-/// has.
+/// The table of pages: for each the first bank that has a byte of it, and the first of all where
+/// none has.
 pub fn table_of(alloc: Global, banks: &[Bank]) -> Result<Vec<u16>, AllocError>
     requires { 0 < length banks.now }
     ensures pages { IfOk result (λ t. length t.items ≡ 8192) }

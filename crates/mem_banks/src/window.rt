@@ -9,8 +9,8 @@ use crate::{Memory, RAM};
 use std::alloc::Global;
 use std::mem::swap;
 
-/// Who works with the bytes of four regions while a window on them is open: code, which stays as it is, data in
-/// the RAM, and two further areas of the RAM.
+/// Who works with the bytes of four regions while a window on them is open: code, which stays as it
+/// is, data in the RAM, and two further areas of the RAM.
 pub trait WindowUser {
     /// Before, the bytes of the four regions, after, and the bytes of the three in the RAM after.
     ghost did: { Self → List ℕ → List ℕ → List ℕ → List ℕ → Self → List ℕ → List ℕ → List ℕ → Type 0 };
@@ -23,7 +23,8 @@ pub trait WindowUser {
         area: &mut Vec<u8>,
         second: &mut Vec<u8>,
     )
-        ensures did { did self.old flash.old.items ram.old.items area.old.items second.old.items self.new ram.new.items area.new.items second.new.items }
+        ensures did { did self.old flash.old.items ram.old.items area.old.items second.old.items
+            self.new ram.new.items area.new.items second.new.items }
         ensures flash { flash.new.items ≡ flash.old.items }
         ensures length { length ram.new.items ≡ length ram.old.items }
         ensures area { length area.new.items ≡ length area.old.items }
@@ -101,7 +102,8 @@ fn open_in_order<B: WindowUser>(
 )
     requires ram { ram < length banks.old }
     requires order { flash < ram }
-    ensures { AreOpened B.did banks.old flash (Some ram) area.old.items second.old.items user.old user.new banks.new area.new.items second.new.items }
+    ensures { AreOpened B.did banks.old flash (Some ram) area.old.items second.old.items user.old
+        user.new banks.new area.new.items second.new.items }
 {
     let (front, back) = banks.split_at_mut(ram);
     user.work(&mut front[flash].bytes, &mut back[0].bytes, area, second);
@@ -119,7 +121,8 @@ fn open_two<B: WindowUser>(
     requires flash { flash < length banks.old }
     requires ram { ram < length banks.old }
     requires apart { flash ≡ ram → ⊥ }
-    ensures { AreOpened B.did banks.old flash (Some ram) area.old.items second.old.items user.old user.new banks.new area.new.items second.new.items }
+    ensures { AreOpened B.did banks.old flash (Some ram) area.old.items second.old.items user.old
+        user.new banks.new area.new.items second.new.items }
 {
     if flash < ram {
         open_in_order(banks, flash, ram, area, second, user);
@@ -139,7 +142,8 @@ fn open_one<B: WindowUser>(
     user: &mut B,
 )
     requires { flash < length banks.old }
-    ensures { AreOpened B.did banks.old flash None area.old.items second.old.items user.old user.new banks.new area.new.items second.new.items }
+    ensures { AreOpened B.did banks.old flash None area.old.items second.old.items user.old user.new
+        banks.new area.new.items second.new.items }
 {
     let mut none = Vec::new(alloc);
     user.work(&mut banks[flash].bytes, &mut none, area, second);
@@ -159,7 +163,8 @@ fn open_beside<B: WindowUser>(
     requires flash { flash < length banks.old }
     requires ram { IsOne banks.old ram }
     requires apart { AreTwo (Some flash) ram }
-    ensures { AreOpened B.did banks.old flash ram area.old.items second.old.items user.old user.new banks.new area.new.items second.new.items }
+    ensures { AreOpened B.did banks.old flash ram area.old.items second.old.items user.old user.new
+        banks.new area.new.items second.new.items }
 {
     match ram {
         Some(k) => open_two(banks, flash, k, area, second, user),
@@ -167,8 +172,8 @@ fn open_beside<B: WindowUser>(
     }
 }
 
-/// Opens the bytes of one bank or two and of that of an area, beside those of a second one. Its bytes are taken out of it
-/// meanwhile. Most tasks have no area, so this is a function of its own.
+/// Opens the bytes of one bank or two and of that of an area, beside those of a second one. Its
+/// bytes are taken out of it meanwhile. Most tasks have no area, so this is a function of its own.
 #[inline(never)]
 fn open_area<B: WindowUser>(
     banks: &mut [Bank],
@@ -185,7 +190,8 @@ fn open_area<B: WindowUser>(
     requires apart { AreTwo (Some flash) ram }
     requires beside { AreTwo (Some flash) (Some area) }
     requires two { AreTwo ram (Some area) }
-    ensures { AreOpenedBeside B.did banks.old flash ram (Some area) second.old.items user.old user.new banks.new second.new.items }
+    ensures { AreOpenedBeside B.did banks.old flash ram (Some area) second.old.items user.old
+        user.new banks.new second.new.items }
 {
     let mut bytes = Vec::new(alloc);
     swap(&mut banks[area].bytes, &mut bytes);
@@ -193,7 +199,8 @@ fn open_area<B: WindowUser>(
     swap(&mut banks[area].bytes, &mut bytes);
 }
 
-/// Opens the bytes of one bank or two, and of that of an area, where there is one, beside those of a second one.
+/// Opens the bytes of one bank or two, and of that of an area, where there is one, beside those of
+/// a second one.
 #[inline(always)]
 fn open_areas<B: WindowUser>(
     banks: &mut [Bank],
@@ -210,7 +217,8 @@ fn open_areas<B: WindowUser>(
     requires apart { AreTwo (Some flash) ram }
     requires beside { AreTwo (Some flash) area }
     requires two { AreTwo ram area }
-    ensures { AreOpenedBeside B.did banks.old flash ram area second.old.items user.old user.new banks.new second.new.items }
+    ensures { AreOpenedBeside B.did banks.old flash ram area second.old.items user.old user.new
+        banks.new second.new.items }
 {
     match area {
         Some(k) => open_area(banks, flash, ram, k, second, alloc, user),
@@ -221,8 +229,8 @@ fn open_areas<B: WindowUser>(
     }
 }
 
-/// Opens the bytes of up to three banks and of that of a second area. Its bytes are taken out of it meanwhile. Few tasks have two
-/// areas, so this is a function of its own.
+/// Opens the bytes of up to three banks and of that of a second area. Its bytes are taken out of it
+/// meanwhile. Few tasks have two areas, so this is a function of its own.
 #[inline(never)]
 fn open_second<B: WindowUser>(
     banks: &mut [Bank],
@@ -243,7 +251,8 @@ fn open_second<B: WindowUser>(
     requires second_beside { AreTwo (Some flash) (Some second) }
     requires second_two { AreTwo ram (Some second) }
     requires areas { AreTwo area (Some second) }
-    ensures { AreAllOpened B.did banks.old flash ram area (Some second) user.old user.new banks.new }
+    ensures { AreAllOpened B.did banks.old flash ram area (Some second) user.old user.new
+        banks.new }
 {
     let mut bytes = Vec::new(alloc);
     swap(&mut banks[second].bytes, &mut bytes);
@@ -286,13 +295,14 @@ fn open_all<B: WindowUser>(
 /// Whether a bank has the bytes of a region and no others.
 #[inline(always)]
 fn is_bank_of(bank: &Bank, region: (u32, u32)) -> bool
-    ensures { result ≡ true → (bank.now.base ≡ region.0) × (length bank.now.bytes.items ≡ region.1) }
+    ensures { result ≡ true → (bank.now.base ≡ region.0)
+        × (length bank.now.bytes.items ≡ region.1) }
 {
     bank.base == region.0 && bank.bytes.len() == region.1 as usize
 }
 
-/// The banks of a region of code and of one of the RAM as those of most tasks lie: each is the one that the table names, that of
-/// the code comes first, and there is no area.
+/// The banks of a region of code and of one of the RAM as those of most tasks lie: each is the one
+/// that the table names, that of the code comes first, and there is no area.
 #[inline(always)]
 fn usual_banks(
     banks: &[Bank],
@@ -347,7 +357,8 @@ impl Memory {
         second: (u32, u32),
         user: &mut B,
     ) -> bool
-        ensures opened { result ≡ true → IsOpened B.did self.old.bytes flash ram area second user.old user.new self.new.bytes }
+        ensures opened { result ≡ true →
+            IsOpened B.did self.old.bytes flash ram area second user.old user.new self.new.bytes }
         ensures given { AreGiven self.old.regions flash ram area second → result ≡ true }
         ensures regions { self.new.regions ≡ self.old.regions }
         ensures kept { result ≡ false → self.new ≡ self.old }
@@ -375,9 +386,9 @@ impl Memory {
         true
     }
 
-    /// Opens the bytes of four regions, by base and size, where each has a bank of its own and all but the
-    /// first one lie in the RAM, or have no bytes and begin where the RAM does. Else nothing
-    /// changes, and the answer is false. Regions that were given to `open` are opened.
+    /// Opens the bytes of four regions, by base and size, where each has a bank of its own and all
+    /// but the first one lie in the RAM, or have no bytes and begin where the RAM does. Else
+    /// nothing changes, and the answer is false. Regions that were given to `open` are opened.
     #[inline(always)]
     pub fn open_window<B: WindowUser>(
         &mut self,
@@ -387,7 +398,8 @@ impl Memory {
         second: (u32, u32),
         user: &mut B,
     ) -> bool
-        ensures opened { result ≡ true → IsOpened B.did self.old.bytes flash ram area second user.old user.new self.new.bytes }
+        ensures opened { result ≡ true →
+            IsOpened B.did self.old.bytes flash ram area second user.old user.new self.new.bytes }
         ensures given { AreGiven self.old.regions flash ram area second → result ≡ true }
         ensures regions { self.new.regions ≡ self.old.regions }
         ensures kept { result ≡ false → self.new ≡ self.old }

@@ -15,7 +15,8 @@ pub struct Plan {
 /// Why `plan` gives no plan.
 #[derive(Debug, Drop, Error)]
 pub enum PlanFault {
-    /// The rounded sizes sum to so many bytes (or to 2^64 - 1 or more), which is more than there are.
+    /// The rounded sizes sum to so many bytes (or to 2^64 - 1 or more), which is more than there
+    /// are.
     #[error("{needed} bytes are needed")]
     TooSmall { needed: u64 },
     /// There was not enough memory to make the plan.

@@ -5,8 +5,8 @@ ghost use Rattle.mem_plan.specs.Sizes.{rounded, total};
 
 use std::alloc::{AllocError, Global};
 
-/// A size of at most 2^20 bytes, rounded up to a power of two of at least 256: the bytes that its region
-/// takes.
+/// A size of at most 2^20 bytes, rounded up to a power of two of at least 256: the bytes that its
+/// region takes.
 pub fn rounded(size: u32) -> u32
     requires { size ≤ 1048576 }
     ensures { result ≡ rounded size }

@@ -10,8 +10,8 @@ use std::alloc::Global;
 use std::io::{Read, Seek, SeekFrom, Write};
 use std::{fs, io, rt};
 
-// A file that is open for reads: its name, where there was memory for it, and the place where it stands, where that is
-// a number of 64 bits. One without a name is read once.
+// A file that is open for reads: its name, where there was memory for it, and the place where it
+// stands, where that is a number of 64 bits. One without a name is read once.
 #[derive(Drop)]
 struct OpenFile<F> {
     name: Option<String>,
@@ -43,8 +43,8 @@ impl<F: Read + Seek> OpenFile<F> {
         }
     }
 
-    // Reads from a place on. A file that stands there is not sought, so that one that cannot be, as a pipe, is read
-    // from its start to its end.
+    // Reads from a place on. A file that stands there is not sought, so that one that cannot be, as
+    // a pipe, is read from its start to its end.
     fn read_at(&mut self, at: u64, buf: &mut [u8]) -> io::Result<usize>
         ensures bound { IfOk result (λ n. n ≤ length buf.new) }
         ensures place { IfOk result (λ n. StandsAt self.new (at + n)) }
@@ -59,9 +59,10 @@ impl<F: Read + Seek> OpenFile<F> {
     }
 }
 
-/// The files of the machine, by path. The file that was read last stays open, so that reads which go on through a
-/// file open it once, and one that cannot be sought, as a pipe, can be read. Three counts of 64 bits stop at their
-/// end: one rises by one at each failed read, one at each failed put, and one by the bytes that each read gives.
+/// The files of the machine, by path. The file that was read last stays open, so that reads which
+/// go on through a file open it once, and one that cannot be sought, as a pipe, can be read. Three
+/// counts of 64 bits stop at their end: one rises by one at each failed read, one at each failed
+/// put, and one by the bytes that each read gives.
 #[derive(Drop)]
 pub struct HostFiles<R: rt::Files> {
     rt: R,
@@ -85,8 +86,8 @@ impl<R: rt::Files + AllocGlobal> HostFiles<R> {
         }
     }
 
-    // The file under a name: the one that was read last, where that is it, or else one that is opened now. It is not
-    // kept until it is put back.
+    // The file under a name: the one that was read last, where that is it, or else one that is
+    // opened now. It is not kept until it is put back.
     fn take(&mut self, name: &str) -> io::Result<OpenFile<R::File>>
         ensures named { IfOk result (λ file. IsNamed file name.now) }
         ensures gone { self.new.kept ≡ None }
@@ -104,7 +105,8 @@ impl<R: rt::Files + AllocGlobal> HostFiles<R> {
     // Reads from a place on. The file is kept unless the read failed.
     fn read_at(&mut self, name: &str, at: u64, buf: &mut [u8]) -> io::Result<usize>
         ensures bound { IfOk result (λ n. n ≤ length buf.new) }
-        ensures kept { IfOk result (λ n. IsSomeAnd self.new.kept (λ file. IsNamed file name.now × StandsAt file (at + n))) }
+        ensures kept { IfOk result (λ n. IsSomeAnd self.new.kept
+            (λ file. IsNamed file name.now × StandsAt file (at + n))) }
         ensures gone { OnErr result (self.new.kept ≡ None) }
         ensures counts { counts_of self.new ≡ counts_of self.old }
     {
@@ -123,10 +125,12 @@ impl<R: rt::Files + AllocGlobal> Files for HostFiles<R> {
         ensures bytes { Reads None at buf.new result }
         ensures count { Gives (counts_of self.old).given (counts_of self.new).given result }
         ensures grown { (counts_of self.old).given ≤ (counts_of self.new).given }
-        ensures cause { HasCause (counts_of self.old).read_faults (counts_of self.new).read_faults result }
+        ensures cause { HasCause (counts_of self.old).read_faults (counts_of self.new).read_faults
+            result }
         ensures puts { (counts_of self.new).put_faults ≡ (counts_of self.old).put_faults }
 
-        ensures faults { CountsFailure (counts_of self.old).read_faults (counts_of self.new).read_faults result }
+        ensures faults { CountsFailure (counts_of self.old).read_faults
+            (counts_of self.new).read_faults result }
     {
         match self.read_at(name, at, buf) {
             Ok(count) => {
@@ -140,15 +144,17 @@ impl<R: rt::Files + AllocGlobal> Files for HostFiles<R> {
         }
     }
 
-    /// Writes the whole of the bytes to the file at the path, which it makes or cuts first. What was read last is let
-    /// go before, so that a later read gives what was put.
+    /// Writes the whole of the bytes to the file at the path, which it makes or cuts first. What
+    /// was read last is let go before, so that a later read gives what was put.
     fn put(&mut self, name: &str, bytes: &[u8]) -> Result<(), Failed>
-        ensures cause { HasCause (counts_of self.old).put_faults (counts_of self.new).put_faults result }
+        ensures cause { HasCause (counts_of self.old).put_faults (counts_of self.new).put_faults
+            result }
         ensures count { (counts_of self.new).given ≡ (counts_of self.old).given }
         ensures reads { (counts_of self.new).read_faults ≡ (counts_of self.old).read_faults }
 
         ensures gone { self.new.kept ≡ None }
-        ensures faults { CountsFailure (counts_of self.old).put_faults (counts_of self.new).put_faults result }
+        ensures faults { CountsFailure (counts_of self.old).put_faults
+            (counts_of self.new).put_faults result }
     {
         self.kept = None;
         match fs::write(&self.rt, name, bytes) {
@@ -207,7 +213,8 @@ impl<W: Write> Sink for HostSink<W> {
     fn push(&mut self, piece: &[u8]) -> Result<(), Failed>
         ensures cause { HasCause (faults_of self.old) (faults_of self.new) result }
 
-        ensures output { Pushes (W.contents (out_of self.old)) (W.contents (out_of self.new)) piece.now result }
+        ensures output { Pushes (W.contents (out_of self.old)) (W.contents (out_of self.new))
+            piece.now result }
         ensures counted { CountsFailure (faults_of self.old) (faults_of self.new) result }
     {
         let written = write_whole(&mut self.out, piece);

@@ -6,7 +6,8 @@ use crate::{Failed, Sink};
 
 /// Pushes the lines in their order, one push each. After a failing push nothing more is pushed.
 pub fn push_lines<S: Sink>(lines: &[&str], out: &mut S) -> Result<(), Failed>
-    ensures bytes { Pushes (S.seen out.old).written (S.seen out.new).written (flat_map (λ line. line.now) lines.now) result }
+    ensures bytes { Pushes (S.seen out.old).written (S.seen out.new).written
+        (flat_map (λ line. line.now) lines.now) result }
     ensures cause { HasCause (S.seen out.old).faults (S.seen out.new).faults result }
 {
     for line in lines {

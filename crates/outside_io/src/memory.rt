@@ -37,7 +37,8 @@ ghost use Rattle.outside_io.specs.Held.{contents_under, room_under, has_room};
 fn replace(held: &mut BTreeMap<String, Held>, name: &str, bytes: &[u8])
     requires { has_room held.old name.now (length bytes.now) ≡ true }
     ensures put { contents_under held.new name.now ≡ Some bytes.now }
-    ensures others { (other : List ℕ) → other ≢ name.now → contents_under held.new other ≡ contents_under held.old other }
+    ensures others { (other : List ℕ) → other ≢ name.now →
+        contents_under held.new other ≡ contents_under held.old other }
     ensures rooms { (other : List ℕ) → room_under held.new other ≡ room_under held.old other }
 {
     let Some(file) = held.get_mut(name) else {
@@ -137,10 +138,14 @@ impl MemFiles {
         requires fits { length bytes.now ≤ room }
         ensures held { OnOk result (contents_by self.new name.now ≡ Some bytes.now) }
         ensures room { OnOk result (rooms_of self.new name.now ≡ Some room) }
-        ensures others { (other : List ℕ) → other ≢ name.now → contents_by self.new other ≡ contents_by self.old other }
-        ensures other_rooms { (other : List ℕ) → other ≢ name.now → rooms_of self.new other ≡ rooms_of self.old other }
-        ensures err { OnErr result ((other : List ℕ) → contents_by self.new other ≡ contents_by self.old other) }
-        ensures err_rooms { OnErr result ((other : List ℕ) → rooms_of self.new other ≡ rooms_of self.old other) }
+        ensures others { (other : List ℕ) → other ≢ name.now →
+            contents_by self.new other ≡ contents_by self.old other }
+        ensures other_rooms { (other : List ℕ) → other ≢ name.now →
+            rooms_of self.new other ≡ rooms_of self.old other }
+        ensures err { OnErr result ((other : List ℕ) →
+            contents_by self.new other ≡ contents_by self.old other) }
+        ensures err_rooms { OnErr result
+            ((other : List ℕ) → rooms_of self.new other ≡ rooms_of self.old other) }
         ensures tally { tally_of self.new ≡ tally_of self.old }
     {
         let mut contents = Vec::with_capacity(self.alloc, room)?;
@@ -165,13 +170,16 @@ impl Files for MemFiles {
         ensures bytes { Reads (contents_by self.old name.now) at buf.new result }
         ensures count { Gives (tally_of self.old).given (tally_of self.new).given result }
         ensures grown { (tally_of self.old).given ≤ (tally_of self.new).given }
-        ensures cause { HasCause (tally_of self.old).read_faults (tally_of self.new).read_faults result }
-        ensures named { OnErr result (WhereSeen (tally_of self.new).last_failing (λ n. n ≡ short_name name.now)) }
+        ensures cause { HasCause (tally_of self.old).read_faults (tally_of self.new).read_faults
+            result }
+        ensures named { OnErr result (WhereSeen (tally_of self.new).last_failing
+            (λ n. n ≡ short_name name.now)) }
         ensures contents { contents_by self.new ≡ contents_by self.old }
         ensures puts { (tally_of self.new).put_faults ≡ (tally_of self.old).put_faults }
 
         ensures fails { is_err result ≡ fails_read self.old name.now }
-        ensures whole { IfOk result (λ n. WhereSeen (contents_by self.old name.now) (λ all. IsWholePart all at n buf.old buf.new)) }
+        ensures whole { IfOk result (λ n. WhereSeen (contents_by self.old name.now)
+            (λ all. IsWholePart all at n buf.old buf.new)) }
         ensures nothing { OnErr result (buf.new ≡ buf.old) }
         ensures rooms { rooms_of self.new ≡ rooms_of self.old }
         ensures tally { tally_of self.new ≡ tally_after_read (tally_of self.old) name.now result }
@@ -190,10 +198,14 @@ impl Files for MemFiles {
 
     /// Puts the bytes in the place of the whole contents; the room stays.
     fn put(&mut self, name: &str, bytes: &[u8]) -> Result<(), Failed>
-        ensures bytes { Puts (contents_by self.old name.now) (contents_by self.new name.now) bytes.now result }
-        ensures others { (other : List ℕ) → other ≢ name.now → contents_by self.new other ≡ contents_by self.old other }
-        ensures cause { HasCause (tally_of self.old).put_faults (tally_of self.new).put_faults result }
-        ensures named { OnErr result (WhereSeen (tally_of self.new).last_failing (λ n. n ≡ short_name name.now)) }
+        ensures bytes { Puts (contents_by self.old name.now) (contents_by self.new name.now)
+            bytes.now result }
+        ensures others { (other : List ℕ) → other ≢ name.now →
+            contents_by self.new other ≡ contents_by self.old other }
+        ensures cause { HasCause (tally_of self.old).put_faults (tally_of self.new).put_faults
+            result }
+        ensures named { OnErr result (WhereSeen (tally_of self.new).last_failing
+            (λ n. n ≡ short_name name.now)) }
         ensures count { (tally_of self.new).given ≡ (tally_of self.old).given }
         ensures reads { (tally_of self.new).read_faults ≡ (tally_of self.old).read_faults }
 
@@ -233,7 +245,8 @@ impl MemSink {
     /// No text yet, room for so many bytes, and the numbers of the pushes that are to fail, from 1.
     pub fn open(alloc: Global, room: usize, fails: &[u64]) -> Result<MemSink, AllocError>
         ensures empty { IfOk result (λ s. text_of s ≡ []) }
-        ensures fresh { IfOk result (λ s. ledger_of s ≡ record { room = room; fails = fails.now; calls = 0; faults = 0 }) }
+        ensures fresh { IfOk result (λ s. ledger_of s ≡ record
+            { room = room; fails = fails.now; calls = 0; faults = 0 }) }
     {
         Ok(MemSink {
             bytes: Vec::with_capacity(alloc, room)?,
@@ -259,11 +272,13 @@ impl Sink for MemSink {
 
     /// Appends the whole piece, or nothing.
     fn push(&mut self, piece: &[u8]) -> Result<(), Failed>
-        ensures bytes { Pushes (Some (text_of self.old)) (Some (text_of self.new)) piece.now result }
+        ensures bytes { Pushes (Some (text_of self.old)) (Some (text_of self.new)) piece.now
+            result }
         ensures cause { HasCause (ledger_of self.old).faults (ledger_of self.new).faults result }
 
         ensures fails { is_err result ≡ fails_push self.old (length piece.now) }
-        ensures text { text_of self.new ≡ (if is_ok result then text_of self.old ++ piece.now else text_of self.old) }
+        ensures text { text_of self.new ≡
+            (if is_ok result then text_of self.old ++ piece.now else text_of self.old) }
         ensures ledger { ledger_of self.new ≡ ledger_after (ledger_of self.old) result }
     {
         let is_listed = count_call(&self.fails, &mut self.calls);

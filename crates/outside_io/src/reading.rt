@@ -33,7 +33,8 @@ impl From<Failed> for ReadAll {
     }
 }
 
-/// The contents under a name, of at most `limit` bytes. Each turn of its loop takes at least one byte.
+/// The contents under a name, of at most `limit` bytes. Each turn of its loop takes at least one
+/// byte.
 pub fn read_all<F: Files>(
     alloc: Global,
     files: &mut F,
@@ -42,16 +43,24 @@ pub fn read_all<F: Files>(
 ) -> Result<Vec<u8>, ReadAll>
     requires { limit < 2 ^ 32 }
 
-    ensures whole { IfOk result (λ v. (length v.items ≤ limit) × WhereSeen ((F.seen files.old).contents name.now) (λ all. v.items ≡ all)) }
-    ensures counted { IfOk result (λ v. (F.seen files.new).given ≡ raised (F.seen files.old).given (length v.items)) }
+    ensures whole { IfOk result (λ v. (length v.items ≤ limit)
+        × WhereSeen ((F.seen files.old).contents name.now) (λ all. v.items ≡ all)) }
+    ensures counted { IfOk result (λ v. (F.seen files.new).given ≡ raised (F.seen files.old).given
+        (length v.items)) }
 
-    ensures failed { IsErrOf result ReadFailed → Rose (F.seen files.old).read_faults (F.seen files.new).read_faults }
-    ensures named { IsErrOf result ReadFailed → WhereSeen (F.seen files.new).last_failing (λ n. n ≡ short_name name.now) }
-    ensures too_long { IsErrOf result TooLong → raised (F.seen files.old).given (limit + 1) ≤ (F.seen files.new).given }
-    ensures long_seen { IsErrOf result TooLong → WhereSeen ((F.seen files.old).contents name.now) (λ all. limit < length all) }
+    ensures failed { IsErrOf result ReadFailed →
+        Rose (F.seen files.old).read_faults (F.seen files.new).read_faults }
+    ensures named { IsErrOf result ReadFailed →
+        WhereSeen (F.seen files.new).last_failing (λ n. n ≡ short_name name.now) }
+    ensures too_long { IsErrOf result TooLong →
+        raised (F.seen files.old).given (limit + 1) ≤ (F.seen files.new).given }
+    ensures long_seen { IsErrOf result TooLong →
+        WhereSeen ((F.seen files.old).contents name.now) (λ all. limit < length all) }
 
     // More than `limit` bytes are refused as too long, unless a read fails or memory is wanting.
-    ensures refused { WhereSeen ((F.seen files.old).contents name.now) (λ all. limit < length all → ¬ Rose (F.seen files.old).read_faults (F.seen files.new).read_faults → IsErrOf result TooLong ⊎ IsErrOf result Memory) }
+    ensures refused { WhereSeen ((F.seen files.old).contents name.now)
+        (λ all. limit < length all → ¬ Rose (F.seen files.old).read_faults
+        (F.seen files.new).read_faults → IsErrOf result TooLong ⊎ IsErrOf result Memory) }
 
     ensures later { (F.seen files.old).read_faults ≤ (F.seen files.new).read_faults }
     ensures grown { (F.seen files.old).given ≤ (F.seen files.new).given }

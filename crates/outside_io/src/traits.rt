@@ -13,23 +13,29 @@ pub trait Files {
     ghost seen: { Self → FilesSeen };
 
     /// Fills the front of the buffer with bytes from a place on, and answers how many: none only at
-    /// the end of the contents or where the buffer has no room. Fails only where it counts a failed read.
+    /// the end of the contents or where the buffer has no room. Fails only where it counts a failed
+    /// read.
     fn read(&mut self, name: &str, at: u64, buf: &mut [u8]) -> Result<usize, Failed>
         ensures bytes { Reads ((seen self.old).contents name.now) at buf.new result }
         ensures count { Gives ((seen self.old).given) ((seen self.new).given) result }
         ensures grown { (seen self.old).given ≤ (seen self.new).given }
-        ensures cause { HasCause ((seen self.old).read_faults) ((seen self.new).read_faults) result }
-        ensures named { OnErr result (WhereSeen ((seen self.new).last_failing) (λ n. n ≡ short_name name.now)) }
+        ensures cause { HasCause ((seen self.old).read_faults) ((seen self.new).read_faults)
+            result }
+        ensures named { OnErr result (WhereSeen ((seen self.new).last_failing)
+            (λ n. n ≡ short_name name.now)) }
         ensures contents { (seen self.new).contents ≡ (seen self.old).contents }
         ensures puts { (seen self.new).put_faults ≡ (seen self.old).put_faults };
 
     /// Replaces the contents under a name. Fails only where it counts a failed put, and may then
     /// leave the old contents or any front of the new ones. Other names stay.
     fn put(&mut self, name: &str, bytes: &[u8]) -> Result<(), Failed>
-        ensures bytes { Puts ((seen self.old).contents name.now) ((seen self.new).contents name.now) bytes.now result }
-        ensures others { (other : List ℕ) → other ≢ name.now → (seen self.new).contents other ≡ (seen self.old).contents other }
+        ensures bytes { Puts ((seen self.old).contents name.now) ((seen self.new).contents name.now)
+            bytes.now result }
+        ensures others { (other : List ℕ) → other ≢ name.now →
+            (seen self.new).contents other ≡ (seen self.old).contents other }
         ensures cause { HasCause ((seen self.old).put_faults) ((seen self.new).put_faults) result }
-        ensures named { OnErr result (WhereSeen ((seen self.new).last_failing) (λ n. n ≡ short_name name.now)) }
+        ensures named { OnErr result (WhereSeen ((seen self.new).last_failing)
+            (λ n. n ≡ short_name name.now)) }
         ensures count { (seen self.new).given ≡ (seen self.old).given }
         ensures reads { (seen self.new).read_faults ≡ (seen self.old).read_faults };
 }
@@ -41,11 +47,12 @@ pub trait Sink {
 
     /// Appends the whole piece, or fails, counts that, and has appended a front of it.
     fn push(&mut self, piece: &[u8]) -> Result<(), Failed>
-        ensures bytes { Pushes ((seen self.old).written) ((seen self.new).written) piece.now result }
+        ensures bytes { Pushes ((seen self.old).written) ((seen self.new).written) piece.now
+            result }
         ensures cause { HasCause ((seen self.old).faults) ((seen self.new).faults) result };
 
-    /// Passes on what is held back of the pieces that it has taken; nothing is appended. Fails only where it counts
-    /// a fault.
+    /// Passes on what is held back of the pieces that it has taken; nothing is appended. Fails only
+    /// where it counts a fault.
     fn flush(&mut self) -> Result<(), Failed>
         ensures written { (seen self.new).written ≡ (seen self.old).written }
         ensures cause { HasCause ((seen self.old).faults) ((seen self.new).faults) result };

@@ -12,8 +12,9 @@ use outside_io::Failed;
 use std::alloc::{AllocError, Global};
 use trace_text::TurnLines;
 
-/// In how many turns the instruction at a place was executed, in how many of these the task stood elsewhere than right behind it
-/// afterwards, where it is a conditional branch, and in how many the task faulted at it. A run has at most 1,000,000,000 turns.
+/// In how many turns the instruction at a place was executed, in how many of these the task stood
+/// elsewhere than right behind it afterwards, where it is a conditional branch, and in how many the
+/// task faulted at it. A run has at most 1,000,000,000 turns.
 #[derive(Clone, Copy)]
 pub struct Count {
     pub executed: u32,
@@ -69,7 +70,8 @@ impl Count {
         count
     }
 
-    /// Whether the instruction leads anywhere: one that was executed and faulted each time does not.
+    /// Whether the instruction leads anywhere: one that was executed and faulted each time does
+    /// not.
     pub fn leads_on(&self) -> bool
         ensures { result ≡ leads_on self.now }
     {
@@ -78,7 +80,8 @@ impl Count {
 }
 
 impl Begun {
-    // Whether it is a conditional branch that was taken, where the task stands at an address afterwards.
+    // Whether it is a conditional branch that was taken, where the task stands at an address
+    // afterwards.
     fn is_taken(&self, pc: u32) -> bool
         ensures { result ≡ is_taken self.now pc }
     {
@@ -146,7 +149,8 @@ impl PlaceCounts {
 
     // The turn ends with a task's PC at an address.
     fn end(&mut self, pc: u32)
-        ensures { (registers : List ℕ) (n z c v : Bool) → slice_index registers 7 ≡ pc → HeardNote self.old (note.High registers n z c v) self.new }
+        ensures { (registers : List ℕ) (n z c v : Bool) → slice_index registers 7 ≡ pc →
+            HeardNote self.old (note.High registers n z c v) self.new }
     {
         if let Some(begun) = self.begun {
             self.begun = None;

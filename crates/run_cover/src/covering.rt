@@ -21,8 +21,8 @@ use outside_io::{Failed, Sink};
 use std::alloc::{AllocError, Global};
 use thumb_asm::Label;
 
-/// What a run executed at each even address of the flash and of the RAM, twelve bytes each, 7.5 MiB together; and which of these are
-/// known to be code. All of it is made once.
+/// What a run executed at each even address of the flash and of the RAM, twelve bytes each, 7.5 MiB
+/// together; and which of these are known to be code. All of it is made once.
 #[derive(Drop)]
 pub struct Cover {
     pub counts: PlaceCounts,
@@ -44,16 +44,20 @@ impl Cover {
     }
 }
 
-/// Turns up to the end of the run, each of which is counted. No memory is taken in them, and counting never fails.
+/// Turns up to the end of the run, each of which is counted. No memory is taken in them, and
+/// counting never fails.
 pub fn count_run(board: &mut Board, limit: u32, counts: &mut PlaceCounts) -> End
     requires stood { StandsForSome (boxed shown) board.old }
     requires from { turns_of board.old ≤ limit }
     requires few { limit ≤ 1000000000 }
     requires new { IsNewlyCounted counts.old }
 
-    ensures counted { (x : Scenario) (s : State) → Stands (boxed shown) x board.old s → count_of counts.new ≡ counted (run All x (limit - s.turn) s).notes }
-    ensures end { (x : Scenario) (s : State) → Stands (boxed shown) x board.old s → result ≡ (run All x (limit - s.turn) s).end }
-    ensures last { (x : Scenario) (s : State) → Stands (boxed shown) x board.old s → Stands (boxed shown) x board.new (run All x (limit - s.turn) s).last }
+    ensures counted { (x : Scenario) (s : State) → Stands (boxed shown) x board.old s →
+        count_of counts.new ≡ counted (run All x (limit - s.turn) s).notes }
+    ensures end { (x : Scenario) (s : State) → Stands (boxed shown) x board.old s →
+        result ≡ (run All x (limit - s.turn) s).end }
+    ensures last { (x : Scenario) (s : State) → Stands (boxed shown) x board.old s →
+        Stands (boxed shown) x board.new (run All x (limit - s.turn) s).last }
     ensures within { turns_of board.new ≤ limit }
 {
     match play(board, limit, Level::All, counts) {
@@ -62,11 +66,13 @@ pub fn count_run(board: &mut Board, limit: u32, counts: &mut PlaceCounts) -> End
     }
 }
 
-/// Turns up to the end of the run, of which none is told, and then its cover (docs/FORMATS.md, Cover): each region of code, and
-/// what is known to be an instruction in it with how often it was executed, a line each, and before it a line for each of the
-/// labels at its address, in their order. That number is the number of turns in which a task executed it, by
-/// `each_count_is_a_number_of_turns`; what is known is what was executed, and what the direct ways of known instructions lead to,
-/// and nothing else. After a failing push nothing more is pushed; the run was made whole.
+/// Turns up to the end of the run, of which none is told, and then its cover (docs/FORMATS.md,
+/// Cover): each region of code, and what is known to be an instruction in it with how often it was
+/// executed, a line each, and before it a line for each of the labels at its address, in their
+/// order. That number is the number of turns in which a task executed it, by
+/// `each_count_is_a_number_of_turns`; what is known is what was executed, and what the direct ways
+/// of known instructions lead to, and nothing else. After a failing push nothing more is pushed;
+/// the run was made whole.
 ///
 /// # Errors
 ///
@@ -84,12 +90,15 @@ pub fn write_cover<S: Sink>(
     requires new { IsNew cover.old }
 
     ensures text { (x : Scenario) (s : State) → Stands (boxed shown) x board.old s →
-        (k : ℕ → Bool) × IsKnownOf x.setup (run All x (limit - s.turn) s) k × Pushes (S.seen out.old).written (S.seen out.new).written (cover_text x.setup (run All x (limit - s.turn) s) k (labels_in labels.now)) result }
+        (k : ℕ → Bool) × IsKnownOf x.setup (run All x (limit - s.turn) s) k
+        × Pushes (S.seen out.old).written (S.seen out.new).written
+        (cover_text x.setup (run All x (limit - s.turn) s) k (labels_in labels.now)) result }
     ensures end { (x : Scenario) (s : State) → Stands (boxed shown) x board.old s →
         IfOk result (λ e. e ≡ (run All x (limit - s.turn) s).end) }
 
     // Where a push failed, too, the board stands at the end of the run.
-    ensures last { (x : Scenario) (s : State) → Stands (boxed shown) x board.old s → Stands (boxed shown) x board.new (run All x (limit - s.turn) s).last }
+    ensures last { (x : Scenario) (s : State) → Stands (boxed shown) x board.old s →
+        Stands (boxed shown) x board.new (run All x (limit - s.turn) s).last }
     ensures within { turns_of board.new ≤ limit }
     ensures cause { HasCause (S.seen out.old).faults (S.seen out.new).faults result }
 {

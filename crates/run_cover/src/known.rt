@@ -1,4 +1,5 @@
-//! What is known to be code: what was executed, and what the direct ways of known instructions lead to.
+//! What is known to be code: what was executed, and what the direct ways of known instructions lead
+//! to.
 ghost use Rattle.std.specs.Prelude.{◌≡◌, ◌≤◌, ◌<◌, ◌+◌, ◌^◌, ◌&&◌, true, false, IfOk};
 ghost use Rattle.task_table.specs.model.State.{State};
 ghost use Rattle.board_model.specs.Script.{Scenario};
@@ -35,7 +36,8 @@ impl RegionTest for CodeAround {
 
 // Whether some task may execute the byte at an address.
 fn is_in_code(board: &Board, addr: u32) -> bool
-    ensures { (x : Scenario) (s : State) → Stands (boxed shown) x board.now s → result ≡ is_in_code x.setup addr }
+    ensures { (x : Scenario) (s : State) → Stands (boxed shown) x board.now s →
+        result ≡ is_in_code x.setup addr }
 {
     first_region(board, &CodeAround { addr }).is_some()
 }
@@ -43,7 +45,8 @@ fn is_in_code(board: &Board, addr: u32) -> bool
 // Whether the second halfword of what stands at an address may be executed too, if it has a second.
 fn is_whole(board: &Board, addr: u32) -> bool
     requires { addr + 2 < 2 ^ 32 }
-    ensures { (x : Scenario) (s : State) → Stands (boxed shown) x board.now s → result ≡ is_whole x.setup s.memory addr }
+    ensures { (x : Scenario) (s : State) → Stands (boxed shown) x board.now s →
+        result ≡ is_whole x.setup s.memory addr }
 {
     !is_wide(half_at(board, addr)) || is_in_code(board, addr + 2)
 }
@@ -51,7 +54,8 @@ fn is_whole(board: &Board, addr: u32) -> bool
 // Whether each of its halfwords may be.
 fn lies_in_code(board: &Board, addr: u32) -> bool
     requires { addr + 2 < 2 ^ 32 }
-    ensures { (x : Scenario) (s : State) → Stands (boxed shown) x board.now s → result ≡ lies_in_code x.setup s.memory addr }
+    ensures { (x : Scenario) (s : State) → Stands (boxed shown) x board.now s →
+        result ≡ lies_in_code x.setup s.memory addr }
 {
     is_in_code(board, addr) && is_whole(board, addr)
 }
@@ -59,7 +63,8 @@ fn lies_in_code(board: &Board, addr: u32) -> bool
 // Whether an instruction stands there that is not a halfword of zeros.
 fn is_insn(board: &Board, addr: u32) -> bool
     requires { addr + 3 < 2 ^ 32 }
-    ensures { (x : Scenario) (s : State) → Stands (boxed shown) x board.now s → result ≡ is_insn s.memory addr }
+    ensures { (x : Scenario) (s : State) → Stands (boxed shown) x board.now s →
+        result ≡ is_insn s.memory addr }
 {
     half_at(board, addr) != 0 && stands_at(board, addr).is_some()
 }
@@ -67,14 +72,16 @@ fn is_insn(board: &Board, addr: u32) -> bool
 // Whether it does so, and in regions of code.
 fn is_insn_in_code(board: &Board, addr: u32) -> bool
     requires { addr + 3 < 2 ^ 32 }
-    ensures { (x : Scenario) (s : State) → Stands (boxed shown) x board.now s → result ≡ (is_insn s.memory addr && lies_in_code x.setup s.memory addr) }
+    ensures { (x : Scenario) (s : State) → Stands (boxed shown) x board.now s →
+        result ≡ (is_insn s.memory addr && lies_in_code x.setup s.memory addr) }
 {
     is_insn(board, addr) && lies_in_code(board, addr)
 }
 
 // Whether one stands at a place of a region of code.
 fn is_code(board: &Board, addr: u32) -> bool
-    ensures code { (x : Scenario) (s : State) → Stands (boxed shown) x board.now s → result ≡ is_code x.setup s.memory addr }
+    ensures code { (x : Scenario) (s : State) → Stands (boxed shown) x board.now s →
+        result ≡ is_code x.setup s.memory addr }
     ensures place { result ≡ true → is_place addr ≡ true }
 {
     match place_of(addr) {
@@ -83,8 +90,8 @@ fn is_code(board: &Board, addr: u32) -> bool
     }
 }
 
-/// Which places are known, and those of them whose ways are still to be followed. Each is put there at most once, so there is room
-/// for all of them from the start.
+/// Which places are known, and those of them whose ways are still to be followed. Each is put there
+/// at most once, so there is room for all of them from the start.
 #[derive(Drop)]
 pub struct Marks {
     pub known: Vec<bool>,
@@ -154,7 +161,8 @@ impl Marks {
         requires marks { AreMarks self.old }
         ensures marks { AreMarks self.new }
         ensures less { work self.new ≤ work self.old }
-        ensures led { (x : Scenario) (s : State) → Stands (boxed shown) x board.now s → HasLed x.setup s.memory way self.old self.new }
+        ensures led { (x : Scenario) (s : State) → Stands (boxed shown) x board.now s →
+            HasLed x.setup s.memory way self.old self.new }
     {
         let Some(addr) = way else {
             return;
@@ -170,7 +178,8 @@ impl Marks {
         requires known { known_of self.old addr ≡ true }
         ensures marks { AreMarks self.new }
         ensures less { work self.new ≤ work self.old }
-        ensures followed { (x : Scenario) (s : State) → Stands (boxed shown) x board.now s → HasFollowed x.setup s.memory (count_of counts.now) addr self.old self.new }
+        ensures followed { (x : Scenario) (s : State) → Stands (boxed shown) x board.now s →
+            HasFollowed x.setup s.memory (count_of counts.now) addr self.old self.new }
     {
         if !counts.at(addr).leads_on() {
             return;
@@ -191,7 +200,8 @@ impl Marks {
     /// What is known, once a run was counted.
     pub fn find(&mut self, board: &Board, counts: &PlaceCounts)
         requires { IsUnmarked self.old }
-        ensures { (x : Scenario) (s : State) → Stands (boxed shown) x board.now s → IsKnown x.setup s.memory (count_of counts.now) (known_of self.new) }
+        ensures { (x : Scenario) (s : State) → Stands (boxed shown) x board.now s →
+            IsKnown x.setup s.memory (count_of counts.now) (known_of self.new) }
     {
         self.begin_all(counts);
         while let Some(addr) = self.next() {

@@ -1,4 +1,5 @@
-//! How often each instruction of an image was executed in a run, and what of it is known to be code (docs/FORMATS.md, Cover).
+//! How often each instruction of an image was executed in a run, and what of it is known to be code
+//! (docs/FORMATS.md, Cover).
 #![tactic(auto)]
 
 mod counts;

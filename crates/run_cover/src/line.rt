@@ -107,13 +107,14 @@ fn push_faulted(count: u32, out: &mut Line)
     }
 }
 
-/// The line of a known instruction: how often it was executed, its address, what stands there, and how often a conditional branch
-/// was taken, or the task faulted.
+/// The line of a known instruction: how often it was executed, its address, what stands there, and
+/// how often a conditional branch was taken, or the task faulted.
 #[tactic(auto, unfolding(crate::specs::Text::insn_line))]
 pub fn insn_line(board: &Board, count: Count, addr: u32, out: &mut Line)
     requires inside { addr + 3 < 2 ^ 32 }
     requires empty { out.old.bytes ≡ [] }
-    ensures { (x : Scenario) (s : State) → Stands (boxed shown) x board.now s → out.new.bytes ≡ insn_line s.memory count addr }
+    ensures { (x : Scenario) (s : State) → Stands (boxed shown) x board.now s →
+        out.new.bytes ≡ insn_line s.memory count addr }
 {
     let code = insn_code(board, addr);
     let conditional = is_conditional(stands_at(board, addr));

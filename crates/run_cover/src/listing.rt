@@ -41,7 +41,8 @@ impl RegionTest for CodeAt {
 #[tactic(auto, unfolding(crate::specs::Text::code_at))]
 fn code_at(board: &Board, base: u32) -> Option<Region>
     ensures base { IfSome result (λ r. r.base ≡ base) }
-    ensures found { (x : Scenario) (s : State) → Stands (boxed shown) x board.now s → result ≡ code_at x.setup base }
+    ensures found { (x : Scenario) (s : State) → Stands (boxed shown) x board.now s →
+        result ≡ code_at x.setup base }
 {
     first_region(board, &CodeAt { base })
 }
@@ -50,7 +51,8 @@ fn code_at(board: &Board, base: u32) -> Option<Region>
 fn is_taken_up(board: &Board, cover: &Cover, addr: u32) -> bool
     requires above { 2 ≤ addr }
     requires inside { addr + 3 < 2 ^ 32 }
-    ensures { (x : Scenario) (s : State) → Stands (boxed shown) x board.now s → result ≡ is_taken_up (covered s.memory cover.now) addr }
+    ensures { (x : Scenario) (s : State) → Stands (boxed shown) x board.now s →
+        result ≡ is_taken_up (covered s.memory cover.now) addr }
 {
     cover.marks.has(addr) || (cover.marks.has(addr - 2) && is_wide(half_at(board, addr - 2)))
 }
@@ -59,7 +61,8 @@ fn is_taken_up(board: &Board, cover: &Cover, addr: u32) -> bool
 fn rest_len(board: &Board, cover: &Cover, addr: u32, most: u32) -> u32
     requires above { 2 ≤ addr }
     requires inside { addr + 2 * most + 3 < 2 ^ 32 }
-    ensures len { (x : Scenario) (s : State) → Stands (boxed shown) x board.now s → result ≡ rest_len (covered s.memory cover.now) addr most }
+    ensures len { (x : Scenario) (s : State) → Stands (boxed shown) x board.now s →
+        result ≡ rest_len (covered s.memory cover.now) addr most }
     ensures few { result ≤ most }
 {
     for i in 0..most {
@@ -74,14 +77,17 @@ fn rest_len(board: &Board, cover: &Cover, addr: u32, most: u32) -> u32
 fn begins_rest(board: &Board, cover: &Cover, addr: u32, j: u32) -> bool
     requires above { 4 ≤ addr }
     requires inside { addr + 3 < 2 ^ 32 }
-    ensures { (x : Scenario) (s : State) → Stands (boxed shown) x board.now s → result ≡ begins_rest (covered s.memory cover.now) addr j }
+    ensures { (x : Scenario) (s : State) → Stands (boxed shown) x board.now s →
+        result ≡ begins_rest (covered s.memory cover.now) addr j }
 {
     !is_taken_up(board, cover, addr) && (j == 0 || is_taken_up(board, cover, addr - 2))
 }
 
 fn push_insn<S: Sink>(board: &Board, cover: &Cover, addr: u32, out: &mut S) -> Result<(), Failed>
     requires inside { addr + 3 < 2 ^ 32 }
-    ensures bytes { PushesFor (boxed shown) board.now (λ x s. insn_line s.memory (count_of cover.now.counts addr) addr) (S.seen out.old) (S.seen out.new) result }
+    ensures bytes { PushesFor (boxed shown) board.now
+        (λ x s. insn_line s.memory (count_of cover.now.counts addr) addr) (S.seen out.old)
+        (S.seen out.new) result }
     ensures cause { HasCause (S.seen out.old).faults (S.seen out.new).faults result }
 {
     let mut line = Line::new();
@@ -90,7 +96,8 @@ fn push_insn<S: Sink>(board: &Board, cover: &Cover, addr: u32, out: &mut S) -> R
 }
 
 fn push_rest<S: Sink>(addr: u32, bytes: u32, out: &mut S) -> Result<(), Failed>
-    ensures bytes { Pushes (S.seen out.old).written (S.seen out.new).written (rest_line addr bytes) result }
+    ensures bytes { Pushes (S.seen out.old).written (S.seen out.new).written (rest_line addr bytes)
+        result }
     ensures cause { HasCause (S.seen out.old).faults (S.seen out.new).faults result }
 {
     let mut line = Line::new();
@@ -99,7 +106,8 @@ fn push_rest<S: Sink>(addr: u32, bytes: u32, out: &mut S) -> Result<(), Failed>
 }
 
 fn push_label_line<S: Sink>(label: &Label, out: &mut S) -> Result<(), Failed>
-    ensures bytes { Pushes (S.seen out.old).written (S.seen out.new).written (label_line (label_of label.now)) result }
+    ensures bytes { Pushes (S.seen out.old).written (S.seen out.new).written
+        (label_line (label_of label.now)) result }
     ensures cause { HasCause (S.seen out.old).faults (S.seen out.new).faults result }
 {
     let mut front = Line::new();
@@ -111,7 +119,8 @@ fn push_label_line<S: Sink>(label: &Label, out: &mut S) -> Result<(), Failed>
 
 // The line of a label, where it stands at an address.
 fn push_label<S: Sink>(label: &Label, addr: u32, out: &mut S) -> Result<(), Failed>
-    ensures bytes { Pushes (S.seen out.old).written (S.seen out.new).written (label_at addr (label_of label.now)) result }
+    ensures bytes { Pushes (S.seen out.old).written (S.seen out.new).written
+        (label_at addr (label_of label.now)) result }
     ensures cause { HasCause (S.seen out.old).faults (S.seen out.new).faults result }
 {
     if label.at == addr {
@@ -122,7 +131,8 @@ fn push_label<S: Sink>(label: &Label, addr: u32, out: &mut S) -> Result<(), Fail
 
 // The lines of the labels at an address.
 fn push_labels<S: Sink>(labels: &[Label], addr: u32, out: &mut S) -> Result<(), Failed>
-    ensures bytes { Pushes (S.seen out.old).written (S.seen out.new).written (labels_text (labels_in labels.now) addr) result }
+    ensures bytes { Pushes (S.seen out.old).written (S.seen out.new).written
+        (labels_text (labels_in labels.now) addr) result }
     ensures cause { HasCause (S.seen out.old).faults (S.seen out.new).faults result }
 {
     for label in labels {
@@ -140,7 +150,9 @@ fn push_known<S: Sink>(
     out: &mut S,
 ) -> Result<(), Failed>
     requires inside { addr + 3 < 2 ^ 32 }
-    ensures bytes { PushesFor (boxed shown) board.now (λ x s. known_text (covered s.memory cover.now) (labels_in labels.now) addr) (S.seen out.old) (S.seen out.new) result }
+    ensures bytes { PushesFor (boxed shown) board.now
+        (λ x s. known_text (covered s.memory cover.now) (labels_in labels.now) addr)
+        (S.seen out.old) (S.seen out.new) result }
     ensures cause { HasCause (S.seen out.old).faults (S.seen out.new).faults result }
 {
     push_labels(labels, addr, out)?;
@@ -160,7 +172,9 @@ fn push_place<S: Sink>(
     requires one { j < count }
     requires above { 4 ≤ addr }
     requires inside { addr + 2 * (count - j) + 3 < 2 ^ 32 }
-    ensures bytes { PushesFor (boxed shown) board.now (λ x s. place_text (covered s.memory cover.now) (labels_in labels.now) count j addr) (S.seen out.old) (S.seen out.new) result }
+    ensures bytes { PushesFor (boxed shown) board.now
+        (λ x s. place_text (covered s.memory cover.now) (labels_in labels.now) count j addr)
+        (S.seen out.old) (S.seen out.new) result }
     ensures cause { HasCause (S.seen out.old).faults (S.seen out.new).faults result }
 {
     if cover.marks.has(addr) {
@@ -183,7 +197,9 @@ fn push_rows<S: Sink>(
 ) -> Result<(), Failed>
     requires above { 4 ≤ base }
     requires inside { base + 2 * count + 3 < 2 ^ 32 }
-    ensures bytes { PushesFor (boxed shown) board.now (λ x s. rows_text (covered s.memory cover.now) (labels_in labels.now) base count) (S.seen out.old) (S.seen out.new) result }
+    ensures bytes { PushesFor (boxed shown) board.now
+        (λ x s. rows_text (covered s.memory cover.now) (labels_in labels.now) base count)
+        (S.seen out.old) (S.seen out.new) result }
     ensures cause { HasCause (S.seen out.old).faults (S.seen out.new).faults result }
 {
     for j in 0..count {
@@ -193,7 +209,8 @@ fn push_rows<S: Sink>(
 }
 
 fn push_code_line<S: Sink>(region: &Region, out: &mut S) -> Result<(), Failed>
-    ensures bytes { Pushes (S.seen out.old).written (S.seen out.new).written (code_line region.now) result }
+    ensures bytes { Pushes (S.seen out.old).written (S.seen out.new).written (code_line region.now)
+        result }
     ensures cause { HasCause (S.seen out.old).faults (S.seen out.new).faults result }
 {
     let mut line = Line::new();
@@ -202,7 +219,8 @@ fn push_code_line<S: Sink>(region: &Region, out: &mut S) -> Result<(), Failed>
 }
 
 fn push_covered<S: Sink>(totals: Totals, out: &mut S) -> Result<(), Failed>
-    ensures bytes { Pushes (S.seen out.old).written (S.seen out.new).written (codes "covered " ++ totals_text totals) result }
+    ensures bytes { Pushes (S.seen out.old).written (S.seen out.new).written
+        (codes "covered " ++ totals_text totals) result }
     ensures cause { HasCause (S.seen out.old).faults (S.seen out.new).faults result }
 {
     let mut line = Line::new();
@@ -212,7 +230,8 @@ fn push_covered<S: Sink>(totals: Totals, out: &mut S) -> Result<(), Failed>
 }
 
 fn push_in_all<S: Sink>(totals: Totals, out: &mut S) -> Result<(), Failed>
-    ensures bytes { Pushes (S.seen out.old).written (S.seen out.new).written (codes "in all " ++ totals_text totals) result }
+    ensures bytes { Pushes (S.seen out.old).written (S.seen out.new).written
+        (codes "in all " ++ totals_text totals) result }
     ensures cause { HasCause (S.seen out.old).faults (S.seen out.new).faults result }
 {
     let mut line = Line::new();
@@ -231,7 +250,8 @@ fn place_count(region: &Region) -> u32
 
 fn region_totals(board: &Board, cover: &Cover, region: &Region) -> Totals
     requires below { region.now.base < 2 ^ 31 }
-    ensures is { (x : Scenario) (s : State) → Stands (boxed shown) x board.now s → result ≡ region_totals (covered s.memory cover.now) region.now }
+    ensures is { (x : Scenario) (s : State) → Stands (boxed shown) x board.now s →
+        result ≡ region_totals (covered s.memory cover.now) region.now }
     ensures few { AreAtMost 1048576 result }
 {
     totals_in(board, cover, region.base, place_count(region))
@@ -247,7 +267,9 @@ fn push_region<S: Sink>(
 ) -> Result<(), Failed>
     requires above { 4 ≤ region.now.base }
     requires below { region.now.base < 2 ^ 31 }
-    ensures bytes { PushesFor (boxed shown) board.now (λ x s. region_text (covered s.memory cover.now) (labels_in labels.now) region.now) (S.seen out.old) (S.seen out.new) result }
+    ensures bytes { PushesFor (boxed shown) board.now
+        (λ x s. region_text (covered s.memory cover.now) (labels_in labels.now) region.now)
+        (S.seen out.old) (S.seen out.new) result }
     ensures cause { HasCause (S.seen out.old).faults (S.seen out.new).faults result }
 {
     push_code_line(region, out)?;
@@ -285,7 +307,9 @@ fn push_base<S: Sink>(
     out: &mut S,
 ) -> Result<(), Failed>
     requires inside { i < 5120 }
-    ensures bytes { PushesFor (boxed shown) board.now (λ x s. base_text x.setup (covered s.memory cover.now) (labels_in labels.now) i) (S.seen out.old) (S.seen out.new) result }
+    ensures bytes { PushesFor (boxed shown) board.now
+        (λ x s. base_text x.setup (covered s.memory cover.now) (labels_in labels.now) i)
+        (S.seen out.old) (S.seen out.new) result }
     ensures cause { HasCause (S.seen out.old).faults (S.seen out.new).faults result }
 {
     match code_at(board, base_of(i)) {
@@ -297,7 +321,8 @@ fn push_base<S: Sink>(
 // What of it was executed.
 fn base_totals(board: &Board, cover: &Cover, i: u32) -> Totals
     requires inside { i < 5120 }
-    ensures is { (x : Scenario) (s : State) → Stands (boxed shown) x board.now s → result ≡ base_totals x.setup (covered s.memory cover.now) i }
+    ensures is { (x : Scenario) (s : State) → Stands (boxed shown) x board.now s →
+        result ≡ base_totals x.setup (covered s.memory cover.now) i }
     ensures few { AreAtMost 1048576 result }
 {
     match code_at(board, base_of(i)) {
@@ -312,7 +337,9 @@ fn push_bases<S: Sink>(
     labels: &[Label],
     out: &mut S,
 ) -> Result<(), Failed>
-    ensures bytes { PushesFor (boxed shown) board.now (λ x s. bases_text x.setup (covered s.memory cover.now) (labels_in labels.now) 5120) (S.seen out.old) (S.seen out.new) result }
+    ensures bytes { PushesFor (boxed shown) board.now
+        (λ x s. bases_text x.setup (covered s.memory cover.now) (labels_in labels.now) 5120)
+        (S.seen out.old) (S.seen out.new) result }
     ensures cause { HasCause (S.seen out.old).faults (S.seen out.new).faults result }
 {
     for i in 0..BASES {
@@ -323,7 +350,8 @@ fn push_bases<S: Sink>(
 
 #[tactic(auto, unfolding(crate::specs::Text::all_totals))]
 fn all_totals(board: &Board, cover: &Cover) -> Totals
-    ensures { (x : Scenario) (s : State) → Stands (boxed shown) x board.now s → result ≡ all_totals x.setup (covered s.memory cover.now) 5120 }
+    ensures { (x : Scenario) (s : State) → Stands (boxed shown) x board.now s →
+        result ≡ all_totals x.setup (covered s.memory cover.now) 5120 }
 {
     let mut totals = Totals::none();
     for i in 0..BASES {
@@ -332,10 +360,11 @@ fn all_totals(board: &Board, cover: &Cover) -> Totals
     totals
 }
 
-/// Each different region of code by ascending base: a line `code <base> <size>`, a line for each known instruction, with a line for
-/// each of the labels at its address before it, and for bytes of none, and a line that says how much was executed; and then a line
-/// that says so of all (docs/FORMATS.md, Cover). A line is one push, that of a label three. After a failing push nothing more is
-/// pushed.
+/// Each different region of code by ascending base: a line `code <base> <size>`, a line for each
+/// known instruction, with a line for each of the labels at its address before it, and for bytes of
+/// none, and a line that says how much was executed; and then a line that says so of all
+/// (docs/FORMATS.md, Cover). A line is one push, that of a label three. After a failing push
+/// nothing more is pushed.
 ///
 /// # Errors
 ///
@@ -346,7 +375,9 @@ pub fn push_listing<S: Sink>(
     labels: &[Label],
     out: &mut S,
 ) -> Result<(), Failed>
-    ensures bytes { PushesFor (boxed shown) board.now (λ x s. listing_text x.setup (covered s.memory cover.now) (labels_in labels.now)) (S.seen out.old) (S.seen out.new) result }
+    ensures bytes { PushesFor (boxed shown) board.now
+        (λ x s. listing_text x.setup (covered s.memory cover.now) (labels_in labels.now))
+        (S.seen out.old) (S.seen out.new) result }
     ensures cause { HasCause (S.seen out.old).faults (S.seen out.new).faults result }
 {
     push_bases(board, cover, labels, out)?;

@@ -1,4 +1,5 @@
-//! Where an instruction may stand: the even addresses of the flash and of the RAM, and their numbers in a table.
+//! Where an instruction may stand: the even addresses of the flash and of the RAM, and their
+//! numbers in a table.
 ghost use Rattle.std.specs.Prelude.{◌≡◌, ◌<◌};
 ghost use Rattle.run_cover.specs.Places.{address_of, place_of};
 

@@ -12,8 +12,8 @@ use crate::covering::Cover;
 use crate::ways::{is_conditional, stands_at};
 use board_core::Board;
 
-/// How many known instructions were executed, and how many there are; how many ways of conditional branches were gone, and how many
-/// there are.
+/// How many known instructions were executed, and how many there are; how many ways of conditional
+/// branches were gone, and how many there are.
 #[derive(Clone, Copy)]
 pub struct Totals {
     pub executed: u64,
@@ -84,7 +84,8 @@ pub fn totals_of(conditional: bool, count: Count) -> Totals
 #[tactic(auto, unfolding(crate::specs::Totals::totals_at))]
 fn totals_at(board: &Board, cover: &Cover, addr: u32) -> Totals
     requires { addr + 3 < 2 ^ 32 }
-    ensures is { (x : Scenario) (s : State) → Stands (boxed shown) x board.now s → result ≡ totals_at (covered s.memory cover.now) addr }
+    ensures is { (x : Scenario) (s : State) → Stands (boxed shown) x board.now s →
+        result ≡ totals_at (covered s.memory cover.now) addr }
     ensures few { AreAtMost 2 result }
 {
     if !cover.marks.has(addr) {
@@ -100,7 +101,8 @@ fn totals_at(board: &Board, cover: &Cover, addr: u32) -> Totals
 #[tactic(auto, unfolding(crate::specs::Totals::totals_in))]
 pub fn totals_in(board: &Board, cover: &Cover, base: u32, count: u32) -> Totals
     requires inside { base + 2 * count + 3 < 2 ^ 32 }
-    ensures is { (x : Scenario) (s : State) → Stands (boxed shown) x board.now s → result ≡ totals_in (covered s.memory cover.now) base count }
+    ensures is { (x : Scenario) (s : State) → Stands (boxed shown) x board.now s →
+        result ≡ totals_in (covered s.memory cover.now) base count }
     ensures few { AreAtMost (2 * count) result }
 {
     let mut totals = Totals::none();

@@ -28,7 +28,8 @@ pub struct Source<'a> {
 
 // Whether a conditional branch stands at an address.
 fn is_branch(board: &Board, addr: u32) -> bool
-    ensures { (x : Scenario) (s : State) → Stands (boxed shown) x board.now s → result ≡ is_branch s.memory addr }
+    ensures { (x : Scenario) (s : State) → Stands (boxed shown) x board.now s →
+        result ≡ is_branch s.memory addr }
 {
     match place_of(addr) {
         None => false,
@@ -81,7 +82,9 @@ fn push_branch(
     line: &InsnLine,
     out: &mut String,
 ) -> Result<(), AllocError>
-    ensures { (x : Scenario) (s : State) → Stands (boxed shown) x board.now s → OnOk result (string_bytes out.new ≡ string_bytes out.old ++ branch_text s.memory (count_of counts.now) line.now) }
+    ensures { (x : Scenario) (s : State) → Stands (boxed shown) x board.now s →
+        OnOk result (string_bytes out.new ≡ string_bytes out.old
+        ++ branch_text s.memory (count_of counts.now) line.now) }
 {
     if is_branch(board, line.at) {
         push_ways(alloc, line.number, counts.at(line.at), out)?;
@@ -96,7 +99,9 @@ fn push_branches(
     lines: &[InsnLine],
     out: &mut String,
 ) -> Result<(), AllocError>
-    ensures { (x : Scenario) (s : State) → Stands (boxed shown) x board.now s → OnOk result (string_bytes out.new ≡ string_bytes out.old ++ flat_map (branch_text s.memory (count_of counts.now)) lines.now) }
+    ensures { (x : Scenario) (s : State) → Stands (boxed shown) x board.now s →
+        OnOk result (string_bytes out.new ≡ string_bytes out.old
+        ++ flat_map (branch_text s.memory (count_of counts.now)) lines.now) }
 {
     for line in lines {
         push_branch(alloc, board, counts, line, out)?;
@@ -120,7 +125,8 @@ fn push_data_lines(
     lines: &[InsnLine],
     out: &mut String,
 ) -> Result<(), AllocError>
-    ensures { OnOk result (string_bytes out.new ≡ string_bytes out.old ++ flat_map (data_line (count_of counts.now)) lines.now) }
+    ensures { OnOk result (string_bytes out.new ≡ string_bytes out.old
+        ++ flat_map (data_line (count_of counts.now)) lines.now) }
 {
     for line in lines {
         out.push_str(&data_line(alloc, counts, line)?)?;
@@ -131,7 +137,8 @@ fn push_data_lines(
 // How many lines and ways there are, and how many of them were executed.
 #[tactic(auto, unfolding(crate::specs::Tracefile::source_totals))]
 fn source_totals(board: &Board, counts: &PlaceCounts, lines: &[InsnLine]) -> Totals
-    ensures { (x : Scenario) (s : State) → Stands (boxed shown) x board.now s → result ≡ source_totals s.memory (count_of counts.now) lines.now }
+    ensures { (x : Scenario) (s : State) → Stands (boxed shown) x board.now s →
+        result ≡ source_totals s.memory (count_of counts.now) lines.now }
 {
     let mut totals = Totals::none();
     for line in lines {
@@ -174,7 +181,9 @@ fn push_source(
     source: Source<'_>,
     out: &mut String,
 ) -> Result<(), AllocError>
-    ensures { (x : Scenario) (s : State) → Stands (boxed shown) x board.now s → OnOk result (string_bytes out.new ≡ string_bytes out.old ++ source_text s.memory (count_of counts.now) (section_of source.entry)) }
+    ensures { (x : Scenario) (s : State) → Stands (boxed shown) x board.now s →
+        OnOk result (string_bytes out.new ≡ string_bytes out.old
+        ++ source_text s.memory (count_of counts.now) (section_of source.entry)) }
 {
     let totals = source_totals(board, counts, source.lines);
     out.push_str(&head_lines(alloc, source)?)?;
@@ -191,7 +200,9 @@ fn tracefile_text(
     counts: &PlaceCounts,
     sources: &[Source<'_>],
 ) -> Result<String, AllocError>
-    ensures { (x : Scenario) (s : State) → Stands (boxed shown) x board.now s → IfOk result (λ text. string_bytes text ≡ tracefile_text s.memory (count_of counts.now) (map section_of sources.now)) }
+    ensures { (x : Scenario) (s : State) → Stands (boxed shown) x board.now s →
+        IfOk result (λ text. string_bytes text ≡ tracefile_text s.memory (count_of counts.now)
+        (map section_of sources.now)) }
 {
     let mut text = String::new(alloc);
     for source in sources {
@@ -200,9 +211,10 @@ fn tracefile_text(
     Ok(text)
 }
 
-/// Turns up to the end of the run, of which none is told, and then lcov's tracefile of it (docs/FORMATS.md, Tracefile): a section
-/// for each source, with how often each of its lines was executed, and how often each of its conditional branches was taken and
-/// not taken. What stands at a line's address at the end of the run tells whether it is one.
+/// Turns up to the end of the run, of which none is told, and then lcov's tracefile of it
+/// (docs/FORMATS.md, Tracefile): a section for each source, with how often each of its lines was
+/// executed, and how often each of its conditional branches was taken and not taken. What stands at
+/// a line's address at the end of the run tells whether it is one.
 ///
 /// # Errors
 ///
@@ -220,10 +232,12 @@ pub fn write_tracefile(
     requires new { IsNewlyCounted counts.old }
 
     ensures text { (x : Scenario) (s : State) → Stands (boxed shown) x board.old s →
-        IfOk result (λ r. string_bytes r.0 ≡ run_tracefile (run All x (limit - s.turn) s) (map section_of sources.now)) }
+        IfOk result (λ r. string_bytes r.0 ≡ run_tracefile (run All x (limit - s.turn) s)
+        (map section_of sources.now)) }
     ensures end { (x : Scenario) (s : State) → Stands (boxed shown) x board.old s →
         IfOk result (λ r. r.1 ≡ (run All x (limit - s.turn) s).end) }
-    ensures last { (x : Scenario) (s : State) → Stands (boxed shown) x board.old s → Stands (boxed shown) x board.new (run All x (limit - s.turn) s).last }
+    ensures last { (x : Scenario) (s : State) → Stands (boxed shown) x board.old s →
+        Stands (boxed shown) x board.new (run All x (limit - s.turn) s).last }
     ensures within { turns_of board.new ≤ limit }
 {
     let end = count_run(board, limit, counts);

@@ -13,7 +13,8 @@ use board_run::byte_at;
 use thumb_insn::{Decoded, Insn};
 use trace_text::code_decoded;
 
-/// Where an instruction leads directly: to the place right behind it, and to the target of a branch.
+/// Where an instruction leads directly: to the place right behind it, and to the target of a
+/// branch.
 #[derive(Clone, Copy)]
 pub struct Ways {
     pub behind: Option<u32>,
@@ -23,7 +24,8 @@ pub struct Ways {
 /// The halfword at an address.
 pub fn half_at(board: &Board, addr: u32) -> u16
     requires { addr + 1 < 2 ^ 32 }
-    ensures { (x : Scenario) (s : State) → Stands (boxed shown) x board.now s → result ≡ half_at s.memory addr }
+    ensures { (x : Scenario) (s : State) → Stands (boxed shown) x board.now s →
+        result ≡ half_at s.memory addr }
 {
     u16::from(byte_at(board, addr)) + 256 * u16::from(byte_at(board, addr + 1))
 }
@@ -35,10 +37,12 @@ pub fn is_wide(first: u16) -> bool
     first / 2048 >= 29
 }
 
-/// The code of what stands at an address: of one halfword, or of two with the first in the high half.
+/// The code of what stands at an address: of one halfword, or of two with the first in the high
+/// half.
 pub fn insn_code(board: &Board, addr: u32) -> u32
     requires { addr + 3 < 2 ^ 32 }
-    ensures { (x : Scenario) (s : State) → Stands (boxed shown) x board.now s → result ≡ insn_code s.memory addr }
+    ensures { (x : Scenario) (s : State) → Stands (boxed shown) x board.now s →
+        result ≡ insn_code s.memory addr }
 {
     let first = half_at(board, addr);
     if is_wide(first) {
@@ -71,7 +75,8 @@ pub fn decoded(code: u32) -> Option<Insn>
 /// The instruction that stands at an address, if one does.
 pub fn stands_at(board: &Board, addr: u32) -> Option<Insn>
     requires { addr + 3 < 2 ^ 32 }
-    ensures { (x : Scenario) (s : State) → Stands (boxed shown) x board.now s → result ≡ stands_at s.memory addr }
+    ensures { (x : Scenario) (s : State) → Stands (boxed shown) x board.now s →
+        result ≡ stands_at s.memory addr }
 {
     decoded(insn_code(board, addr))
 }
@@ -123,7 +128,8 @@ fn target_of(at: u32, insn: Insn) -> Option<u32>
 // The length in bytes of what stands at an address.
 fn size_at(board: &Board, addr: u32) -> u32
     requires { addr + 3 < 2 ^ 32 }
-    ensures size { (x : Scenario) (s : State) → Stands (boxed shown) x board.now s → result ≡ size_at s.memory addr }
+    ensures size { (x : Scenario) (s : State) → Stands (boxed shown) x board.now s →
+        result ≡ size_at s.memory addr }
     ensures few { result ≤ 4 }
 {
     if is_wide(half_at(board, addr)) { 4 } else { 2 }
@@ -158,7 +164,8 @@ fn ways_of(addr: u32, size: u32, insn: Option<Insn>) -> Ways
 #[tactic(auto, unfolding(crate::specs::Ways::ways_at))]
 pub fn ways_at(board: &Board, addr: u32) -> Ways
     requires { addr + 4 < 2 ^ 32 }
-    ensures { (x : Scenario) (s : State) → Stands (boxed shown) x board.now s → result ≡ ways_at s.memory addr }
+    ensures { (x : Scenario) (s : State) → Stands (boxed shown) x board.now s →
+        result ≡ ways_at s.memory addr }
 {
     ways_of(addr, size_at(board, addr), stands_at(board, addr))
 }

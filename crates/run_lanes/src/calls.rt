@@ -139,7 +139,8 @@ fn closed_arrow(turn: u32, ending: Ending, client: u16, asked: &AskedCall) -> Op
     })
 }
 
-/// The arrow of a note of a turn, if it has one: of a call that is taken, from the turn of its offer on, and of one that is closed.
+/// The arrow of a note of a turn, if it has one: of a call that is taken, from the turn of its
+/// offer on, and of one that is closed.
 pub fn arrow_of(turn: u32, calls: &[TaskCalls], note: &Note) -> Option<Arrow>
     requires few { length calls.now ≤ 65536 }
     ensures { option_to_list result ≡ arrows_of turn calls.now note.now }

@@ -1,13 +1,14 @@
-//! What is kept of a run for its picture (docs/FORMATS.md, Picture). Memory is taken before the first turn.
+//! What is kept of a run for its picture (docs/FORMATS.md, Picture). Memory is taken before the
+//! first turn.
 ghost use Rattle.std.specs.Prelude.{◌≤◌, [], IfOk};
 ghost use Rattle.run_lanes.specs.Painted.{Painted, Paints};
 
+use crate::activity::Activity;
 use crate::columns::Columns;
 use crate::events::add_events;
 use crate::exchange::Exchange;
 use crate::first::First;
 use crate::watching::Watcher;
-use crate::activity::Activity;
 use kernel_abi::Note;
 use outside_io::Failed;
 use std::alloc::{AllocError, Global};

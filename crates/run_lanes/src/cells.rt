@@ -1,4 +1,5 @@
-//! The cells of columns of turns, one column behind the other (docs/FORMATS.md, Picture): a turn more, and neighbours that become one.
+//! The cells of columns of turns, one column behind the other (docs/FORMATS.md, Picture): a turn
+//! more, and neighbours that become one.
 ghost use Rattle.std.specs.Prelude.{◌≡◌, ◌≤◌, ◌<◌, ◌+◌, ◌*◌, ℕ, ◌∷◌, [], length, map, slice_index_or};
 ghost use Rattle.std.specs.List.{list_any, range_with_len};
 ghost use Rattle.lane_picture.specs.declared.parts.Cell.{Cell as ACell};
@@ -7,8 +8,8 @@ ghost use Rattle.run_lanes.specs.Columns.{is_outside, most_columns};
 ghost use Rattle.run_lanes.specs.Counted.{Changed, both, counted, joined, marked, turned};
 ghost use Rattle.run_lanes.specs.Timeline.{word_at};
 
-use crate::lanes::word_at;
 use crate::activity::Activity;
+use crate::lanes::word_at;
 use kernel_abi::Note;
 use lane_picture::Cell;
 
@@ -25,7 +26,8 @@ pub const NO_CELL: Cell = Cell {
 // Each count and the one of its kind.
 fn add_counts(counts: &mut [u32], more: &[u32])
     requires { length more.now ≡ length counts.old }
-    ensures { counts.new ≡ map (λ w. both (slice_index_or counts.old w 0) (slice_index_or more.now w 0)) (range_with_len 0 (length counts.old)) }
+    ensures { counts.new ≡ map (λ w. both (slice_index_or counts.old w 0)
+        (slice_index_or more.now w 0)) (range_with_len 0 (length counts.old)) }
 {
     for w in 0..counts.len() {
         counts[w] = counts[w].saturating_add(more[w]);
@@ -95,7 +97,8 @@ fn mark_all(cells: &mut [Cell], at: usize, tasks: usize, notes: &[Note])
     }
 }
 
-/// A turn more in the column that begins at a cell, with what each task does in it and the notes of it.
+/// A turn more in the column that begins at a cell, with what each task does in it and the notes of
+/// it.
 pub fn add_turn(cells: &mut [Cell], at: usize, tasks: usize, words: &[Activity], notes: &[Note])
     requires room { at + tasks ≤ length cells.old }
     ensures { Changed cells.old cells.new at tasks (turned words.now notes.now) }
@@ -126,7 +129,8 @@ fn join_columns(cells: &mut [Cell], at: usize, from: usize, tasks: usize)
     requires order { at ≤ from }
     requires room { from + tasks + tasks ≤ length cells.old }
     ensures { Changed cells.old cells.new at tasks
-        (λ i _. joined (slice_index_or cells.old (from + i) no_cell) (slice_index_or cells.old (from + tasks + i) no_cell)) }
+        (λ i _. joined (slice_index_or cells.old (from + i) no_cell)
+        (slice_index_or cells.old (from + tasks + i) no_cell)) }
 {
     for i in 0..tasks {
         cells[at + i] = joined(&cells[from + i], &cells[from + tasks + i]);
@@ -136,8 +140,10 @@ fn join_columns(cells: &mut [Cell], at: usize, from: usize, tasks: usize)
 // No turns from a cell on.
 fn clear(cells: &mut [Cell], from: usize)
     ensures as_many { length cells.new ≡ length cells.old }
-    ensures before { (j : ℕ) (d : ACell) → j < from → slice_index_or cells.new j d ≡ slice_index_or cells.old j d }
-    ensures rest { (j : ℕ) (d : ACell) → from ≤ j → j < length cells.old → slice_index_or cells.new j d ≡ no_cell }
+    ensures before { (j : ℕ) (d : ACell) → j < from →
+        slice_index_or cells.new j d ≡ slice_index_or cells.old j d }
+    ensures rest { (j : ℕ) (d : ACell) → from ≤ j → j < length cells.old →
+        slice_index_or cells.new j d ≡ no_cell }
 {
     for j in from..cells.len() {
         cells[j] = NO_CELL;
@@ -148,8 +154,10 @@ fn clear(cells: &mut [Cell], from: usize)
 fn join_all(cells: &mut [Cell], tasks: usize)
     requires room { length cells.old ≡ most_columns * tasks }
     ensures as_many { length cells.new ≡ length cells.old }
-    ensures made { (k i : ℕ) (d : ACell) → k < 600 → i < tasks → slice_index_or cells.new (k * tasks + i) d
-        ≡ joined (slice_index_or cells.old (2 * k * tasks + i) no_cell) (slice_index_or cells.old (2 * k * tasks + tasks + i) no_cell) }
+    ensures made { (k i : ℕ) (d : ACell) → k < 600 → i < tasks →
+        slice_index_or cells.new (k * tasks + i) d
+        ≡ joined (slice_index_or cells.old (2 * k * tasks + i) no_cell)
+        (slice_index_or cells.old (2 * k * tasks + tasks + i) no_cell) }
 {
     for k in 0..MOST_COLUMNS / 2 {
         join_columns(cells, k * tasks, 2 * k * tasks, tasks);
@@ -160,9 +168,12 @@ fn join_all(cells: &mut [Cell], tasks: usize)
 pub fn halve(cells: &mut [Cell], tasks: usize)
     requires room { length cells.old ≡ most_columns * tasks }
     ensures as_many { length cells.new ≡ length cells.old }
-    ensures made { (k i : ℕ) (d : ACell) → k < 600 → i < tasks → slice_index_or cells.new (k * tasks + i) d
-        ≡ joined (slice_index_or cells.old (2 * k * tasks + i) no_cell) (slice_index_or cells.old (2 * k * tasks + tasks + i) no_cell) }
-    ensures rest { (j : ℕ) (d : ACell) → 600 * tasks ≤ j → j < length cells.old → slice_index_or cells.new j d ≡ no_cell }
+    ensures made { (k i : ℕ) (d : ACell) → k < 600 → i < tasks →
+        slice_index_or cells.new (k * tasks + i) d
+        ≡ joined (slice_index_or cells.old (2 * k * tasks + i) no_cell)
+        (slice_index_or cells.old (2 * k * tasks + tasks + i) no_cell) }
+    ensures rest { (j : ℕ) (d : ACell) → 600 * tasks ≤ j → j < length cells.old →
+        slice_index_or cells.new j d ≡ no_cell }
 {
     join_all(cells, tasks);
     clear(cells, MOST_COLUMNS / 2 * tasks);
@@ -172,7 +183,9 @@ pub fn halve(cells: &mut [Cell], tasks: usize)
 pub fn halve_outside(outside: &mut [u32])
     requires room { length outside.old ≡ most_columns }
     ensures as_many { length outside.new ≡ length outside.old }
-    ensures made { (k d : ℕ) → k < 600 → slice_index_or outside.new k d ≡ both (slice_index_or outside.old (2 * k) 0) (slice_index_or outside.old (2 * k + 1) 0) }
+    ensures made { (k d : ℕ) → k < 600 →
+        slice_index_or outside.new k d ≡ both (slice_index_or outside.old (2 * k) 0)
+        (slice_index_or outside.old (2 * k + 1) 0) }
     ensures rest { (k d : ℕ) → 600 ≤ k → k < 1200 → slice_index_or outside.new k d ≡ 0 }
 {
     for k in 0..MOST_COLUMNS / 2 {

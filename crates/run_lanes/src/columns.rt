@@ -1,14 +1,15 @@
-//! What each task does in each column of turns (docs/FORMATS.md, Picture). Memory is taken once: where the 1,201st column would
-//! begin, neighbouring columns become one, in place.
+//! What each task does in each column of turns (docs/FORMATS.md, Picture). Memory is taken once:
+//! where the 1,201st column would begin, neighbouring columns become one, in place.
 ghost use Rattle.std.specs.Prelude.{◌≡◌, ◌≤◌, ◌<◌, ◌*◌, vec_len};
 
-use crate::cells::{MOST_COLUMNS, NO_CELL, add_turn, comes_from_outside, halve, halve_outside};
 use crate::activity::Activity;
+use crate::cells::{MOST_COLUMNS, NO_CELL, add_turn, comes_from_outside, halve, halve_outside};
 use kernel_abi::Note;
 use lane_picture::Cell;
 use std::alloc::{AllocError, Global};
 
-/// The cells of so many tasks in each column, and in how many of its turns something came from outside.
+/// The cells of so many tasks in each column, and in how many of its turns something came from
+/// outside.
 #[derive(Drop)]
 pub struct Columns {
     pub tasks: usize,
@@ -59,7 +60,8 @@ impl Columns {
     fn make_room(&mut self)
         ensures free { self.new.column < 1200 }
         ensures tasks { self.new.tasks ≡ self.old.tasks }
-        ensures room { (turns : List TurnSight) → length turns < 1000000000 → Columned self.old (length turns) turns → Columned self.new (length turns + 1) turns }
+        ensures room { (turns : List TurnSight) → length turns < 1000000000 →
+            Columned self.old (length turns) turns → Columned self.new (length turns + 1) turns }
     {
         if self.column == MOST_COLUMNS {
             halve(&mut self.cells, self.tasks);
@@ -77,7 +79,8 @@ impl Columns {
         ensures width { self.new.width ≡ self.old.width }
         ensures column { self.new.column ≡ self.old.column }
         ensures inside { self.new.inside ≡ self.old.inside }
-        ensures cells { Changed self.old.cells.items self.new.cells.items (self.old.column * self.old.tasks) self.old.tasks (turned words.now notes.now) }
+        ensures cells { Changed self.old.cells.items self.new.cells.items
+            (self.old.column * self.old.tasks) self.old.tasks (turned words.now notes.now) }
         ensures outside { self.new.outside.items ≡ self.old.outside.items }
     {
         add_turn(
@@ -99,7 +102,8 @@ impl Columns {
         ensures cells { self.new.cells.items ≡ self.old.cells.items }
         ensures outside { self.new.outside.items ≡
             (if list_any is_outside notes.now
-            then slice_set self.old.outside.items self.old.column (both (slice_index_or self.old.outside.items self.old.column 0) 1)
+            then slice_set self.old.outside.items self.old.column
+            (both (slice_index_or self.old.outside.items self.old.column 0) 1)
             else self.old.outside.items) }
     {
         if comes_from_outside(notes) {
@@ -115,7 +119,8 @@ impl Columns {
         ensures width { self.new.width ≡ self.old.width }
         ensures cells { self.new.cells.items ≡ self.old.cells.items }
         ensures outside { self.new.outside.items ≡ self.old.outside.items }
-        ensures at { self.new.column * self.new.width + self.new.inside ≡ self.old.column * self.old.width + self.old.inside + 1 }
+        ensures at { self.new.column * self.new.width + self.new.inside ≡ self.old.column *
+            self.old.width + self.old.inside + 1 }
     {
         if self.inside + 1 == self.width {
             self.inside = 0;
@@ -128,8 +133,13 @@ impl Columns {
     /// A turn more, with what each task does in it and the notes of it.
     pub fn add(&mut self, words: &[Activity], notes: &[Note])
         ensures tasks { self.new.tasks ≡ self.old.tasks }
-        ensures added { (turn : ℕ) (turns : List TurnSight) → length turns < 1000000000 → Columned self.old (length turns) turns →
-            Columned self.new (length turns + 1) (turns ++ (record { turn = turn; words = words.now; notes = notes.now } ∷ [])) }
+        ensures added { (turn : ℕ) (turns : List TurnSight) → length turns < 1000000000 →
+            Columned self.old (length turns) turns →
+            Columned self.new (length turns + 1) (turns ++ (record {
+              turn = turn;
+              words = words.now;
+              notes = notes.now;
+            } ∷ [])) }
     {
         self.make_room();
         self.add_cells(words, notes);
@@ -140,7 +150,8 @@ impl Columns {
     /// How many columns are in use.
     pub fn in_use(&self) -> usize
         ensures few { result ≤ 1200 }
-        ensures used { (turns : List TurnSight) → Columned self.now (length turns) turns → result ≡ columns (length turns) }
+        ensures used { (turns : List TurnSight) → Columned self.now (length turns) turns →
+            result ≡ columns (length turns) }
     {
         if self.inside == 0 {
             self.column
@@ -151,7 +162,8 @@ impl Columns {
 
     /// The cells of the columns in use, one column behind the other.
     pub fn all_cells(&self) -> &[Cell]
-        ensures { (turns : List TurnSight) → Columned self.now (length turns) turns → result.now ≡ cells self.now.tasks turns }
+        ensures { (turns : List TurnSight) → Columned self.now (length turns) turns →
+            result.now ≡ cells self.now.tasks turns }
     {
         &self.cells[..self.in_use() * self.tasks]
     }
@@ -159,7 +171,8 @@ impl Columns {
     /// In how many turns of each column in use something came from outside.
     pub fn all_outside(&self) -> &[u32]
         ensures few { length result.now ≤ 1200 }
-        ensures used { (turns : List TurnSight) → Columned self.now (length turns) turns → result.now ≡ outside turns }
+        ensures used { (turns : List TurnSight) → Columned self.now (length turns) turns →
+            result.now ≡ outside turns }
     {
         &self.outside[..self.in_use()]
     }

@@ -25,7 +25,8 @@ fn event_of(turn: u32, note: &Note) -> Option<(u32, Note)>
 pub fn add_events(turn: u32, notes: &[Note], events: &mut First<(u32, Note)>)
     ensures { (most : ℕ) (xs : List TurnNote) →
         IsFirst most events.old.kept.items (vec_capacity events.old.kept) events.old.all xs →
-        IsFirst most events.new.kept.items (vec_capacity events.new.kept) events.new.all (xs ++ map (λ n. (turn, n)) (filter is_event notes.now)) }
+        IsFirst most events.new.kept.items (vec_capacity events.new.kept) events.new.all
+        (xs ++ map (λ n. (turn, n)) (filter is_event notes.now)) }
 {
     for note in notes {
         events.push_some(event_of(turn, note));
@@ -46,7 +47,8 @@ fn name_of(names: &[String], task: u16) -> &str
 
 // What happened to a task of that name in a turn.
 fn told(alloc: Global, turn: u32, name: &str, what: &str) -> Result<String, AllocError>
-    ensures { IfOk result (λ s. string_bytes s ≡ codes "turn " ++ decimal turn ++ codes ": " ++ name.now ++ what.now) }
+    ensures { IfOk result (λ s. string_bytes s ≡ codes "turn " ++ decimal turn ++ codes ": "
+        ++ name.now ++ what.now) }
 {
     let text = format!(in alloc; "turn {turn}: {name}{what}")?;
     Ok(text)
@@ -71,7 +73,8 @@ fn push_born(generation: u8, line: &mut Line)
 // What is told of a note of a turn.
 #[tactic(auto, unfolding(crate::specs::Told::event_text))]
 fn event_text(alloc: Global, names: &[String], turn: u32, note: &Note) -> Result<String, AllocError>
-    ensures { IfOk result (λ s. string_bytes s ≡ event_text (map string_bytes names.now) (turn, note.now)) }
+    ensures { IfOk result (λ s. string_bytes s ≡ event_text (map string_bytes names.now)
+        (turn, note.now)) }
 {
     let mut what = Line::new();
     match note {
@@ -97,7 +100,8 @@ pub fn event_texts(
     names: &[String],
     events: &[(u32, Note)],
 ) -> Result<Vec<String>, AllocError>
-    ensures { IfOk result (λ v. map string_bytes v.items ≡ map (event_text (map string_bytes names.now)) events.now) }
+    ensures { IfOk result (λ v. map string_bytes v.items ≡ map
+        (event_text (map string_bytes names.now)) events.now) }
 {
     let mut texts = Vec::new(alloc);
     for (turn, note) in events {

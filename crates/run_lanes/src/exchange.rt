@@ -1,4 +1,5 @@
-//! The calls of each task as turns are seen, and the first arrows between lanes. Memory is taken before the first turn.
+//! The calls of each task as turns are seen, and the first arrows between lanes. Memory is taken
+//! before the first turn.
 ghost use Rattle.std.specs.Prelude.{◌≡◌, ◌≤◌, vec_len};
 
 use crate::calls::{NO_CALLS, arrow_of, renew};
@@ -33,7 +34,8 @@ impl Exchange {
     pub fn open(alloc: Global, tasks: usize) -> Result<Exchange, AllocError>
         requires { tasks ≤ 65536 }
         ensures calls { IfOk result (λ e. e.calls.items ≡ no_calls_of tasks) }
-        ensures arrows { IfOk result (λ e. IsFirst most_arrows e.arrows.kept.items (vec_capacity e.arrows.kept) e.arrows.all []) }
+        ensures arrows { IfOk result (λ e. IsFirst most_arrows e.arrows.kept.items
+            (vec_capacity e.arrows.kept) e.arrows.all []) }
     {
         let calls = Vec::from_elem(alloc, NO_CALLS, tasks)?;
         let arrows = First::open(alloc, MOST_ARROWS)?;
@@ -44,8 +46,10 @@ impl Exchange {
     fn hear(&mut self, turn: u32, note: &Note)
         ensures calls { self.new.calls.items ≡ calls_after turn self.old.calls.items note.now }
         ensures arrows { (most : ℕ) (xs : List AnArrow) →
-            IsFirst most self.old.arrows.kept.items (vec_capacity self.old.arrows.kept) self.old.arrows.all xs →
-            IsFirst most self.new.arrows.kept.items (vec_capacity self.new.arrows.kept) self.new.arrows.all (xs ++ arrows_of turn self.old.calls.items note.now) }
+            IsFirst most self.old.arrows.kept.items (vec_capacity self.old.arrows.kept)
+            self.old.arrows.all xs →
+            IsFirst most self.new.arrows.kept.items (vec_capacity self.new.arrows.kept)
+            self.new.arrows.all (xs ++ arrows_of turn self.old.calls.items note.now) }
     {
         let arrow = arrow_of(turn, &self.calls, note);
         self.arrows.push_some(arrow);
@@ -56,8 +60,10 @@ impl Exchange {
     pub fn add(&mut self, turn: u32, notes: &[Note])
         ensures calls { self.new.calls.items ≡ calls_at_end_of turn self.old.calls.items notes.now }
         ensures arrows { (most : ℕ) (xs : List AnArrow) →
-            IsFirst most self.old.arrows.kept.items (vec_capacity self.old.arrows.kept) self.old.arrows.all xs →
-            IsFirst most self.new.arrows.kept.items (vec_capacity self.new.arrows.kept) self.new.arrows.all (xs ++ arrows_of_notes turn self.old.calls.items notes.now) }
+            IsFirst most self.old.arrows.kept.items (vec_capacity self.old.arrows.kept)
+            self.old.arrows.all xs →
+            IsFirst most self.new.arrows.kept.items (vec_capacity self.new.arrows.kept)
+            self.new.arrows.all (xs ++ arrows_of_notes turn self.old.calls.items notes.now) }
     {
         for note in notes {
             self.hear(turn, note);

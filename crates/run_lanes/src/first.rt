@@ -26,8 +26,10 @@ impl<T: Drop> First<T> {
 
     /// One more. Where there is no memory for it, it is only counted.
     pub fn push(&mut self, value: T)
-        ensures { (most : ℕ) (xs : List T) → IsFirst most self.old.kept.items (vec_capacity self.old.kept) self.old.all xs →
-            IsFirst most self.new.kept.items (vec_capacity self.new.kept) self.new.all (xs ++ value ∷ []) }
+        ensures { (most : ℕ) (xs : List T) →
+            IsFirst most self.old.kept.items (vec_capacity self.old.kept) self.old.all xs →
+            IsFirst most self.new.kept.items (vec_capacity self.new.kept) self.new.all
+            (xs ++ value ∷ []) }
     {
         self.all = self.all.saturating_add(1);
         if self.kept.len() < self.kept.capacity() {
@@ -37,8 +39,10 @@ impl<T: Drop> First<T> {
 
     /// One more, if there is one.
     pub fn push_some(&mut self, value: Option<T>)
-        ensures { (most : ℕ) (xs : List T) → IsFirst most self.old.kept.items (vec_capacity self.old.kept) self.old.all xs →
-            IsFirst most self.new.kept.items (vec_capacity self.new.kept) self.new.all (xs ++ option_to_list value) }
+        ensures { (most : ℕ) (xs : List T) →
+            IsFirst most self.old.kept.items (vec_capacity self.old.kept) self.old.all xs →
+            IsFirst most self.new.kept.items (vec_capacity self.new.kept) self.new.all
+            (xs ++ option_to_list value) }
     {
         match value {
             Some(value) => self.push(value),

@@ -1,4 +1,5 @@
-//! What is kept of the turns so far: of each task what it has done and since when, and the call that it offered last.
+//! What is kept of the turns so far: of each task what it has done and since when, and the call
+//! that it offered last.
 ghost use Rattle.std.specs.Prelude.{◌≡◌, IfOk};
 ghost use Rattle.run_lanes.specs.Timeline.{all_renewed, client_from, kept_none, is_of_call, offers_after, renewed, server_in, server_thread_of, word_at};
 

@@ -6,20 +6,27 @@ ghost use Rattle.run_lanes.specs.Stretches.{Alternate, laid_out, stretches, told
 ghost use Rattle.run_lanes.specs.Timeline.{nothing_yet};
 ghost use Rattle.run_lanes.specs.Words.{TurnSight};
 
-/// The stretches of a task tile the turns: one behind the other they are what it does, turn by turn, so they have as many turns,
-/// and two neighbours have different words. A timeline tells just these of it. (docs/FORMATS.md, Timeline.)
+/// The stretches of a task tile the turns: one behind the other they are what it does, turn by
+/// turn, so they have as many turns, and two neighbours have different words. A timeline tells just
+/// these of it. (docs/FORMATS.md, Timeline.)
 pub fn stretches_tile_the_turns()
-    ensures tile { (i : ℕ) (turns : List TurnSight) → laid_out (stretches (words_of i turns)) ≡ words_of i turns }
-    ensures turns { (i : ℕ) (turns : List TurnSight) → turns_in (stretches (words_of i turns)) ≡ length turns }
+    ensures tile { (i : ℕ) (turns : List TurnSight) →
+        laid_out (stretches (words_of i turns)) ≡ words_of i turns }
+    ensures turns { (i : ℕ) (turns : List TurnSight) →
+        turns_in (stretches (words_of i turns)) ≡ length turns }
     ensures differ { (i : ℕ) (turns : List TurnSight) → Alternate (stretches (words_of i turns)) }
-    ensures told { (i turn : ℕ) (turns : List TurnSight) → told turn (nothing_yet turn) (words_of i turns) ≡ stretches (words_of i turns) }
+    ensures told { (i turn : ℕ) (turns : List TurnSight) →
+        told turn (nothing_yet turn) (words_of i turns) ≡ stretches (words_of i turns) }
 {}
 
-/// The columns of a picture tile the turns: one behind the other they are the turns, at most 1,200, of as many turns each as the
-/// least power of two with which they suffice; and in each of them the words of a task sum up to its turns. (docs/FORMATS.md, Picture.)
+/// The columns of a picture tile the turns: one behind the other they are the turns, at most 1,200,
+/// of as many turns each as the least power of two with which they suffice; and in each of them the
+/// words of a task sum up to its turns. (docs/FORMATS.md, Picture.)
 pub fn columns_tile_the_turns()
-    ensures tile { (turns : List TurnSight) → flat_map (column turns) (range_with_len 0 (columns (length turns))) ≡ turns }
+    ensures tile { (turns : List TurnSight) →
+        flat_map (column turns) (range_with_len 0 (columns (length turns))) ≡ turns }
     ensures most { (n : ℕ) → n ≤ 1000000000 → columns n ≤ most_columns }
-    ensures least { (n : ℕ) → (column_turns n ≡ 1) ⊎ ((half : ℕ) × (column_turns n ≡ 2 * half) × (most_columns * half < n)) }
+    ensures least { (n : ℕ) → (column_turns n ≡ 1)
+        ⊎ ((half : ℕ) × (column_turns n ≡ 2 * half) × (most_columns * half < n)) }
     ensures words { (i : ℕ) (turns : List TurnSight) → sum (cell_of turns i).words ≡ length turns }
 {}

@@ -1,7 +1,8 @@
-//! What each task does in each turn of a run, and a run as a timeline and as a picture (docs/FORMATS.md, What a task does in a turn,
-//! Timeline, and Picture).
+//! What each task does in each turn of a run, and a run as a timeline and as a picture
+//! (docs/FORMATS.md, What a task does in a turn, Timeline, and Picture).
 #![tactic(auto)]
 
+mod activity;
 mod calls;
 mod canvas;
 mod cells;
@@ -12,16 +13,15 @@ mod first;
 mod lanes;
 mod laws;
 mod line;
-mod thread_names;
+mod names;
 mod picture;
 mod pushing;
-mod names;
+mod thread_names;
 mod timeline;
 mod watching;
-mod activity;
 
+pub use activity::Activity;
 pub use laws::{columns_tile_the_turns, stretches_tile_the_turns};
 pub use picture::draw_run;
 pub use timeline::{TimelineFault, write_timeline};
 pub use watching::{Watcher, watch};
-pub use activity::Activity;

@@ -1,14 +1,14 @@
-//! Events of a timeline (docs/FORMATS.md, Timeline), each a line in a buffer of 160 bytes that is empty before. It begins with the
-//! `,` and the LF that end the line before it.
+//! Events of a timeline (docs/FORMATS.md, Timeline), each a line in a buffer of 160 bytes that is
+//! empty before. It begins with the `,` and the LF that end the line before it.
 ghost use Rattle.std.specs.Prelude.{◌≡◌, ◌≤◌, ◌+◌, ◌++◌, ◌<◌, [], length, codes};
 ghost use Rattle.arrayvec.specs.ArrayString.{array_string_len};
 ghost use Rattle.trace_text.specs.Text.{fed_name, handled_name};
 ghost use Rattle.run_lanes.specs.Names.{fault_name, syscall_name};
 ghost use Rattle.run_lanes.specs.Timeline.{arrow_text, in_name, instant_text, irq_name, note_text, order_text, out_name, place_text, post_name, restart_name, stretch_text, thread_of, tick_name};
 
+use crate::activity::Activity;
 use crate::lanes::{Offer, client_thread, server_thread};
 use crate::names::{push_call, push_fault};
-use crate::activity::Activity;
 use arrayvec::ArrayString;
 use kernel_abi::{Fault, Fed, Handled, Note};
 use trace_text::{push_byte, push_decimal, push_spaced_hex};
@@ -67,7 +67,8 @@ fn begin_instant(out: &mut Line)
 // What stands behind its name.
 fn end_instant(thread: u64, turn: u32, out: &mut Line)
     requires { array_string_len out.old + 80 ≤ 160 }
-    ensures { out.new.bytes ≡ out.old.bytes ++ codes "\",\"ph\":\"i\",\"pid\":0,\"s\":\"t\"" ++ place_text thread turn }
+    ensures { out.new.bytes ≡ out.old.bytes ++ codes "\",\"ph\":\"i\",\"pid\":0,\"s\":\"t\""
+        ++ place_text thread turn }
 {
     out.push_str("\",\"ph\":\"i\",\"pid\":0,\"s\":\"t\"");
     push_place(thread, turn, out);

@@ -147,7 +147,8 @@ fn push_access(word: &str, name: Option<&'static str>, fault: &Fault, out: &mut 
     requires word { length word.now ≤ 11 }
     requires short { IfSome name (λ name. length name.now ≤ 19) }
     requires room { array_string_len out.old + 60 ≤ 160 }
-    ensures bytes { out.new.bytes ≡ out.old.bytes ++ access_text word.now fault.now (option_map (λ name. name.now) name.entry) }
+    ensures bytes { out.new.bytes ≡ out.old.bytes
+        ++ access_text word.now fault.now (option_map (λ name. name.now) name.entry) }
     ensures len { array_string_len out.new ≤ array_string_len out.old + 60 }
 {
     match name {
@@ -164,7 +165,8 @@ fn push_access(word: &str, name: Option<&'static str>, fault: &Fault, out: &mut 
 fn push_usage(name: Option<&'static str>, fault: &Fault, out: &mut Line)
     requires short { IfSome name (λ name. length name.now ≤ 19) }
     requires room { array_string_len out.old + 60 ≤ 160 }
-    ensures bytes { out.new.bytes ≡ out.old.bytes ++ usage_text fault.now (option_map (λ name. name.now) name.entry) }
+    ensures bytes { out.new.bytes ≡ out.old.bytes
+        ++ usage_text fault.now (option_map (λ name. name.now) name.entry) }
     ensures len { array_string_len out.new ≤ array_string_len out.old + 60 }
 {
     match name {
@@ -193,7 +195,8 @@ fn push_named(word: &str, name: &str, x: u32, out: &mut Line)
 fn push_reply_fault(name: Option<&'static str>, fault: &Fault, out: &mut Line)
     requires short { IfSome name (λ name. length name.now ≤ 19) }
     requires room { array_string_len out.old + 60 ≤ 160 }
-    ensures bytes { out.new.bytes ≡ out.old.bytes ++ reply_fault_text fault.now (option_map (λ name. name.now) name.entry) }
+    ensures bytes { out.new.bytes ≡ out.old.bytes
+        ++ reply_fault_text fault.now (option_map (λ name. name.now) name.entry) }
     ensures len { array_string_len out.new ≤ array_string_len out.old + 60 }
 {
     match name {
@@ -215,7 +218,8 @@ fn push_breakpoint(immediate: u32, out: &mut Line)
 // A task's own PANIC, with its r4 and r5.
 fn push_panic(r4: u32, r5: u32, out: &mut Line)
     requires room { array_string_len out.old + 60 ≤ 160 }
-    ensures bytes { out.new.bytes ≡ out.old.bytes ++ plain_text (codes "Panic") r4 ++ spaced_hex r5 }
+    ensures bytes { out.new.bytes ≡ out.old.bytes ++ plain_text (codes "Panic") r4
+        ++ spaced_hex r5 }
     ensures len { array_string_len out.new ≤ array_string_len out.old + 60 }
 {
     push_plain("Panic", r4, out);

@@ -11,10 +11,10 @@ ghost use Rattle.run_lanes.specs.Painted.{Painted, Paints};
 ghost use Rattle.run_lanes.specs.Pictured.{drawn, picture_text};
 ghost use Rattle.run_lanes.specs.Words.{TurnSight, sights};
 
+use crate::activity::Activity;
 use crate::canvas::Canvas;
 use crate::events::event_texts;
 use crate::watching::watch;
-use crate::activity::Activity;
 use board_core::{Board, End};
 use board_run::end_name;
 use lane_picture::{LanePicture, draw};
@@ -25,11 +25,16 @@ fn watch_all(board: &mut Board, limit: u32, words: &mut [Activity], canvas: &mut
     requires stood { StandsForSome (boxed shown) board.old }
     requires from { turns_of board.old ≤ limit }
     requires few { limit ≤ 1000000000 }
-    requires one_each { (x : Scenario) (s : State) → Stands (boxed shown) x board.old s → length words.old ≡ length x.setup.tasks }
-    ensures paints { (x : Scenario) (s : State) → Stands (boxed shown) x board.old s → Paints canvas.old (sights x (limit - s.turn) s) canvas.new }
-    ensures end { (x : Scenario) (s : State) → Stands (boxed shown) x board.old s → result ≡ (run Calls x (limit - s.turn) s).end }
-    ensures last { (x : Scenario) (s : State) → Stands (boxed shown) x board.old s → Stands (boxed shown) x board.new (run Calls x (limit - s.turn) s).last }
-    ensures turns { (x : Scenario) (s : State) → Stands (boxed shown) x board.old s → turns_of board.new ≡ s.turn + length (sights x (limit - s.turn) s) }
+    requires one_each { (x : Scenario) (s : State) → Stands (boxed shown) x board.old s →
+        length words.old ≡ length x.setup.tasks }
+    ensures paints { (x : Scenario) (s : State) → Stands (boxed shown) x board.old s →
+        Paints canvas.old (sights x (limit - s.turn) s) canvas.new }
+    ensures end { (x : Scenario) (s : State) → Stands (boxed shown) x board.old s →
+        result ≡ (run Calls x (limit - s.turn) s).end }
+    ensures last { (x : Scenario) (s : State) → Stands (boxed shown) x board.old s →
+        Stands (boxed shown) x board.new (run Calls x (limit - s.turn) s).last }
+    ensures turns { (x : Scenario) (s : State) → Stands (boxed shown) x board.old s →
+        turns_of board.new ≡ s.turn + length (sights x (limit - s.turn) s) }
     ensures within { turns_of board.new ≤ limit }
 {
     match watch(board, limit, words, canvas, &mut ()) {
@@ -38,7 +43,8 @@ fn watch_all(board: &mut Board, limit: u32, words: &mut [Activity], canvas: &mut
     }
 }
 
-// What a canvas has of turns, with how many there are, the time after them and their end, as a picture.
+// What a canvas has of turns, with how many there are, the time after them and their end, as a
+// picture.
 fn paint(
     alloc: Global,
     title: &str,
@@ -50,8 +56,10 @@ fn paint(
 ) -> Result<Vec<u8>, AllocError>
     requires few { length names.now ≤ 65536 }
     requires painted { (seen : List TurnSight) × Painted (length names.now) canvas.now seen }
-    ensures { (r : Run) (seen : List TurnSight) → Painted (length names.now) canvas.now seen → turns ≡ length seen → ticks ≡ r.last.now → end ≡ r.end →
-        IfOk result (λ v. v.items ≡ drawing_text (drawn title.now (map string_bytes names.now) r seen)) }
+    ensures { (r : Run) (seen : List TurnSight) → Painted (length names.now) canvas.now seen →
+        turns ≡ length seen → ticks ≡ r.last.now → end ≡ r.end →
+        IfOk result (λ v. v.items ≡ drawing_text
+        (drawn title.now (map string_bytes names.now) r seen)) }
 {
     let events = event_texts(alloc, names, &canvas.events.kept)?;
     let picture = LanePicture {
@@ -72,8 +80,9 @@ fn paint(
     draw(alloc, &picture)
 }
 
-/// Turns up to the end of the run, and its picture as the bytes of an SVG file (docs/FORMATS.md, Picture), with this title and these
-/// names of tasks. Memory is taken before the first turn, in line with the tasks, and behind the last one.
+/// Turns up to the end of the run, and its picture as the bytes of an SVG file (docs/FORMATS.md,
+/// Picture), with this title and these names of tasks. Memory is taken before the first turn, in
+/// line with the tasks, and behind the last one.
 ///
 /// # Errors
 ///
@@ -90,8 +99,10 @@ pub fn draw_run(
     requires few { limit ≤ 1000000000 }
     requires named { length names.now ≡ count_of board.old }
     ensures text { (x : Scenario) (s : State) → Stands (boxed shown) x board.old s →
-        IfOk result (λ r. r.0.items ≡ picture_text title.now (map string_bytes names.now) x (limit - s.turn) s) }
-    ensures end { (x : Scenario) (s : State) → Stands (boxed shown) x board.old s → IfOk result (λ r. r.1 ≡ (run Calls x (limit - s.turn) s).end) }
+        IfOk result (λ r. r.0.items ≡ picture_text title.now (map string_bytes names.now) x
+        (limit - s.turn) s) }
+    ensures end { (x : Scenario) (s : State) → Stands (boxed shown) x board.old s →
+        IfOk result (λ r. r.1 ≡ (run Calls x (limit - s.turn) s).end) }
     ensures last { (x : Scenario) (s : State) → Stands (boxed shown) x board.old s →
         IfOk result (λ _. Stands (boxed shown) x board.new (run Calls x (limit - s.turn) s).last) }
     ensures within { turns_of board.new ≤ limit }

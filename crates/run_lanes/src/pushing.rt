@@ -4,16 +4,17 @@ ghost use Rattle.std.specs.List.{flat_map};
 ghost use Rattle.outside_io.specs.Outside.{HasCause, Pushes};
 ghost use Rattle.run_lanes.specs.Timeline.{ended_text, note_text, notes_text, offers_at_end, order_text, orders_text, outside_text, over_text, overs_text, rests_text, tail_text};
 
+use crate::activity::Activity;
 use crate::lanes::{LaneStretch, Offer, hear, word_at};
 use crate::line::{Line, note_line, order_line, stretch_line};
-use crate::activity::Activity;
 use kernel_abi::Note;
 use outside_io::{Failed, Sink};
 
 // A stretch of a task that ends before a turn, unless it has no turn.
 fn push_ended<S: Sink>(turn: u32, i: usize, stretch: LaneStretch, out: &mut S) -> Result<(), Failed>
     requires few { i + 1 < 2 ^ 64 }
-    ensures bytes { Pushes (S.seen out.old).written (S.seen out.new).written (ended_text turn i stretch) result }
+    ensures bytes { Pushes (S.seen out.old).written (S.seen out.new).written
+        (ended_text turn i stretch) result }
     ensures cause { HasCause (S.seen out.old).faults (S.seen out.new).faults result }
 {
     if stretch.since == turn {
@@ -34,7 +35,8 @@ fn push_if_over<S: Sink>(
     out: &mut S,
 ) -> Result<(), Failed>
     requires few { i + 1 < 2 ^ 64 }
-    ensures bytes { Pushes (S.seen out.old).written (S.seen out.new).written (over_text turn i stretch word) result }
+    ensures bytes { Pushes (S.seen out.old).written (S.seen out.new).written
+        (over_text turn i stretch word) result }
     ensures cause { HasCause (S.seen out.old).faults (S.seen out.new).faults result }
 {
     if stretch.word.is_same(word) {
@@ -50,7 +52,8 @@ pub fn push_overs<S: Sink>(
     words: &[Activity],
     out: &mut S,
 ) -> Result<(), Failed>
-    ensures bytes { Pushes (S.seen out.old).written (S.seen out.new).written (overs_text turn stretches.now words.now) result }
+    ensures bytes { Pushes (S.seen out.old).written (S.seen out.new).written
+        (overs_text turn stretches.now words.now) result }
     ensures cause { HasCause (S.seen out.old).faults (S.seen out.new).faults result }
 {
     for i in 0..stretches.len() {
@@ -61,7 +64,8 @@ pub fn push_overs<S: Sink>(
 
 /// The stretches in which the tasks are, where the run ends before a turn.
 pub fn push_rests<S: Sink>(turn: u32, stretches: &[LaneStretch], out: &mut S) -> Result<(), Failed>
-    ensures bytes { Pushes (S.seen out.old).written (S.seen out.new).written (rests_text turn stretches.now) result }
+    ensures bytes { Pushes (S.seen out.old).written (S.seen out.new).written
+        (rests_text turn stretches.now) result }
     ensures cause { HasCause (S.seen out.old).faults (S.seen out.new).faults result }
 {
     for i in 0..stretches.len() {
@@ -77,7 +81,8 @@ fn push_note<S: Sink>(
     offers: &[Option<Offer>],
     out: &mut S,
 ) -> Result<(), Failed>
-    ensures bytes { Pushes (S.seen out.old).written (S.seen out.new).written (note_text offers.now turn note.now) result }
+    ensures bytes { Pushes (S.seen out.old).written (S.seen out.new).written
+        (note_text offers.now turn note.now) result }
     ensures cause { HasCause (S.seen out.old).faults (S.seen out.new).faults result }
 {
     let mut line = Line::new();
@@ -95,7 +100,8 @@ pub fn push_notes<S: Sink>(
     offers: &mut [Option<Offer>],
     out: &mut S,
 ) -> Result<(), Failed>
-    ensures bytes { Pushes (S.seen out.old).written (S.seen out.new).written (notes_text offers.old turn notes.now) result }
+    ensures bytes { Pushes (S.seen out.old).written (S.seen out.new).written
+        (notes_text offers.old turn notes.now) result }
     ensures offers { IfOk result (λ _. offers.new ≡ offers_at_end offers.old notes.now) }
     ensures cause { HasCause (S.seen out.old).faults (S.seen out.new).faults result }
 {
@@ -108,7 +114,8 @@ pub fn push_notes<S: Sink>(
 
 // The place of a thread in the order of the threads.
 fn push_order<S: Sink>(thread: usize, out: &mut S) -> Result<(), Failed>
-    ensures bytes { Pushes (S.seen out.old).written (S.seen out.new).written (order_text thread) result }
+    ensures bytes { Pushes (S.seen out.old).written (S.seen out.new).written (order_text thread)
+        result }
     ensures cause { HasCause (S.seen out.old).faults (S.seen out.new).faults result }
 {
     let mut line = Line::new();
@@ -118,7 +125,8 @@ fn push_order<S: Sink>(thread: usize, out: &mut S) -> Result<(), Failed>
 
 // Of each of so many threads.
 fn push_orders<S: Sink>(threads: usize, out: &mut S) -> Result<(), Failed>
-    ensures bytes { Pushes (S.seen out.old).written (S.seen out.new).written (orders_text threads) result }
+    ensures bytes { Pushes (S.seen out.old).written (S.seen out.new).written (orders_text threads)
+        result }
     ensures cause { HasCause (S.seen out.old).faults (S.seen out.new).faults result }
 {
     for thread in 0..threads {
@@ -140,7 +148,8 @@ fn push_outside<S: Sink>(out: &mut S) -> Result<(), Failed>
 
 // Lines that were made before.
 fn push_lines<S: Sink>(lines: &[String], out: &mut S) -> Result<(), Failed>
-    ensures bytes { Pushes (S.seen out.old).written (S.seen out.new).written (flat_map string_bytes lines.now) result }
+    ensures bytes { Pushes (S.seen out.old).written (S.seen out.new).written
+        (flat_map string_bytes lines.now) result }
     ensures cause { HasCause (S.seen out.old).faults (S.seen out.new).faults result }
 {
     for line in lines {
@@ -152,7 +161,8 @@ fn push_lines<S: Sink>(lines: &[String], out: &mut S) -> Result<(), Failed>
 /// What stands before the turns, with the lines that name the tasks.
 pub fn push_head<S: Sink>(lines: &[String], out: &mut S) -> Result<(), Failed>
     ensures bytes { Pushes (S.seen out.old).written (S.seen out.new).written
-        (outside_text ++ flat_map string_bytes lines.now ++ orders_text (length lines.now + 1)) result }
+        (outside_text ++ flat_map string_bytes lines.now ++ orders_text (length lines.now + 1))
+        result }
     ensures cause { HasCause (S.seen out.old).faults (S.seen out.new).faults result }
 {
     push_outside(out)?;

@@ -1,4 +1,5 @@
-//! The lines that name the tasks' threads. They are made before the run, since no memory is taken in it.
+//! The lines that name the tasks' threads. They are made before the run, since no memory is taken
+//! in it.
 ghost use Rattle.std.specs.Prelude.{◌≡◌, ◌<◌, ◌+◌, ◌^◌, ◌++◌, IfOk, codes, length, map, string_bytes};
 ghost use Rattle.std.specs.List.{range_with_len};
 ghost use Rattle.serde_json.specs.View.{view};
@@ -31,7 +32,8 @@ fn compact(alloc: Global, i: usize, name: &str) -> Result<String, AllocError>
 // The event that names the thread of the i-th task.
 fn name_line(alloc: Global, i: usize, name: &str) -> Result<String, AllocError>
     requires { i + 1 < 2 ^ 64 }
-    ensures { IfOk result (λ s. string_bytes s ≡ codes ",\n" ++ compact_text (name_data i name.now)) }
+    ensures { IfOk result (λ s. string_bytes s ≡ codes ",\n"
+        ++ compact_text (name_data i name.now)) }
 {
     let event = compact(alloc, i, name)?;
     let line = format!(in alloc; ",\n{event}")?;
@@ -44,7 +46,8 @@ fn name_line(alloc: Global, i: usize, name: &str) -> Result<String, AllocError>
 ///
 /// Only want of memory.
 pub fn name_lines(alloc: Global, names: &[String]) -> Result<Vec<String>, AllocError>
-    ensures { IfOk result (λ v. map string_bytes v.items ≡ map (name_text (map string_bytes names.now)) (range_with_len 0 (length names.now))) }
+    ensures { IfOk result (λ v. map string_bytes v.items ≡ map
+        (name_text (map string_bytes names.now)) (range_with_len 0 (length names.now))) }
 {
     let mut lines = Vec::new(alloc);
     for i in 0..names.len() {

@@ -13,11 +13,11 @@ ghost use Rattle.run_lanes.specs.Kept.{BreaksText, SeesText, kept_of};
 ghost use Rattle.run_lanes.specs.Timeline.{drawn_text, orders_text, outside_text, rests_text, tail_text, timeline_text};
 ghost use Rattle.run_lanes.specs.Words.{sights};
 
-use crate::lanes::{Lanes, renew_all};
-use crate::thread_names::name_lines;
-use crate::pushing::{push_head, push_notes, push_overs, push_rests, push_tail};
-use crate::watching::{Watcher, watch};
 use crate::activity::Activity;
+use crate::lanes::{Lanes, renew_all};
+use crate::pushing::{push_head, push_notes, push_overs, push_rests, push_tail};
+use crate::thread_names::name_lines;
+use crate::watching::{Watcher, watch};
 use board_core::{Board, End};
 use kernel_abi::Note;
 use outside_io::{Failed, Sink};
@@ -72,7 +72,8 @@ impl<S: Sink> Watcher<S> for Lanes {
 
 // What stands behind the turns: the stretches in which the tasks are, and the end of the text.
 fn push_end<S: Sink>(turn: u32, lanes: &Lanes, out: &mut S) -> Result<(), Failed>
-    ensures bytes { Pushes (S.seen out.old).written (S.seen out.new).written (rests_text turn lanes.now.stretches.items ++ tail_text) result }
+    ensures bytes { Pushes (S.seen out.old).written (S.seen out.new).written
+        (rests_text turn lanes.now.stretches.items ++ tail_text) result }
     ensures cause { HasCause (S.seen out.old).faults (S.seen out.new).faults result }
 {
     push_rests(turn, &lanes.stretches, out)?;
@@ -90,9 +91,11 @@ fn draw<S: Sink>(
     requires stood { StandsForSome (boxed shown) board.old }
     requires from { turns_of board.old ≤ limit }
     requires few { limit ≤ 1000000000 }
-    requires one_each { (x : Scenario) (s : State) → Stands (boxed shown) x board.old s → length words.old ≡ length x.setup.tasks }
+    requires one_each { (x : Scenario) (s : State) → Stands (boxed shown) x board.old s →
+        length words.old ≡ length x.setup.tasks }
     ensures text { (x : Scenario) (s : State) → Stands (boxed shown) x board.old s →
-        Pushes (S.seen out.old).written (S.seen out.new).written (drawn_text (kept_of lanes.old) s.turn (sights x (limit - s.turn) s)) result }
+        Pushes (S.seen out.old).written (S.seen out.new).written
+        (drawn_text (kept_of lanes.old) s.turn (sights x (limit - s.turn) s)) result }
     ensures end { (x : Scenario) (s : State) → Stands (boxed shown) x board.old s →
         IfOk result (λ e. e ≡ (run Calls x (limit - s.turn) s).end) }
     ensures last { (x : Scenario) (s : State) → Stands (boxed shown) x board.old s →
@@ -117,10 +120,12 @@ fn draw_whole<S: Sink>(
     requires stood { StandsForSome (boxed shown) board.old }
     requires from { turns_of board.old ≤ limit }
     requires few { limit ≤ 1000000000 }
-    requires one_each { (x : Scenario) (s : State) → Stands (boxed shown) x board.old s → length words.old ≡ length x.setup.tasks }
+    requires one_each { (x : Scenario) (s : State) → Stands (boxed shown) x board.old s →
+        length words.old ≡ length x.setup.tasks }
     ensures text { (x : Scenario) (s : State) → Stands (boxed shown) x board.old s →
         Pushes (S.seen out.old).written (S.seen out.new).written
-        ((outside_text ++ flat_map string_bytes lines.now ++ orders_text (length lines.now + 1)) ++ drawn_text (kept_of lanes.old) s.turn (sights x (limit - s.turn) s)) result }
+        ((outside_text ++ flat_map string_bytes lines.now ++ orders_text (length lines.now + 1))
+        ++ drawn_text (kept_of lanes.old) s.turn (sights x (limit - s.turn) s)) result }
     ensures end { (x : Scenario) (s : State) → Stands (boxed shown) x board.old s →
         IfOk result (λ e. e ≡ (run Calls x (limit - s.turn) s).end) }
     ensures last { (x : Scenario) (s : State) → Stands (boxed shown) x board.old s →
@@ -132,13 +137,14 @@ fn draw_whole<S: Sink>(
     draw(board, limit, words, lanes, out)
 }
 
-/// Turns up to the end of the run, and its timeline (docs/FORMATS.md, Timeline), in which each task has one of the names: an
-/// event is a line, and a push. After a failing push nothing more is pushed, and no further turn is made.
+/// Turns up to the end of the run, and its timeline (docs/FORMATS.md, Timeline), in which each task
+/// has one of the names: an event is a line, and a push. After a failing push nothing more is
+/// pushed, and no further turn is made.
 ///
 /// # Errors
 ///
-/// `Memory` where there was none for the names and for what is kept of each task: then nothing was pushed, and no turn was made.
-/// `Failed` only where a push failed.
+/// `Memory` where there was none for the names and for what is kept of each task: then nothing was
+/// pushed, and no turn was made. `Failed` only where a push failed.
 pub fn write_timeline<S: Sink>(
     alloc: Global,
     board: &mut Board,
@@ -152,7 +158,8 @@ pub fn write_timeline<S: Sink>(
     requires named { length names.now ≡ count_of board.old }
 
     ensures text { (x : Scenario) (s : State) → Stands (boxed shown) x board.old s →
-        Pushes (S.seen out.old).written (S.seen out.new).written (timeline_text (map string_bytes names.now) x (limit - s.turn) s) result }
+        Pushes (S.seen out.old).written (S.seen out.new).written
+        (timeline_text (map string_bytes names.now) x (limit - s.turn) s) result }
     ensures end { (x : Scenario) (s : State) → Stands (boxed shown) x board.old s →
         IfOk result (λ e. e ≡ (run Calls x (limit - s.turn) s).end) }
     ensures last { (x : Scenario) (s : State) → Stands (boxed shown) x board.old s →
@@ -163,7 +170,8 @@ pub fn write_timeline<S: Sink>(
     ensures nothing { IfErr result (λ e. e ≡ fault.Memory → out.new ≡ out.old) }
     ensures nowhere { IfErr result (λ e. e ≡ fault.Memory → board.new ≡ board.old) }
     ensures later { (S.seen out.old).faults ≤ (S.seen out.new).faults }
-    ensures cause { IfErr result (λ e. e ≡ fault.Failed → Rose (S.seen out.old).faults (S.seen out.new).faults) }
+    ensures cause { IfErr result (λ e. e ≡ fault.Failed →
+        Rose (S.seen out.old).faults (S.seen out.new).faults) }
 {
     let tasks = board.task_count();
     let lines = name_lines(alloc, names)?;

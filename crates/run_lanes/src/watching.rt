@@ -21,8 +21,8 @@ use outside_io::Failed;
 
 /// What sees the turns of a run, and gives to `out` what it makes of them.
 ///
-/// An implementation says what it is by two relations: what becomes of it and of `out` as turns are seen, and what may become of
-/// them where that fails.
+/// An implementation says what it is by two relations: what becomes of it and of `out` as turns are
+/// seen, and what may become of them where that fails.
 pub trait Watcher<O> {
     /// From this watcher and output, all of these turns were seen, and they are then those.
     ghost saw: { Self → O → List TurnSight → Self → O → Type 0 };
@@ -31,17 +31,30 @@ pub trait Watcher<O> {
     ghost broke: { Self → O → List TurnSight → Self → O → Type 0 };
 
     /// A turn, with what each task does in it and the notes of it.
-    fn see(&mut self, turn: u32, words: &[Activity], notes: &[Note], out: &mut O) -> Result<(), Failed>
+    fn see(
+        &mut self,
+        turn: u32,
+        words: &[Activity],
+        notes: &[Note],
+        out: &mut O,
+    ) -> Result<(), Failed>
         ensures { MatchResult result
-            (λ _. saw self.old out.old (record { turn = turn; words = words.now; notes = notes.now } ∷ []) self.new out.new)
-            (λ _. broke self.old out.old (record { turn = turn; words = words.now; notes = notes.now } ∷ []) self.new out.new) };
+            (λ _. saw self.old out.old (record { turn = turn; words = words.now; notes = notes.now }
+            ∷ []) self.new out.new)
+            (λ _. broke self.old out.old (record {
+              turn = turn;
+              words = words.now;
+              notes = notes.now;
+            } ∷ []) self.new out.new) };
 
-    /// Where nothing is seen, nothing changes, and turns may be seen in parts. A failure after some is one of all. It does
-    /// nothing, and is a law.
+    /// Where nothing is seen, nothing changes, and turns may be seen in parts. A failure after some
+    /// is one of all. It does nothing, and is a law.
     fn sees_in_parts()
         ensures nothing { (w : Self) (o : O) → saw w o [] w o }
-        ensures parts { (u v w : Self) (o p q : O) (a b : List TurnSight) → saw u o a v p → saw v p b w q → saw u o (a ++ b) w q }
-        ensures fails { (u v w : Self) (o p q : O) (a b : List TurnSight) → saw u o a v p → broke v p b w q → broke u o (a ++ b) w q };
+        ensures parts { (u v w : Self) (o p q : O) (a b : List TurnSight) → saw u o a v p →
+            saw v p b w q → saw u o (a ++ b) w q }
+        ensures fails { (u v w : Self) (o p q : O) (a b : List TurnSight) → saw u o a v p →
+            broke v p b w q → broke u o (a ++ b) w q };
 }
 
 /// What a task is between turns.
@@ -53,7 +66,8 @@ fn waiting(task: &TaskView) -> Activity
 
 // What a task is between turns, by its index.
 fn word_at(board: &Board, i: usize) -> Activity
-    ensures { (x : Scenario) (s : State) → Stands (boxed shown) x board.now s → i < length s.tasks → result ≡ waiting s i }
+    ensures { (x : Scenario) (s : State) → Stands (boxed shown) x board.now s → i < length s.tasks →
+        result ≡ waiting s i }
 {
     match board.task(i) {
         Some(task) => waiting(&task),
@@ -64,7 +78,9 @@ fn word_at(board: &Board, i: usize) -> Activity
 // What each task is between turns, in the place of what stood in a list as long.
 fn look(board: &Board, words: &mut [Activity])
     ensures len { length words.new ≡ length words.old }
-    ensures words { (x : Scenario) (s : State) → Stands (boxed shown) x board.now s → length words.old ≡ length s.tasks → words.new ≡ map (waiting s) (range_with_len 0 (length s.tasks)) }
+    ensures words { (x : Scenario) (s : State) → Stands (boxed shown) x board.now s →
+        length words.old ≡ length s.tasks →
+        words.new ≡ map (waiting s) (range_with_len 0 (length s.tasks)) }
 {
     for i in 0..words.len() {
         words[i] = word_at(board, i);
@@ -74,7 +90,9 @@ fn look(board: &Board, words: &mut [Activity])
 // Whose turn it was.
 fn mark(turned: Turned, words: &mut [Activity])
     ensures len { length words.new ≡ length words.old }
-    ensures marked { (k : ℕ) (d : Said) → k < length words.old → slice_index_or words.new k d ≡ (if is_of turned k then said.Runs else slice_index_or words.old k d) }
+    ensures marked { (k : ℕ) (d : Said) → k < length words.old →
+        slice_index_or words.new k d ≡ (if is_of turned k then said.Runs else slice_index_or
+        words.old k d) }
 {
     match turned {
         Turned::Idle => {}
@@ -87,8 +105,8 @@ fn mark(turned: Turned, words: &mut [Activity])
     }
 }
 
-/// Turns up to the end of the run, each of which is seen. The list has a word for each task. After a failure to see no
-/// further turn is made.
+/// Turns up to the end of the run, each of which is seen. The list has a word for each task. After
+/// a failure to see no further turn is made.
 ///
 /// # Errors
 ///
@@ -103,15 +121,21 @@ pub fn watch<O, W: Watcher<O>>(
     requires stood { StandsForSome (boxed shown) board.old }
     requires from { turns_of board.old ≤ limit }
     requires few { limit ≤ 1000000000 }
-    requires one_each { (x : Scenario) (s : State) → Stands (boxed shown) x board.old s → length words.old ≡ length x.setup.tasks }
-    ensures told { (x : Scenario) (s : State) → Stands (boxed shown) x board.old s → OnOk result (W.saw watcher.old out.old (sights x (limit - s.turn) s) watcher.new out.new) }
-    ensures end { (x : Scenario) (s : State) → Stands (boxed shown) x board.old s → IfOk result (λ e. e ≡ (run Calls x (limit - s.turn) s).end) }
-    ensures last { (x : Scenario) (s : State) → Stands (boxed shown) x board.old s → IfOk result (λ _. Stands (boxed shown) x board.new (run Calls x (limit - s.turn) s).last) }
-    ensures turns { (x : Scenario) (s : State) → Stands (boxed shown) x board.old s → OnOk result (turns_of board.new ≡ s.turn + length (sights x (limit - s.turn) s)) }
+    requires one_each { (x : Scenario) (s : State) → Stands (boxed shown) x board.old s →
+        length words.old ≡ length x.setup.tasks }
+    ensures told { (x : Scenario) (s : State) → Stands (boxed shown) x board.old s →
+        OnOk result (W.saw watcher.old out.old (sights x (limit - s.turn) s) watcher.new out.new) }
+    ensures end { (x : Scenario) (s : State) → Stands (boxed shown) x board.old s →
+        IfOk result (λ e. e ≡ (run Calls x (limit - s.turn) s).end) }
+    ensures last { (x : Scenario) (s : State) → Stands (boxed shown) x board.old s →
+        IfOk result (λ _. Stands (boxed shown) x board.new (run Calls x (limit - s.turn) s).last) }
+    ensures turns { (x : Scenario) (s : State) → Stands (boxed shown) x board.old s →
+        OnOk result (turns_of board.new ≡ s.turn + length (sights x (limit - s.turn) s)) }
 
     // Where the watcher failed, the turns so far were the first ones of the run.
     ensures broken { (x : Scenario) (s : State) → Stands (boxed shown) x board.old s →
-        OnErr result (BreaksSeeing (Paired W.broke) x (limit - s.turn) s (watcher.old, out.old) (watcher.new, out.new)) }
+        OnErr result (BreaksSeeing (Paired W.broke) x (limit - s.turn) s (watcher.old, out.old)
+        (watcher.new, out.new)) }
     ensures within { turns_of board.new ≤ limit }
 {
     W::sees_in_parts();

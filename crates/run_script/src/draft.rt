@@ -18,7 +18,8 @@ pub(crate) const MOST_OF_TURN: u8 = 8;
 pub(crate) struct Draft {
     pub(crate) every: Option<u32>,
     pub(crate) events: Vec<(u32, Event)>,
-    /// The turn of the last event, and how many events are of that turn; 0 and 0 where there is none.
+    /// The turn of the last event, and how many events are of that turn; 0 and 0 where there is
+    /// none.
     pub(crate) last: u32,
     pub(crate) here: u8,
 }
@@ -75,9 +76,11 @@ fn add_event(draft: &mut Draft, turn: u32, event: Event, line: usize) -> Result<
 /// Takes what a line says, or tells why it is refused there.
 pub(crate) fn take(draft: &mut Draft, statement: Statement, line: usize) -> Result<(), ScriptFault>
     requires { Tracks draft.old.events.items draft.old.last draft.old.here }
-    ensures ok { OnOk result (with_statement (drafted draft.old) statement ≡ Ok (drafted draft.new)) }
+    ensures ok { OnOk result (with_statement (drafted draft.old) statement ≡ Ok
+        (drafted draft.new)) }
     ensures tracks { OnOk result (Tracks draft.new.events.items draft.new.last draft.new.here) }
-    ensures err { IfErr result (λ e. Refuses e line (with_statement (drafted draft.old) statement)) }
+    ensures err { IfErr result (λ e. Refuses e line
+        (with_statement (drafted draft.old) statement)) }
 {
     match statement {
         Statement::Nothing => Ok(()),

@@ -1,4 +1,5 @@
-//! A script that becomes another one, and events that are added to it one by one, in room that was taken before.
+//! A script that becomes another one, and events that are added to it one by one, in room that was
+//! taken before.
 
 ghost use Rattle.std.specs.Prelude.{◌≡◌, ◌+◌, ◌==◌, ◌++◌, ◌||◌, not, ◌∷◌, [], ℕ, true, false, length, nat_le, is_some, if◌then◌else◌, IfOk, IfSome, slice_get};
 ghost use Rattle.run_script.specs.Events.{script_data};
@@ -13,7 +14,8 @@ use crate::turns::{TURNS, first_of, listed_at};
 use std::alloc::{AllocError, Global};
 
 impl Script {
-    /// A script without events that has room for so many: within it, `become_as` and `add` need no memory.
+    /// A script without events that has room for so many: within it, `become_as` and `add` need no
+    /// memory.
     ///
     /// # Errors
     ///
@@ -50,8 +52,8 @@ impl Script {
         self.events.get(place).copied()
     }
 
-    /// Becomes a copy of another script, for whose events it has room, and keeps that room: what it had
-    /// before is gone, and no memory is needed.
+    /// Becomes a copy of another script, for whose events it has room, and keeps that room: what it
+    /// had before is gone, and no memory is needed.
     pub fn become_as(&mut self, other: &Script)
         requires { HasRoom self.old (length (script_data other.now).events) }
         ensures same { script_data self.new ≡ script_data other.now }
@@ -65,10 +67,10 @@ impl Script {
         }
     }
 
-    /// Lists one event more, behind those of its turn and of the turns before, for which there is room:
-    /// no memory is needed. Where no script has it besides, since its turn is past the last, or
-    /// 65,536 are listed, or eight of its turn (docs/FORMATS.md, Script), the answer is `false`, and
-    /// nothing changes.
+    /// Lists one event more, behind those of its turn and of the turns before, for which there is
+    /// room: no memory is needed. Where no script has it besides, since its turn is past the last,
+    /// or 65,536 are listed, or eight of its turn (docs/FORMATS.md, Script), the answer is `false`,
+    /// and nothing changes.
     pub fn add(&mut self, turn: u32, event: Event) -> bool
         requires line { HasLine event }
         requires device { HasDevice event }

@@ -9,8 +9,8 @@ use crate::script::Script;
 use std::alloc::{AllocError, Global};
 
 impl Script {
-    /// The script of a tick every so many turns and of these events, each with its turn, which no cause
-    /// refuses (docs/FORMATS.md, Script).
+    /// The script of a tick every so many turns and of these events, each with its turn, which no
+    /// cause refuses (docs/FORMATS.md, Script).
     ///
     /// # Errors
     ///
@@ -21,7 +21,8 @@ impl Script {
         events: &[(u32, Event)],
     ) -> Result<Script, AllocError>
         requires { Facts (record { every = every; events = events.now }) }
-        ensures { IfOk result (λ s. script_data s ≡ (record { every = every; events = events.now })) }
+        ensures { IfOk result (λ s. script_data s ≡
+            (record { every = every; events = events.now })) }
     {
         Ok(Script {
             every,

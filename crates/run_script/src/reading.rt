@@ -31,8 +31,8 @@ fn draft_of(alloc: Global, bytes: &[u8]) -> Result<Draft, ScriptFault>
 }
 
 impl Script {
-    /// The script that the bytes say, or the first cause by which they are refused with its line, in
-    /// the order of docs/FORMATS.md, Script; `Memory` where memory ran out. Lines are counted
+    /// The script that the bytes say, or the first cause by which they are refused with its line,
+    /// in the order of docs/FORMATS.md, Script; `Memory` where memory ran out. Lines are counted
     /// from 1.
     pub fn read(alloc: Global, bytes: &[u8]) -> Result<Script, ScriptFault>
         ensures ok { IfOk result (λ s. script_or_fault bytes.now ≡ Ok (script_data s)) }

@@ -25,8 +25,10 @@ pub(crate) fn first_of(script: &Script, turn: u32) -> usize
 /// Whether what `first_of` tells of a turn is this.
 fn is_first(events: &[(u32, Event)], at: usize, turn: u32) -> bool
     ensures within { result ≡ true → at ≤ length events.now }
-    ensures before { result ≡ true → 0 < at → (d : Listed) → nat_lt (slice_index_or events.now (at - 1) d).0 turn ≡ true }
-    ensures from { result ≡ true → at < length events.now → (d : Listed) → nat_lt (slice_index_or events.now at d).0 turn ≡ false }
+    ensures before { result ≡ true → 0 < at → (d : Listed) →
+        nat_lt (slice_index_or events.now (at - 1) d).0 turn ≡ true }
+    ensures from { result ≡ true → at < length events.now → (d : Listed) →
+        nat_lt (slice_index_or events.now at d).0 turn ≡ false }
 {
     at <= events.len()
         && (at == 0 || events[at - 1].0 < turn)
@@ -73,7 +75,8 @@ pub(crate) fn listed_at(script: &Script, first: usize, turn: u32, k: u32) -> Opt
 
 /// Whether the turn has the tick of `every`.
 fn has_tick(script: &Script, turn: u32) -> bool
-    ensures { ticks_of (script_data script.now).every turn ≡ (if result then Event.Tick ∷ [] else []) }
+    ensures { ticks_of (script_data script.now).every turn ≡
+        (if result then Event.Tick ∷ [] else []) }
 {
     match script.every {
         None => false,
@@ -148,7 +151,8 @@ fn next_listed(script: &Script, at: usize, from: u32) -> Option<u32>
 
 /// The turn that comes first, where there is one.
 fn lesser(one: Option<u32>, other: Option<u32>) -> Option<u32>
-    ensures { (happens too : ℕ → List Event) (from : ℕ) → IsNextBy happens from one → IsNextBy too from other → IsNextBy (λ turn. happens turn ++ too turn) from result }
+    ensures { (happens too : ℕ → List Event) (from : ℕ) → IsNextBy happens from one →
+        IsNextBy too from other → IsNextBy (λ turn. happens turn ++ too turn) from result }
 {
     match (one, other) {
         (None, other) => other,
@@ -157,7 +161,8 @@ fn lesser(one: Option<u32>, other: Option<u32>) -> Option<u32>
     }
 }
 
-/// The next turn, from turn `from` on, in which anything happens, by the first listed event from there on.
+/// The next turn, from turn `from` on, in which anything happens, by the first listed event from
+/// there on.
 fn next_of(script: &Script, first: usize, from: u32) -> Option<u32>
     requires { IsFirstListed (script_data script.now) from first }
     ensures { IsNext (script_data script.now) from result }
@@ -181,8 +186,8 @@ impl Script {
         ensures turn { (turn : ℕ) → IsTurn (events_of (script_data self.now) turn) }
     {}
 
-    /// Where the first listed event of this turn or a later one stands, or how many there are. A guess that is right saves the
-    /// search.
+    /// Where the first listed event of this turn or a later one stands, or how many there are. A
+    /// guess that is right saves the search.
     pub fn first_listed(&self, guess: usize, turn: u32) -> usize
         ensures { IsFirstListed (script_data self.now) turn result }
     {
@@ -197,8 +202,8 @@ impl Script {
         first_after(self, first, turn)
     }
 
-    /// The k-th event of a turn, from 0: the tick where there is one, then the listed events in order;
-    /// `None` past the last.
+    /// The k-th event of a turn, from 0: the tick where there is one, then the listed events in
+    /// order; `None` past the last.
     pub fn event_at(&self, turn: u32, k: u32) -> Option<Event>
         ensures event { result ≡ slice_get (events_of (script_data self.now) turn) k }
         ensures few { OnSome result (k < 9) }
@@ -219,8 +224,8 @@ impl Script {
         event_of(self, first, turn, k)
     }
 
-    /// The next turn, from turn `from` on and below 1,000,000,000, in which anything happens; `None`
-    /// where there is none.
+    /// The next turn, from turn `from` on and below 1,000,000,000, in which anything happens;
+    /// `None` where there is none.
     pub fn next(&self, from: u32) -> Option<u32>
         ensures { IsNext (script_data self.now) from result }
     {

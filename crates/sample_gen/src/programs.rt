@@ -32,7 +32,8 @@ pub(crate) fn client_source(
     size: u32,
     period: u32,
 ) -> Result<String, AllocError>
-    ensures { IfOk result (λ s. string_bytes s ≡ text_of (client_lines server operation size period)) }
+    ensures { IfOk result (λ s. string_bytes s ≡ text_of
+        (client_lines server operation size period)) }
 {
     format!(in alloc;
         "movs r0, #3\nstr r0, [sp, #48]\nadd r0, sp, #64\nstr r0, [sp, #52]\nmovs r0, #32\nstr r0, [sp, #56]\nloop: movs r4, #{server}\nmovs r0, #10\nmov r11, r0\nsvc #0\nlsls r4, r4, #16\nadds r4, #{operation}\nmov r5, sp\nmovs r6, #{size}\nadd r7, sp, #32\nmovs r0, #4\nmov r8, r0\nadd r0, sp, #48\nmov r9, r0\nmovs r0, #1\nmov r10, r0\nmovs r0, #0\nmov r11, r0\nsvc #0\nmovs r0, #9\nmov r11, r0\nsvc #0\nmov r6, r5\nadds r4, #{period}\nmov r5, r4\nmovs r4, #1\nmovs r7, #1\nmovs r0, #3\nmov r11, r0\nsvc #0\nmovs r4, #0\nmovs r5, #0\nmovs r6, #1\nldr r7, clock\nmovs r0, #1\nmov r11, r0\nsvc #0\nb loop\n.align 2\nclock: .word 0x8000ffff\n"

@@ -42,7 +42,8 @@ pub enum StateFault {
 /// The turn, the time, who ran last and the next call.
 fn set_numbers(board: &mut Board, h: &Header)
     requires { h.now.current < count_of board.old }
-    ensures holds { (x : Scenario) (s : State) → Holds (boxed shown) x board.old s → Holds (boxed shown) x board.new (with_numbers h.now s) }
+    ensures holds { (x : Scenario) (s : State) → Holds (boxed shown) x board.old s →
+        Holds (boxed shown) x board.new (with_numbers h.now s) }
     ensures count { count_of board.new ≡ count_of board.old }
 {
     board.set_turns(h.turn);
@@ -54,7 +55,8 @@ fn set_numbers(board: &mut Board, h: &Header)
 /// The interrupt lines, each by its byte.
 fn set_lines(board: &mut Board, bytes: &[u8])
     requires { 100 ≤ length bytes.now }
-    ensures holds { (x : Scenario) (s : State) → Holds (boxed shown) x board.old s → Holds (boxed shown) x board.new (record s { lines = with_lines bytes.now 64 s.lines }) }
+    ensures holds { (x : Scenario) (s : State) → Holds (boxed shown) x board.old s →
+        Holds (boxed shown) x board.new (record s { lines = with_lines bytes.now 64 s.lines }) }
     ensures count { count_of board.new ≡ count_of board.old }
 {
     for k in 0..64 {
@@ -68,8 +70,10 @@ fn set_tasks(board: &mut Board, tasks: usize, bytes: &[u8])
     requires few { tasks ≤ 1024 }
     requires count { tasks ≤ count_of board.old }
     requires long { 100 + 132 * tasks ≤ length bytes.now }
-    requires good { (i : ℕ) → i < tasks → IsGoodRecord (header_at bytes.now).clock (task_in bytes.now i) }
-    ensures holds { (x : Scenario) (s : State) → Holds (boxed shown) x board.old s → Holds (boxed shown) x board.new (with_tasks bytes.now tasks s) }
+    requires good { (i : ℕ) → i < tasks →
+        IsGoodRecord (header_at bytes.now).clock (task_in bytes.now i) }
+    ensures holds { (x : Scenario) (s : State) → Holds (boxed shown) x board.old s →
+        Holds (boxed shown) x board.new (with_tasks bytes.now tasks s) }
     ensures count { count_of board.new ≡ count_of board.old }
 {
     for i in 0..tasks {
@@ -78,8 +82,13 @@ fn set_tasks(board: &mut Board, tasks: usize, bytes: &[u8])
 }
 
 fn set_device(board: &mut Board, k: usize, d: &DeviceRecord)
-    requires { (x : Scenario) × (s : State) × Holds (boxed shown) x board.old s × (k < length s.devices) × IsGoodDevice (device_at s.devices k).kind d.now }
-    ensures holds { (x : Scenario) (s : State) → Holds (boxed shown) x board.old s → Holds (boxed shown) x board.new (record s { devices = with_device s.devices k (device_from (device_at s.devices k) d.now) }) }
+    requires { (x : Scenario) × (s : State) × Holds (boxed shown) x board.old s
+        × (k < length s.devices) × IsGoodDevice (device_at s.devices k).kind d.now }
+    ensures holds { (x : Scenario) (s : State) → Holds (boxed shown) x board.old s →
+        Holds (boxed shown) x board.new
+        (record s {
+          devices = with_device s.devices k (device_from (device_at s.devices k) d.now);
+        }) }
     ensures count { count_of board.new ≡ count_of board.old }
 {
     board.set_device(k, d.count, &d.queue[..d.queued as usize]);
@@ -88,8 +97,13 @@ fn set_device(board: &mut Board, k: usize, d: &DeviceRecord)
 /// The devices, each by its record behind those of so many tasks.
 fn set_devices(board: &mut Board, tasks: usize, devices: usize, bytes: &[u8])
     requires long { 100 + 132 * tasks + 72 * devices ≤ length bytes.now }
-    requires fit { (x : Scenario) × (s : State) × Holds (boxed shown) x board.old s × (devices ≤ length s.devices) × ((k : ℕ) → k < devices → IsGoodDevice (device_at s.devices k).kind (device_in bytes.now tasks k)) }
-    ensures holds { (x : Scenario) (s : State) → Holds (boxed shown) x board.old s → Holds (boxed shown) x board.new (record s { devices = with_devices bytes.now tasks devices s.devices }) }
+    requires fit { (x : Scenario) × (s : State) × Holds (boxed shown) x board.old s
+        × (devices ≤ length s.devices) ×
+        ((k : ℕ) → k < devices → IsGoodDevice (device_at s.devices k).kind
+        (device_in bytes.now tasks k)) }
+    ensures holds { (x : Scenario) (s : State) → Holds (boxed shown) x board.old s →
+        Holds (boxed shown) x board.new
+        (record s { devices = with_devices bytes.now tasks devices s.devices }) }
     ensures count { count_of board.new ≡ count_of board.old }
 {
     for k in 0..devices {
@@ -107,8 +121,11 @@ fn rest(bytes: &[u8], at: usize) -> &[u8]
 
 /// All parts, of which the bytes have those of a saved state that fits the board.
 fn set_parts(board: &mut Board, tasks: usize, devices: usize, bytes: &[u8])
-    requires { (x : Scenario) × (u : State) × Stands (boxed shown) x board.old u × (tasks ≡ length u.tasks) × (devices ≡ length u.devices) × (state_fault (expected_of x.setup u.devices) bytes.now ≡ None) }
-    ensures { (x : Scenario) (u : State) → tasks ≡ length u.tasks → devices ≡ length u.devices → Holds (boxed shown) x board.old u → Holds (boxed shown) x board.new (loaded bytes.now u) }
+    requires { (x : Scenario) × (u : State) × Stands (boxed shown) x board.old u
+        × (tasks ≡ length u.tasks) × (devices ≡ length u.devices)
+        × (state_fault (expected_of x.setup u.devices) bytes.now ≡ None) }
+    ensures { (x : Scenario) (u : State) → tasks ≡ length u.tasks → devices ≡ length u.devices →
+        Holds (boxed shown) x board.old u → Holds (boxed shown) x board.new (loaded bytes.now u) }
 {
     set_numbers(board, &header(bytes));
     set_lines(board, bytes);
@@ -117,13 +134,17 @@ fn set_parts(board: &mut Board, tasks: usize, devices: usize, bytes: &[u8])
     set_devices(board, tasks, devices, bytes);
 }
 
-/// The board goes on from the state that the bytes spell, and keeps its image, its script and the kinds and places of its devices.
-/// It takes no memory.
+/// The board goes on from the state that the bytes spell, and keeps its image, its script and the
+/// kinds and places of its devices. It takes no memory.
 pub fn load_into(board: &mut Board, bytes: &[u8])
-    requires { (x : Scenario) × (u : State) × Stands (boxed shown) x board.old u × (state_fault (expected_of x.setup u.devices) bytes.now ≡ None) }
-    ensures stands { (x : Scenario) (u : State) → Stands (boxed shown) x board.old u → Stands (boxed shown) x board.new (state_in x.setup u.devices bytes.now) }
-    ensures each { (x : Scenario) (u s : State) → Stands (boxed shown) x board.old u → SpellsState x.setup s bytes.now
-        → Sane x.setup s → IsCounted s → sites s.devices ≡ sites u.devices → Stands (boxed shown) x board.new s }
+    requires { (x : Scenario) × (u : State) × Stands (boxed shown) x board.old u
+        × (state_fault (expected_of x.setup u.devices) bytes.now ≡ None) }
+    ensures stands { (x : Scenario) (u : State) → Stands (boxed shown) x board.old u →
+        Stands (boxed shown) x board.new (state_in x.setup u.devices bytes.now) }
+    ensures each { (x : Scenario) (u s : State) → Stands (boxed shown) x board.old u →
+        SpellsState x.setup s bytes.now
+        → Sane x.setup s → IsCounted s → sites s.devices ≡ sites u.devices →
+        Stands (boxed shown) x board.new s }
 {
     let tasks = board.task_count();
     let devices = board.device_count();
@@ -132,7 +153,8 @@ pub fn load_into(board: &mut Board, bytes: &[u8])
 
 /// The regions of each task.
 fn regions(alloc: Global, image: &Image) -> Result<Vec<Vec<Region>>, AllocError>
-    ensures { IfOk result (λ v. map vec_items v.items ≡ map (λ t. t.regions) (image_data image.now).tasks) }
+    ensures { IfOk result (λ v. map vec_items v.items ≡ map (λ t. t.regions)
+        (image_data image.now).tasks) }
 {
     let mut regions = Vec::new(alloc);
     for i in 0..image.task_count() {
@@ -178,7 +200,9 @@ fn refusal(
     bytes: &[u8],
 ) -> Result<Option<(u8, u32)>, AllocError>
     requires { length devices.now.items ≤ 8 }
-    ensures { IfOk result (λ found. found ≡ state_fault (expected_of (setup_of_image (image_data image.now)) (map shown devices.now.items)) bytes.now) }
+    ensures { IfOk result (λ found. found ≡ state_fault
+        (expected_of (setup_of_image (image_data image.now)) (map shown devices.now.items))
+        bytes.now) }
 {
     image.facts();
     let regions = regions(alloc, image)?;
@@ -187,8 +211,9 @@ fn refusal(
     Ok(check(&regions, image.ram(), &owned, &kinds, bytes))
 }
 
-/// A board of an image with a script and with devices, as they are handed in, in the state that the bytes spell. Where none is
-/// made, the devices are dropped. Where one is made, its run starts sane.
+/// A board of an image with a script and with devices, as they are handed in, in the state that the
+/// bytes spell. Where none is made, the devices are dropped. Where one is made, its run starts
+/// sane.
 ///
 /// # Errors
 ///
@@ -201,13 +226,22 @@ pub fn load(
     devices: Vec<Box<dyn Device>>,
 ) -> Result<Board, StateFault>
     requires fresh { AreFresh (map shown devices.items) }
-    ensures accepted { let x = scenario_of (image_data image.now) (script_data script.now) (map shown devices.items) in IfOk result (λ b. state_fault (expected_of x.setup x.devices) bytes.now ≡ None) }
-    ensures start { let x = scenario_of (image_data image.now) (script_data script.now) (map shown devices.items) in IfOk result (λ b. Sane x.setup (start_of x)) }
-    ensures stands { let x = scenario_of (image_data image.now) (script_data script.now) (map shown devices.items) in IfOk result (λ b. Stands shown x b (state_in x.setup x.devices bytes.now)) }
-    ensures each { let x = scenario_of (image_data image.now) (script_data script.now) (map shown devices.items) in
-        IfOk result (λ b. (s : State) → SpellsState x.setup s bytes.now → Sane x.setup s → IsCounted s → sites s.devices ≡ sites x.devices → Stands shown x b s) }
+    ensures accepted { let x = scenario_of (image_data image.now) (script_data script.now)
+        (map shown devices.items) in IfOk result
+        (λ b. state_fault (expected_of x.setup x.devices) bytes.now ≡ None) }
+    ensures start { let x = scenario_of (image_data image.now) (script_data script.now)
+        (map shown devices.items) in IfOk result (λ b. Sane x.setup (start_of x)) }
+    ensures stands { let x = scenario_of (image_data image.now) (script_data script.now)
+        (map shown devices.items) in IfOk result
+        (λ b. Stands shown x b (state_in x.setup x.devices bytes.now)) }
+    ensures each { let x = scenario_of (image_data image.now) (script_data script.now)
+        (map shown devices.items) in
+        IfOk result (λ b. (s : State) → SpellsState x.setup s bytes.now → Sane x.setup s →
+        IsCounted s → sites s.devices ≡ sites x.devices → Stands shown x b s) }
     ensures turns { IfOk result (λ b. turns_of b ≡ (header_at bytes.now).turn) }
-    ensures refused { let x = scenario_of (image_data image.now) (script_data script.now) (map shown devices.items) in IfErr result (IsStateFault (state_fault (expected_of x.setup x.devices) bytes.now)) }
+    ensures refused { let x = scenario_of (image_data image.now) (script_data script.now)
+        (map shown devices.items) in IfErr result
+        (IsStateFault (state_fault (expected_of x.setup x.devices) bytes.now)) }
 {
     let found = match refusal(alloc, image, &devices, bytes) {
         Ok(found) => found,

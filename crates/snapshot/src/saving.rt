@@ -18,7 +18,8 @@ use std::alloc::{AllocError, Global};
 
 /// How many bytes the state of a board is saved as (docs/FORMATS.md, Saved state).
 pub fn saved_len(board: &Board) -> usize
-    ensures { (x : Scenario) (s : State) → Stands (boxed shown) x board.now s → result ≡ length (spelling (reduced s)) }
+    ensures { (x : Scenario) (s : State) → Stands (boxed shown) x board.now s →
+        result ≡ length (spelling (reduced s)) }
 {
     // No board that stands has more than eight devices.
     100 + 132 * board.task_count() + 72 * board.device_count().min(8) + board.ram_len()
@@ -26,7 +27,8 @@ pub fn saved_len(board: &Board) -> usize
 
 fn header_of(board: &Board) -> Header
     requires { StandsForSome (boxed shown) board.now }
-    ensures { (x : Scenario) (s : State) → Stands (boxed shown) x board.now s → result ≡ (parts_of (reduced s)).header }
+    ensures { (x : Scenario) (s : State) → Stands (boxed shown) x board.now s →
+        result ≡ (parts_of (reduced s)).header }
 {
     Header {
         turn: board.turns(),
@@ -40,7 +42,8 @@ fn header_of(board: &Board) -> Header
 }
 
 fn lines_of(board: &Board) -> [u8; 64]
-    ensures { (x : Scenario) (s : State) → Stands (boxed shown) x board.now s → result ≡ (parts_of (reduced s)).lines }
+    ensures { (x : Scenario) (s : State) → Stands (boxed shown) x board.now s →
+        result ≡ (parts_of (reduced s)).lines }
 {
     let mut lines = [0; 64];
     for k in 0..64 {
@@ -53,7 +56,8 @@ fn lines_of(board: &Board) -> [u8; 64]
 fn save_task(board: &Board, i: usize, out: &mut [u8], at: usize) -> usize
     requires there { i < count_of board.now }
     requires room { at + 132 ≤ length out.old }
-    ensures front { (x : Scenario) (s : State) → Stands (boxed shown) x board.now s → take result out.new ≡ take at out.old ++ task_bytes (record_of (reduced s) i) }
+    ensures front { (x : Scenario) (s : State) → Stands (boxed shown) x board.now s →
+        take result out.new ≡ take at out.old ++ task_bytes (record_of (reduced s) i) }
     ensures after { result ≡ at + 132 }
     ensures len { length out.new ≡ length out.old }
 {
@@ -65,9 +69,12 @@ fn save_task(board: &Board, i: usize, out: &mut [u8], at: usize) -> usize
 
 /// The records of all tasks.
 fn save_tasks(board: &Board, out: &mut [u8], at: usize) -> usize
-    requires room { (x : Scenario) × (s : State) × Stands (boxed shown) x board.now s × (at + 132 * length s.tasks ≤ length out.old) }
-    ensures front { (x : Scenario) (s : State) → Stands (boxed shown) x board.now s → take result out.new ≡ take at out.old ++ flat_map task_bytes (parts_of (reduced s)).tasks }
-    ensures after { (x : Scenario) (s : State) → Stands (boxed shown) x board.now s → result ≡ at + 132 * length s.tasks }
+    requires room { (x : Scenario) × (s : State) × Stands (boxed shown) x board.now s
+        × (at + 132 * length s.tasks ≤ length out.old) }
+    ensures front { (x : Scenario) (s : State) → Stands (boxed shown) x board.now s →
+        take result out.new ≡ take at out.old ++ flat_map task_bytes (parts_of (reduced s)).tasks }
+    ensures after { (x : Scenario) (s : State) → Stands (boxed shown) x board.now s →
+        result ≡ at + 132 * length s.tasks }
     ensures len { length out.new ≡ length out.old }
 {
     let mut end = at;
@@ -79,9 +86,12 @@ fn save_tasks(board: &Board, out: &mut [u8], at: usize) -> usize
 
 /// The record of device k.
 fn save_device(board: &Board, k: usize, out: &mut [u8], at: usize) -> usize
-    requires there { (x : Scenario) × (s : State) × Stands (boxed shown) x board.now s × (k < length s.devices) }
+    requires there { (x : Scenario) × (s : State) × Stands (boxed shown) x board.now s
+        × (k < length s.devices) }
     requires room { at + 72 ≤ length out.old }
-    ensures front { (x : Scenario) (s : State) → Stands (boxed shown) x board.now s → take result out.new ≡ take at out.old ++ device_bytes (device_told (device_at s.devices k)) }
+    ensures front { (x : Scenario) (s : State) → Stands (boxed shown) x board.now s →
+        take result out.new ≡ take at out.old
+        ++ device_bytes (device_told (device_at s.devices k)) }
     ensures after { result ≡ at + 72 }
     ensures len { length out.new ≡ length out.old }
 {
@@ -93,9 +103,13 @@ fn save_device(board: &Board, k: usize, out: &mut [u8], at: usize) -> usize
 
 /// The records of all devices.
 fn save_devices(board: &Board, out: &mut [u8], at: usize) -> usize
-    requires room { (x : Scenario) × (s : State) × Stands (boxed shown) x board.now s × (at + 72 * length s.devices ≤ length out.old) }
-    ensures front { (x : Scenario) (s : State) → Stands (boxed shown) x board.now s → take result out.new ≡ take at out.old ++ flat_map device_bytes (parts_of (reduced s)).devices }
-    ensures after { (x : Scenario) (s : State) → Stands (boxed shown) x board.now s → result ≡ at + 72 * length s.devices }
+    requires room { (x : Scenario) × (s : State) × Stands (boxed shown) x board.now s
+        × (at + 72 * length s.devices ≤ length out.old) }
+    ensures front { (x : Scenario) (s : State) → Stands (boxed shown) x board.now s →
+        take result out.new ≡ take at out.old
+        ++ flat_map device_bytes (parts_of (reduced s)).devices }
+    ensures after { (x : Scenario) (s : State) → Stands (boxed shown) x board.now s →
+        result ≡ at + 72 * length s.devices }
     ensures len { length out.new ≡ length out.old }
 {
     let mut end = at;
@@ -107,17 +121,21 @@ fn save_devices(board: &Board, out: &mut [u8], at: usize) -> usize
 
 /// The bytes of the RAM, which fill what is left.
 fn save_ram(board: &Board, out: &mut [u8], at: usize)
-    requires room { (x : Scenario) × (s : State) × Stands (boxed shown) x board.now s × (at + length s.memory.ram ≡ length out.old) }
-    ensures { (x : Scenario) (s : State) → Stands (boxed shown) x board.now s → out.new ≡ take at out.old ++ s.memory.ram }
+    requires room { (x : Scenario) × (s : State) × Stands (boxed shown) x board.now s
+        × (at + length s.memory.ram ≡ length out.old) }
+    ensures { (x : Scenario) (s : State) → Stands (boxed shown) x board.now s →
+        out.new ≡ take at out.old ++ s.memory.ram }
 {
     board.read_ram(&mut out[at..]);
 }
 
-/// The state of a board, whose births count by their generation alone, as it is spelled (docs/FORMATS.md, Saved state). It
-/// takes no memory.
+/// The state of a board, whose births count by their generation alone, as it is spelled
+/// (docs/FORMATS.md, Saved state). It takes no memory.
 pub fn save_into(board: &Board, out: &mut [u8])
-    requires room { (x : Scenario) × (s : State) × Stands (boxed shown) x board.now s × (length out.old ≡ length (spelling (reduced s))) }
-    ensures { (x : Scenario) (s : State) → Stands (boxed shown) x board.now s → SpellsState x.setup (reduced s) out.new }
+    requires room { (x : Scenario) × (s : State) × Stands (boxed shown) x board.now s
+        × (length out.old ≡ length (spelling (reduced s))) }
+    ensures { (x : Scenario) (s : State) → Stands (boxed shown) x board.now s →
+        SpellsState x.setup (reduced s) out.new }
 {
     let at = put_header(out, 0, &header_of(board));
     let at = put_lines(out, at, &lines_of(board));
@@ -133,7 +151,8 @@ pub fn save_into(board: &Board, out: &mut [u8])
 /// Only want of memory.
 pub fn save(alloc: Global, board: &Board) -> Result<Vec<u8>, AllocError>
     requires stood { StandsForSome (boxed shown) board.now }
-    ensures { (x : Scenario) (s : State) → Stands (boxed shown) x board.now s → IfOk result (λ v. SpellsState x.setup (reduced s) v.items) }
+    ensures { (x : Scenario) (s : State) → Stands (boxed shown) x board.now s →
+        IfOk result (λ v. SpellsState x.setup (reduced s) v.items) }
 {
     let mut bytes = vec![in alloc; 0; saved_len(board)]?;
     save_into(board, &mut bytes);

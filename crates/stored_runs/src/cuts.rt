@@ -1,5 +1,6 @@
-//! Stored runs in two parts: each is cut at five of its turns, its state is saved there, and what is told of the run that goes on
-//! from that state is compared with what the whole run tells from that turn on.
+//! Stored runs in two parts: each is cut at five of its turns, its state is saved there, and what
+//! is told of the run that goes on from that state is compared with what the whole run tells from
+//! that turn on.
 
 use crate::with_devices::with_two;
 use crate::{Part, contents, files_of, first_line, hold, parts_of, push_line, push_word};
@@ -21,7 +22,8 @@ const CUT: [&str; 6] = [
 /// Room for an image, and for a state.
 const ROOM: usize = 1_000_000;
 
-/// A stored run: its files, an image of its own among them, its script, and what its words say behind these two.
+/// A stored run: its files, an image of its own among them, its script, and what its words say
+/// behind these two.
 #[derive(Clone, Copy)]
 struct Stored<'a> {
     parts: &'a [Part<'a>],

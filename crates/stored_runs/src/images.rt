@@ -1,5 +1,6 @@
-//! Runs of images with the empty script: of two that gcc compiled from C (data/crc32.c, data/bytecode.c), to the numbers of
-//! turns at which another emulator of the processor told the same registers and the same memory.
+//! Runs of images with the empty script: of two that gcc compiled from C (data/crc32.c,
+//! data/bytecode.c), to the numbers of turns at which another emulator of the processor told the
+//! same registers and the same memory.
 use crate::{hold, push_line};
 use outside_io::{MemFiles, MemSink};
 use std::alloc::{AllocError, Global};
@@ -27,7 +28,8 @@ pub(crate) fn run(
     Ok(hubris_main(alloc, &words, &mut files, out))
 }
 
-/// Runs the image of a file, and writes what the program tells, and its status where it does not end well.
+/// Runs the image of a file, and writes what the program tells, and its status where it does not
+/// end well.
 fn run_file(rt: &HostRuntime, name: &str, line: &str) -> io::Result<()> {
     let image = fs::read(rt, name)?;
     let mut out = MemSink::open(rt.alloc(), 1_000_000, &[])?;

@@ -1,7 +1,9 @@
-//! A task that shares nothing, in surroundings drawn at random: other tasks, priorities and scripts. After as many turns of
-//! its own it has the same health, registers, flags and bytes in each.
+//! A task that shares nothing, in surroundings drawn at random: other tasks, priorities and
+//! scripts. After as many turns of its own it has the same health, registers, flags and bytes in
+//! each.
 //!
-//! A case is one of `main`'s whose part `turns` has a line a run: the number of the task's own turns, and of all turns.
+//! A case is one of `main`'s whose part `turns` has a line a run: the number of the task's own
+//! turns, and of all turns.
 
 use crate::{Part, contents, files_of, first_line, parts_of, push_line, push_word};
 use outside_io::MemSink;
@@ -19,7 +21,8 @@ fn behind<'a>(text: &'a str, front: &str) -> &'a str {
     text.split_once(front).unwrap_or(("", "")).1
 }
 
-/// What the last lines of a run tell of task 1 and of nobody else: its health, its registers and flags, and its RAM.
+/// What the last lines of a run tell of task 1 and of nobody else: its health, its registers and
+/// flags, and its RAM.
 fn own_of(alloc: Global, text: &str) -> Result<String, AllocError> {
     let task = before(before(behind(text, "\ntask 1 "), "\ntask "), "\nmem ");
     let (line, registers) = first_line(task);

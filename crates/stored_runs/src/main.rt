@@ -1,15 +1,18 @@
-//! Hands the program stored files, malformed and hostile ones among them, and counts the cases in which it answers what a
-//! second reading of the rules, in a language of its own, answers; then runs a task that shares nothing beside others, cuts runs in two, and runs two
-//! images compiled by gcc, and each halfword.
+//! Hands the program stored files, malformed and hostile ones among them, and counts the cases in
+//! which it answers what a second reading of the rules, in a language of its own, answers; then
+//! runs a task that shares nothing beside others, cuts runs in two, and runs two images compiled by
+//! gcc, and each halfword.
 //!
-//! A case begins with a line `= STATUS NAME`. Each of its parts begins with a line `+ KEY`: `words`, the command line after
-//! the program's name, or `each word`, the same with one word a line, or neither where not even the program's name is
-//! handed over; `failing calls` and `failing pushes`, the numbers of the reads and puts, and of the pushes, that fail;
-//! `hex NAME`, a file as bytes, where `00*9` is nine of one; `room NAME`, a file with room for so many bytes, and those
-//! that it holds; `player NAME` and `server NAME`, the source of a task that makes the calls of a table, and the table;
-//! `repeated NAME`, a file in which the lines between a line `< N` and a line `>` stand N times, `@` being the number of the time;
-//! `devices`, which devices are handed in; `left NAME`, the bytes that stand there in the end, `left text NAME` the same as lines and
-//! `left sum NAME` by their checksum; and any other key is the name of a file that stands there as it is.
+//! A case begins with a line `= STATUS NAME`. Each of its parts begins with a line `+ KEY`:
+//! `words`, the command line after the program's name, or `each word`, the same with one word a
+//! line, or neither where not even the program's name is handed over; `failing calls` and `failing
+//! pushes`, the numbers of the reads and puts, and of the pushes, that fail; `hex NAME`, a file as
+//! bytes, where `00*9` is nine of one; `room NAME`, a file with room for so many bytes, and those
+//! that it holds; `player NAME` and `server NAME`, the source of a task that makes the calls of a
+//! table, and the table; `repeated NAME`, a file in which the lines between a line `< N` and a line
+//! `>` stand N times, `@` being the number of the time; `devices`, which devices are handed in;
+//! `left NAME`, the bytes that stand there in the end, `left text NAME` the same as lines and `left
+//! sum NAME` by their checksum; and any other key is the name of a file that stands there as it is.
 //! Last comes `text`, the lines that are wanted, or `sum`, the checksum of the text.
 #![tactic(auto)]
 
@@ -242,7 +245,8 @@ fn sink_of(alloc: Global, parts: &[Part<'_>]) -> Result<MemSink, AllocError> {
     MemSink::open(alloc, 1_000_000, &failing)
 }
 
-/// Whether bytes are those that are wanted: as the word before the name tells, by their checksum, as lines, or as digits.
+/// Whether bytes are those that are wanted: as the word before the name tells, by their checksum,
+/// as lines, or as digits.
 fn is_as_wanted(alloc: Global, word: &str, wanted: &str, found: &[u8]) -> Result<bool, AllocError> {
     match word {
         "sum" => Ok(u64::from_str_radix(wanted.trim_end(), 16) == Ok(sum(found))),
@@ -281,7 +285,8 @@ fn are_left(alloc: Global, files: &mut MemFiles, parts: &[Part<'_>]) -> Result<b
     Ok(true)
 }
 
-/// Whether the program, handed the files and the output, answers with the status at the head and as the parts want.
+/// Whether the program, handed the files and the output, answers with the status at the head and as
+/// the parts want.
 fn answers(
     alloc: Global,
     head: &str,

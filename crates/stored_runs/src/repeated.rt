@@ -1,5 +1,5 @@
-//! Contents in which lines are repeated: those between a line `< N` and a line `>` stand there N times, `@` being the
-//! number of the time, from 0.
+//! Contents in which lines are repeated: those between a line `< N` and a line `>` stand there N
+//! times, `@` being the number of the time, from 0.
 
 use crate::first_line;
 use std::alloc::AllocError;

@@ -26,7 +26,11 @@ impl Checkpoints {
     /// # Errors
     ///
     /// Only want of memory.
-    pub(crate) fn with_room(alloc: Global, states: usize, len: usize) -> Result<Checkpoints, AllocError>
+    pub(crate) fn with_room(
+        alloc: Global,
+        states: usize,
+        len: usize,
+    ) -> Result<Checkpoints, AllocError>
         ensures none { IfOk result (λ t. t.count ≡ 0) }
         ensures room { IfOk result (λ t. length t.states.items ≡ states) }
     {
@@ -51,7 +55,8 @@ impl Checkpoints {
         self.count = 0;
     }
 
-    /// The first turn from this one on before which a state is kept; the last number where there is none.
+    /// The first turn from this one on before which a state is kept; the last number where there is
+    /// none.
     pub(crate) fn next(&self, from: u32) -> u32
         ensures { from ≤ result }
     {

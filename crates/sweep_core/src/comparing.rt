@@ -6,8 +6,8 @@ ghost use Rattle.sweep_core.specs.Told.{is_worse_told};
 use crate::outcome::OutcomeText;
 use crate::told::{Told, is_worse};
 
-/// The outcomes up to here, each compared with the first of them and with the run without an arrival. None of them need be kept:
-/// where all are the first one, no two of them differ.
+/// The outcomes up to here, each compared with the first of them and with the run without an
+/// arrival. None of them need be kept: where all are the first one, no two of them differ.
 #[derive(Drop)]
 pub(crate) struct Compared {
     first: Option<OutcomeText>,
@@ -36,7 +36,8 @@ impl Compared {
 
     /// One outcome more.
     pub(crate) fn add(&mut self, base: &Told, told: &Told)
-        ensures { compared_of self.new ≡ with_outcome (compared_of self.old) (is_worse_told base.now told.now) told.now.words.bytes }
+        ensures { compared_of self.new ≡ with_outcome (compared_of self.old)
+            (is_worse_told base.now told.now) told.now.words.bytes }
     {
         if is_worse(base, told) || differs_from(&self.first, &told.words) {
             self.found = true;

@@ -8,15 +8,19 @@ ghost use Rattle.sweep_core.specs.Laying.{IsLaid};
 
 use run_script::Script;
 
-/// The events of an arrival from turn `time` on, each behind the script's own of its turn; false where that
-/// is no script, and then `laid` is of no use.
+/// The events of an arrival from turn `time` on, each behind the script's own of its turn; false
+/// where that is no script, and then `laid` is of no use.
 pub(crate) fn lay(laid: &mut Script, script: &Script, arrival: &Script, time: u32) -> bool
-    requires room { HasRoom laid.old (length (script_data script.now).events + length (script_data arrival.now).events) }
+    requires room { HasRoom laid.old (length (script_data script.now).events + length
+        (script_data arrival.now).events) }
     requires early { time ≤ 1000000000 }
-    ensures made { result ≡ may_be_laid (script_data script.now) (script_data arrival.now).events time }
-    ensures same { result ≡ true → IsLaid (script_data laid.new) (script_data script.now) (script_data arrival.now).events time }
+    ensures made { result ≡ may_be_laid (script_data script.now) (script_data arrival.now).events
+        time }
+    ensures same { result ≡ true → IsLaid (script_data laid.new) (script_data script.now)
+        (script_data arrival.now).events time }
     ensures room { (n : ℕ) → HasRoom laid.old n → HasRoom laid.new n }
-    ensures count { result ≡ true → length (script_data laid.new).events ≡ length (script_data script.now).events + length (script_data arrival.now).events }
+    ensures count { result ≡ true → length (script_data laid.new).events ≡ length
+        (script_data script.now).events + length (script_data arrival.now).events }
 {
     laid.become_as(script);
     for place in 0..arrival.count() {
@@ -32,7 +36,8 @@ pub(crate) fn lay(laid: &mut Script, script: &Script, arrival: &Script, time: u3
     true
 }
 
-/// How many turns an arrival lasts: none of its events is due that many turns after the arrival time, nor later.
+/// How many turns an arrival lasts: none of its events is due that many turns after the arrival
+/// time, nor later.
 pub(crate) fn span(arrival: &Script) -> u32
     ensures all { All (λ d. d.0 < result) (script_data arrival.now).events }
     ensures few { result ≤ 1000000000 }

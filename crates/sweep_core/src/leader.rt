@@ -10,10 +10,10 @@ ghost use Rattle.board_core.specs.Stands.{Stands, StandsForSome, turns_of};
 ghost use Rattle.sweep_core.specs.Leading.{HasGoneOn, HasMet, HasMissed, HasPassed, IsAtStop, IsLeading, IsUnderWay, board_script, run_from};
 ghost use Rattle.sweep_core.specs.Told.{IsToldFrom};
 
+use crate::checkpoints::Checkpoints;
 use crate::saving::save;
 use crate::tally::Tally;
 use crate::told::{Told, nothing_told, play_to, told_from};
-use crate::checkpoints::Checkpoints;
 use board_core::Board;
 use board_run::ending;
 use snapshot::saved_len;
@@ -77,8 +77,9 @@ impl Leader {
         })
     }
 
-    /// The next turn, behind this one, before which the run of a board is looked at, where its arrival is over from turn `over` on:
-    /// where one is kept of the run that leads, or a power of two behind `over`. None where the run ends here, or before that.
+    /// The next turn, behind this one, before which the run of a board is looked at, where its
+    /// arrival is over from turn `over` on: where one is kept of the run that leads, or a power of
+    /// two behind `over`. None where the run ends here, or before that.
     fn stop(&self, board: &Board, turn: u32, over: u32, limit: u32) -> Option<u32>
         requires stood { StandsForSome (boxed shown) board.now }
         requires within { turns_of board.now ≤ limit }
@@ -95,14 +96,20 @@ impl Leader {
         if stop < limit { Some(stop) } else { None }
     }
 
-    /// Whether the run of a board, of which this was heard, has come to a state of the one that leads before turn `stop`. Else its state
-    /// is kept, where it has come there. A state of a run is as long at each turn, so it has room.
+    /// Whether the run of a board, of which this was heard, has come to a state of the one that
+    /// leads before turn `stop`. Else its state is kept, where it has come there. A state of a run
+    /// is as long at each turn, so it has room.
     fn meets(&mut self, board: &Board, heard: &Tally, stop: u32) -> bool
         requires { StandsForSome (boxed shown) board.now }
         ensures at { result ≡ true → turns_of board.now ≡ stop }
-        ensures met { result ≡ true → (x : Scenario) (s : State) → Stands (boxed shown) x board.now s → HasMet x s heard.now self.old.led }
-        ensures missed { result ≡ false → (x : Scenario) (s : State) → IsAtStop (boxed shown) x board.now s stop self.old.here.items → HasMissed s heard.now self.old.led }
-        ensures passed { result ≡ false → (x : Scenario) (s : State) → Stands (boxed shown) x board.now s → (self.new.passed ≡ self.old.passed) ⊎ HasPassed x s heard.now stop self.old.passed self.new.passed }
+        ensures met { result ≡ true → (x : Scenario) (s : State) →
+            Stands (boxed shown) x board.now s → HasMet x s heard.now self.old.led }
+        ensures missed { result ≡ false → (x : Scenario) (s : State) →
+            IsAtStop (boxed shown) x board.now s stop self.old.here.items →
+            HasMissed s heard.now self.old.led }
+        ensures passed { result ≡ false → (x : Scenario) (s : State) →
+            Stands (boxed shown) x board.now s → (self.new.passed ≡ self.old.passed)
+            ⊎ HasPassed x s heard.now stop self.old.passed self.new.passed }
         ensures led { self.new.led ≡ self.old.led }
         ensures told { self.new.told ≡ self.old.told }
     {
@@ -122,8 +129,10 @@ impl Leader {
         requires stood { StandsForSome (boxed shown) board.old }
         requires from { turns_of board.old ≤ limit }
         requires few { limit ≤ 1000000000 }
-        ensures told { (x : Scenario) (s : State) → Stands (boxed shown) x board.old s → IsToldFrom mem heard.now (run Calls x (limit - s.turn) s) result }
-        ensures last { (x : Scenario) (s : State) → Stands (boxed shown) x board.old s → Stands (boxed shown) x board.new (run Calls x (limit - s.turn) s).last }
+        ensures told { (x : Scenario) (s : State) → Stands (boxed shown) x board.old s →
+            IsToldFrom mem heard.now (run Calls x (limit - s.turn) s) result }
+        ensures last { (x : Scenario) (s : State) → Stands (boxed shown) x board.old s →
+            Stands (boxed shown) x board.new (run Calls x (limit - s.turn) s).last }
         ensures led { self.new.led ≡ self.old.passed }
         ensures kept { self.new.told ≡ result }
     {
@@ -132,8 +141,9 @@ impl Leader {
         self.told
     }
 
-    /// What is told of the run that goes on from where the board stands, and of which this was heard up to there, where its arrival is
-    /// over from turn `over` on. The board goes on to its end, or to where it meets the run that leads, whose end is its own.
+    /// What is told of the run that goes on from where the board stands, and of which this was
+    /// heard up to there, where its arrival is over from turn `over` on. The board goes on to its
+    /// end, or to where it meets the run that leads, whose end is its own.
     pub(crate) fn follow(
         &mut self,
         board: &mut Board,
@@ -146,9 +156,13 @@ impl Leader {
         requires from { turns_of board.old ≤ limit }
         requires over { over ≤ 2000000000 }
         requires few { limit ≤ 1000000000 }
-        ensures told { (x : Scenario) (s : State) → IsUnderWay (boxed shown) x over board.old s → IsLeading x limit mem self.old → IsToldFrom mem front.now (run_from x (board_script board.old) limit s) result }
-        ensures leads { (x : Scenario) (s : State) → IsUnderWay (boxed shown) x over board.old s → IsLeading x limit mem self.old → IsLeading x limit mem self.new }
-        ensures last { (x : Scenario) (s : State) → IsUnderWay (boxed shown) x over board.old s → HasGoneOn (boxed shown) x (board_script board.old) s board.new }
+        ensures told { (x : Scenario) (s : State) → IsUnderWay (boxed shown) x over board.old s →
+            IsLeading x limit mem self.old →
+            IsToldFrom mem front.now (run_from x (board_script board.old) limit s) result }
+        ensures leads { (x : Scenario) (s : State) → IsUnderWay (boxed shown) x over board.old s →
+            IsLeading x limit mem self.old → IsLeading x limit mem self.new }
+        ensures last { (x : Scenario) (s : State) → IsUnderWay (boxed shown) x over board.old s →
+            HasGoneOn (boxed shown) x (board_script board.old) s board.new }
     {
         self.passed.clear();
         let mut heard = *front;

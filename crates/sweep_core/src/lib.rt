@@ -1,6 +1,7 @@
 //! How a run ends for each time at which some events may arrive (docs/FORMATS.md, Sweep).
 #![tactic(auto)]
 
+mod checkpoints;
 mod comparing;
 mod laying;
 mod leader;
@@ -11,7 +12,6 @@ mod sweeper;
 mod tally;
 mod text;
 mod told;
-mod checkpoints;
 
 pub use outcome::{OutcomeText, outcome_of};
 pub use sweeper::Sweeper;

@@ -2,12 +2,13 @@
 ghost use Rattle.std.specs.Prelude.{◌≡◌, ◌<◌, ◌≤◌, true, false, vec_len};
 ghost use Rattle.sweep_core.specs.Leading.{HasNone, HasSame, IsOneMore, IsSameAs};
 
-use crate::tally::Tally;
 use crate::checkpoints::{Checkpoint, Checkpoints};
+use crate::tally::Tally;
 use std::mem::swap;
 
 impl Checkpoint {
-    /// Whether a run that has come to these bytes, and of which so much was heard, is as this one was.
+    /// Whether a run that has come to these bytes, and of which so much was heard, is as this one
+    /// was.
     fn is_same(&self, heard: &Tally, state: &[u8]) -> bool
         ensures same { result ≡ true → IsSameAs heard.now state.now self.now }
         ensures other { IsSameAs heard.now state.now self.now → result ≡ true }
@@ -30,9 +31,11 @@ impl Checkpoints {
         false
     }
 
-    /// A state is kept besides, where there is room; the bytes change places with those that were kept there.
+    /// A state is kept besides, where there is room; the bytes change places with those that were
+    /// kept there.
     pub(crate) fn keep(&mut self, turn: u32, heard: &Tally, state: &mut Vec<u8>)
-        ensures more { self.old.count < vec_len self.old.states → IsOneMore turn heard.now state.old.items self.old self.new }
+        ensures more { self.old.count < vec_len self.old.states →
+            IsOneMore turn heard.now state.old.items self.old self.new }
         ensures full { vec_len self.old.states ≤ self.old.count → self.new ≡ self.old }
     {
         if self.count < self.states.len() {

@@ -94,7 +94,8 @@ pub(crate) fn letter(view: &TaskView) -> u8
 /// The letters of the tasks.
 fn push_letters(board: &Board, out: &mut OutcomeText)
     requires { array_string_len out.old + 512 ≤ 768 }
-    ensures told { (x : Scenario) (s : State) → Stands (boxed shown) x board.now s → out.new.bytes ≡ out.old.bytes ++ letters s }
+    ensures told { (x : Scenario) (s : State) → Stands (boxed shown) x board.now s →
+        out.new.bytes ≡ out.old.bytes ++ letters s }
     ensures len { array_string_len out.new ≤ array_string_len out.old + 512 }
 {
     for i in 0..board.task_count() {
@@ -107,7 +108,8 @@ fn push_letters(board: &Board, out: &mut OutcomeText)
 
 /// The digest of the bytes of the RAM.
 fn digest_of_ram(board: &Board) -> u32
-    ensures { (x : Scenario) (s : State) → Stands (boxed shown) x board.now s → result ≡ fold digest digest_start s.memory.ram }
+    ensures { (x : Scenario) (s : State) → Stands (boxed shown) x board.now s →
+        result ≡ fold digest digest_start s.memory.ram }
 {
     let mut d = 0x811c_9dc5;
     for k in 0..board.ram_len() {
@@ -119,7 +121,8 @@ fn digest_of_ram(board: &Board) -> u32
 /// The word of the memory, where it is asked for.
 fn push_memory(board: &Board, mem: bool, out: &mut OutcomeText)
     requires { array_string_len out.old + 9 ≤ 768 }
-    ensures { (x : Scenario) (s : State) → Stands (boxed shown) x board.now s → out.new.bytes ≡ out.old.bytes ++ memory_word mem s.memory.ram }
+    ensures { (x : Scenario) (s : State) → Stands (boxed shown) x board.now s →
+        out.new.bytes ≡ out.old.bytes ++ memory_word mem s.memory.ram }
 {
     if mem {
         let mut word = Front::new();
@@ -129,9 +132,11 @@ fn push_memory(board: &Board, mem: bool, out: &mut OutcomeText)
     }
 }
 
-/// The outcome of a run that ended so, on a board that stands at its end, and of which this was heard.
+/// The outcome of a run that ended so, on a board that stands at its end, and of which this was
+/// heard.
 pub fn outcome_of(end: End, tally: &Tally, board: &Board, mem: bool) -> OutcomeText
-    ensures { (x : Scenario) (s : State) → Stands (boxed shown) x board.now s → result.bytes ≡ front_words end tally.now ++ letters s ++ memory_word mem s.memory.ram }
+    ensures { (x : Scenario) (s : State) → Stands (boxed shown) x board.now s →
+        result.bytes ≡ front_words end tally.now ++ letters s ++ memory_word mem s.memory.ram }
 {
     let mut out = OutcomeText::new();
     out.push_str(front(end, tally).as_str());

@@ -12,8 +12,10 @@ use snapshot::save_into;
 
 /// The state of a board, into room for it.
 pub(crate) fn save(board: &Board, saved: &mut Vec<u8>)
-    requires { (x : Scenario) × (s : State) × Stands (boxed shown) x board.now s × (length saved.old.items ≡ length (spelling (reduced s))) }
-    ensures spelled { (x : Scenario) (s : State) → Stands (boxed shown) x board.now s → SpellsState x.setup (reduced s) saved.new.items }
+    requires { (x : Scenario) × (s : State) × Stands (boxed shown) x board.now s
+        × (length saved.old.items ≡ length (spelling (reduced s))) }
+    ensures spelled { (x : Scenario) (s : State) → Stands (boxed shown) x board.now s →
+        SpellsState x.setup (reduced s) saved.new.items }
     ensures long { length saved.new.items ≡ length saved.old.items }
 {
     save_into(board, saved.as_mut_slice());

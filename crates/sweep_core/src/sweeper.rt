@@ -1,4 +1,5 @@
-//! A board that goes on from arrival time to arrival time, and from each of them to the end of that run and back.
+//! A board that goes on from arrival time to arrival time, and from each of them to the end of that
+//! run and back.
 ghost use Rattle.std.specs.Prelude.{ℕ, ◌≡◌, ◌≤◌, ◌<◌, min, true, false, List, IfOk};
 ghost use Rattle.outside_io.specs.Outside.{Pushes, HasCause};
 ghost use Rattle.run_script.specs.Events.{script_data};
@@ -31,12 +32,13 @@ use std::alloc::{AllocError, Global};
 pub struct Sweeper {
     board: Board,
 
-    /// The script of the run without the arrival. It has room for each that is laid over it, until the board takes it.
+    /// The script of the run without the arrival. It has room for each that is laid over it, until
+    /// the board takes it.
     script: Script,
     arrival: Script,
 
-    /// Room for the script of the next arrival time. The board's own, which it changes places with, has as much from the first arrival
-    /// time on.
+    /// Room for the script of the next arrival time. The board's own, which it changes places with,
+    /// has as much from the first arrival time on.
     spare: Script,
 
     /// Room for the state before an arrival time.
@@ -50,7 +52,8 @@ pub struct Sweeper {
 }
 
 impl Sweeper {
-    /// At the start of a run, with a board that stands there. All memory that is taken is taken here.
+    /// At the start of a run, with a board that stands there. All memory that is taken is taken
+    /// here.
     ///
     /// # Errors
     ///
@@ -61,8 +64,11 @@ impl Sweeper {
         script: &Script,
         arrival: &Script,
     ) -> Result<Sweeper, AllocError>
-        requires { (x : Scenario) × Stands (boxed shown) x board (start_of x) × (x.script ≡ script_data script.now) }
-        ensures { (x : Scenario) → Stands (boxed shown) x board (start_of x) → x.script ≡ script_data script.now → IfOk result (λ w. IsReady (boxed shown) x (script_data arrival.now).events w) }
+        requires { (x : Scenario) × Stands (boxed shown) x board (start_of x)
+            × (x.script ≡ script_data script.now) }
+        ensures { (x : Scenario) → Stands (boxed shown) x board (start_of x) →
+            x.script ≡ script_data script.now →
+            IfOk result (λ w. IsReady (boxed shown) x (script_data arrival.now).events w) }
     {
         let len = saved_len(&board);
         let saved = vec![in alloc; 0; len]?;
@@ -83,16 +89,20 @@ impl Sweeper {
         })
     }
 
-    /// The run that goes on from here, to its end or to where it meets an earlier one, which it may from turn `over` on. The board stands
-    /// here again afterwards.
+    /// The run that goes on from here, to its end or to where it meets an earlier one, which it may
+    /// from turn `over` on. The board stands here again afterwards.
     fn tell(&mut self, over: u32, limit: u32, mem: bool) -> Told
         requires at { (x : Scenario) × (f : Fork) × IsAtFork (boxed shown) x f self.old over limit }
         requires over { over ≤ 2000000000 }
         requires few { limit ≤ 1000000000 }
-        ensures told { (x : Scenario) (f : Fork) → IsAtFork (boxed shown) x f self.old over limit → IsLeading x limit mem self.old.leader → IsTold mem (run_of x f.script limit) result }
-        ensures leads { (x : Scenario) (f : Fork) → IsAtFork (boxed shown) x f self.old over limit → IsLeading x limit mem self.old.leader → IsLeading x limit mem self.new.leader }
-        ensures same { (x : Scenario) (f : Fork) → IsAtFork (boxed shown) x f self.old over limit → IsAtFork (boxed shown) x f self.new over limit }
-        ensures own { (x : Scenario) (f : Fork) → IsAtFork (boxed shown) x f self.old over limit → own_script self.new ≡ own_script self.old }
+        ensures told { (x : Scenario) (f : Fork) → IsAtFork (boxed shown) x f self.old over limit →
+            IsLeading x limit mem self.old.leader → IsTold mem (run_of x f.script limit) result }
+        ensures leads { (x : Scenario) (f : Fork) → IsAtFork (boxed shown) x f self.old over limit →
+            IsLeading x limit mem self.old.leader → IsLeading x limit mem self.new.leader }
+        ensures same { (x : Scenario) (f : Fork) → IsAtFork (boxed shown) x f self.old over limit →
+            IsAtFork (boxed shown) x f self.new over limit }
+        ensures own { (x : Scenario) (f : Fork) → IsAtFork (boxed shown) x f self.old over limit →
+            own_script self.new ≡ own_script self.old }
         ensures script { self.new.script ≡ self.old.script }
     {
         saved_states_are_accepted();
@@ -106,22 +116,32 @@ impl Sweeper {
 
     /// The board is given the script that has room, with which it goes on.
     fn take_room(&mut self)
-        requires { (x : Scenario) × (arrival : List Listed) × HasTold (boxed shown) x arrival self.old }
-        ensures before { (x : Scenario) (arrival : List Listed) → HasTold (boxed shown) x arrival self.old → (time limit : ℕ) → IsBefore (boxed shown) x arrival self.new time limit }
+        requires { (x : Scenario) × (arrival : List Listed)
+            × HasTold (boxed shown) x arrival self.old }
+        ensures before { (x : Scenario) (arrival : List Listed) →
+            HasTold (boxed shown) x arrival self.old → (time limit : ℕ) →
+            IsBefore (boxed shown) x arrival self.new time limit }
         ensures leader { self.new.leader ≡ self.old.leader }
     {
         self.board.exchange_script(&mut self.script);
     }
 
-    /// On to an arrival time, with its script, or to the end of the run before; false where there is no script, and then the board
-    /// stays where it is.
+    /// On to an arrival time, with its script, or to the end of the run before; false where there
+    /// is no script, and then the board stays where it is.
     fn go_to(&mut self, time: u32, limit: u32) -> bool
-        requires before { (x : Scenario) × (arrival : List Listed) × IsBefore (boxed shown) x arrival self.old time limit }
+        requires before { (x : Scenario) × (arrival : List Listed)
+            × IsBefore (boxed shown) x arrival self.old time limit }
         requires early { time ≤ 1000000000 }
         requires few { limit ≤ 1000000000 }
-        ensures made { (x : Scenario) (arrival : List Listed) → IsBefore (boxed shown) x arrival self.old time limit → result ≡ may_be_laid x.script arrival time }
-        ensures at { result ≡ true → (x : Scenario) (arrival : List Listed) → IsBefore (boxed shown) x arrival self.old time limit → IsAt (boxed shown) x arrival (laid x.script arrival time) self.new (min time limit) }
-        ensures stays { result ≡ false → (x : Scenario) (arrival : List Listed) → IsBefore (boxed shown) x arrival self.old time limit → IsBefore (boxed shown) x arrival self.new time limit }
+        ensures made { (x : Scenario) (arrival : List Listed) →
+            IsBefore (boxed shown) x arrival self.old time limit →
+            result ≡ may_be_laid x.script arrival time }
+        ensures at { result ≡ true → (x : Scenario) (arrival : List Listed) →
+            IsBefore (boxed shown) x arrival self.old time limit →
+            IsAt (boxed shown) x arrival (laid x.script arrival time) self.new (min time limit) }
+        ensures stays { result ≡ false → (x : Scenario) (arrival : List Listed) →
+            IsBefore (boxed shown) x arrival self.old time limit →
+            IsBefore (boxed shown) x arrival self.new time limit }
         ensures leader { self.new.leader ≡ self.old.leader }
     {
         if !lay(&mut self.spare, &self.script, &self.arrival, time) {
@@ -141,12 +161,17 @@ impl Sweeper {
         base: &Told,
         compared: &mut Compared,
     ) -> OutcomeText
-        requires before { (x : Scenario) × (arrival : List Listed) × IsSweeping (boxed shown) x arrival self.old time limit mem }
+        requires before { (x : Scenario) × (arrival : List Listed)
+            × IsSweeping (boxed shown) x arrival self.old time limit mem }
         requires early { time ≤ 1000000000 }
         requires few { limit ≤ 1000000000 }
-        ensures before { (x : Scenario) (arrival : List Listed) → IsSweeping (boxed shown) x arrival self.old time limit mem → IsSweeping (boxed shown) x arrival self.new time limit mem }
-        ensures looked { (x : Scenario) (arrival : List Listed) → IsSweeping (boxed shown) x arrival self.old time limit mem →
-            IsLooked x (asked_at arrival time limit mem) time base.now compared.old compared.new result }
+        ensures before { (x : Scenario) (arrival : List Listed) →
+            IsSweeping (boxed shown) x arrival self.old time limit mem →
+            IsSweeping (boxed shown) x arrival self.new time limit mem }
+        ensures looked { (x : Scenario) (arrival : List Listed) →
+            IsSweeping (boxed shown) x arrival self.old time limit mem →
+            IsLooked x (asked_at arrival time limit mem) time base.now compared.old compared.new
+            result }
     {
         if !self.go_to(time, limit) {
             return full();
@@ -157,7 +182,8 @@ impl Sweeper {
         told.words
     }
 
-    /// Each stretch of arrival times, and whether one of them makes a difference. There is a first one.
+    /// Each stretch of arrival times, and whether one of them makes a difference. There is a first
+    /// one.
     fn push_times<S: Sink>(
         &mut self,
         from: u32,
@@ -167,12 +193,17 @@ impl Sweeper {
         base: &Told,
         out: &mut S,
     ) -> Result<bool, Failed>
-        requires based { (x : Scenario) × (arrival : List Listed) × IsBased (boxed shown) x (asked arrival from to limit mem) self.old base.now }
+        requires based { (x : Scenario) × (arrival : List Listed)
+            × IsBased (boxed shown) x (asked arrival from to limit mem) self.old base.now }
         requires some { from < to }
         requires range { to ≤ 1000000000 }
         requires few { limit ≤ 1000000000 }
-        ensures text { (x : Scenario) (arrival : List Listed) → let a = asked arrival from to limit mem in IsBased (boxed shown) x a self.old base.now → PushesTimes x a (S.seen out.old) (S.seen out.new) result }
-        ensures makes { (x : Scenario) (arrival : List Listed) → let a = asked arrival from to limit mem in IsBased (boxed shown) x a self.old base.now → IfOk result (λ d. d ≡ makes_difference x a) }
+        ensures text { (x : Scenario) (arrival : List Listed) →
+            let a = asked arrival from to limit mem in IsBased (boxed shown) x a self.old base.now →
+            PushesTimes x a (S.seen out.old) (S.seen out.new) result }
+        ensures makes { (x : Scenario) (arrival : List Listed) →
+            let a = asked arrival from to limit mem in IsBased (boxed shown) x a self.old base.now →
+            IfOk result (λ d. d ≡ makes_difference x a) }
         ensures cause { HasCause (S.seen out.old).faults (S.seen out.new).faults result }
     {
         let mut compared = Compared::new();
@@ -188,9 +219,10 @@ impl Sweeper {
         Ok(compared.found)
     }
 
-    /// The run without the arrival, and then with it in each turn from `from` on and below `to`, each of at most `limit` turns: the line
-    /// of the first, and one for each stretch of arrival times with one outcome (docs/FORMATS.md, Sweep), a push each, which is passed
-    /// on. Whether one of the arrival times makes a difference. It takes no memory.
+    /// The run without the arrival, and then with it in each turn from `from` on and below `to`,
+    /// each of at most `limit` turns: the line of the first, and one for each stretch of arrival
+    /// times with one outcome (docs/FORMATS.md, Sweep), a push each, which is passed on. Whether
+    /// one of the arrival times makes a difference. It takes no memory.
     ///
     /// # Errors
     ///
@@ -203,12 +235,17 @@ impl Sweeper {
         mem: bool,
         out: &mut S,
     ) -> Result<bool, Failed>
-        requires ready { (x : Scenario) × (arrival : List Listed) × IsReady (boxed shown) x arrival self.old }
+        requires ready { (x : Scenario) × (arrival : List Listed)
+            × IsReady (boxed shown) x arrival self.old }
         requires range { to ≤ 1000000000 }
         requires few { limit ≤ 1000000000 }
-        ensures text { (x : Scenario) (arrival : List Listed) → IsReady (boxed shown) x arrival self.old →
-            Pushes (S.seen out.old).written (S.seen out.new).written (sweep_text x (asked arrival from to limit mem)) result }
-        ensures makes { (x : Scenario) (arrival : List Listed) → IsReady (boxed shown) x arrival self.old → IfOk result (λ d. d ≡ makes_difference x (asked arrival from to limit mem)) }
+        ensures text { (x : Scenario) (arrival : List Listed) →
+            IsReady (boxed shown) x arrival self.old →
+            Pushes (S.seen out.old).written (S.seen out.new).written
+            (sweep_text x (asked arrival from to limit mem)) result }
+        ensures makes { (x : Scenario) (arrival : List Listed) →
+            IsReady (boxed shown) x arrival self.old →
+            IfOk result (λ d. d ≡ makes_difference x (asked arrival from to limit mem)) }
         ensures cause { HasCause (S.seen out.old).faults (S.seen out.new).faults result }
     {
         let base = self.tell(limit, limit, mem);

@@ -8,8 +8,8 @@ use kernel_abi::{Fault, Note};
 use outside_io::Failed;
 use trace_text::TurnLines;
 
-/// How many faults, restarts and bytes that went out were told, up to 2^64 - 1 each, the first fault with its task, and the
-/// digest of what went out.
+/// How many faults, restarts and bytes that went out were told, up to 2^64 - 1 each, the first
+/// fault with its task, and the digest of what went out.
 #[derive(Clone, Copy, Debug, PartialEq, Eq)]
 pub struct Tally {
     pub faults: u64,

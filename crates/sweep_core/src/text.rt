@@ -34,7 +34,8 @@ fn base_line(base: &OutcomeText) -> Line
 
 /// The line of the run without an arrival.
 pub(crate) fn push_base<S: Sink>(base: &OutcomeText, out: &mut S) -> Result<(), Failed>
-    ensures bytes { Pushes (S.seen out.old).written (S.seen out.new).written (base_line base.now.bytes) result }
+    ensures bytes { Pushes (S.seen out.old).written (S.seen out.new).written
+        (base_line base.now.bytes) result }
     ensures cause { HasCause (S.seen out.old).faults (S.seen out.new).faults result }
 {
     push_line(&base_line(base), out)
@@ -84,7 +85,8 @@ fn push_stretch<S: Sink>(
     base: &OutcomeText,
     out: &mut S,
 ) -> Result<(), Failed>
-    ensures bytes { Pushes (S.seen out.old).written (S.seen out.new).written (stretch_line base.now.bytes first last words.now.bytes) result }
+    ensures bytes { Pushes (S.seen out.old).written (S.seen out.new).written
+        (stretch_line base.now.bytes first last words.now.bytes) result }
     ensures cause { HasCause (S.seen out.old).faults (S.seen out.new).faults result }
 {
     push_line(&stretch_line(first, last, words, base), out)
@@ -106,13 +108,15 @@ impl TimeStretch {
         out: &mut S,
     ) -> Result<(), Failed>
         requires { self.now.first < time }
-        ensures bytes { Pushes (S.seen out.old).written (S.seen out.new).written (stretch_line base.now.bytes self.now.first (time - 1) self.now.words.bytes) result }
+        ensures bytes { Pushes (S.seen out.old).written (S.seen out.new).written
+            (stretch_line base.now.bytes self.now.first (time - 1) self.now.words.bytes) result }
         ensures cause { HasCause (S.seen out.old).faults (S.seen out.new).faults result }
     {
         push_stretch(self.first, time - 1, &self.words, base, out)
     }
 
-    /// On to the next arrival time, with its outcome: where that is another one, the stretch ends before it, and one begins there.
+    /// On to the next arrival time, with its outcome: where that is another one, the stretch ends
+    /// before it, and one begins there.
     pub(crate) fn go_on<S: Sink>(
         &mut self,
         time: u32,
@@ -121,8 +125,10 @@ impl TimeStretch {
         out: &mut S,
     ) -> Result<(), Failed>
         requires { self.old.first < time }
-        ensures bytes { Pushes (S.seen out.old).written (S.seen out.new).written (ended base.now.bytes self.old.first self.old.words.bytes time words.bytes) result }
-        ensures first { IfOk result (λ _. self.new.first ≡ (if bytes_eq words.bytes self.old.words.bytes then self.old.first else time)) }
+        ensures bytes { Pushes (S.seen out.old).written (S.seen out.new).written
+            (ended base.now.bytes self.old.first self.old.words.bytes time words.bytes) result }
+        ensures first { IfOk result (λ _. self.new.first ≡
+            (if bytes_eq words.bytes self.old.words.bytes then self.old.first else time)) }
         ensures words { IfOk result (λ _. self.new.words.bytes ≡ words.bytes) }
         ensures cause { HasCause (S.seen out.old).faults (S.seen out.new).faults result }
     {

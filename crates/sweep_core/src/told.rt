@@ -43,7 +43,8 @@ fn is_supervisors(end: End) -> bool
 
 /// Of a run that ended so, on a board that stands at its end, and of which this was heard.
 fn told_at(end: End, tally: &Tally, board: &Board, mem: bool) -> Told
-    ensures { (x : Scenario) (s : State) → Stands (boxed shown) x board.now s → IsToldAt mem end tally.now s result }
+    ensures { (x : Scenario) (s : State) → Stands (boxed shown) x board.now s →
+        IsToldAt mem end tally.now s result }
 {
     Told {
         words: outcome_of(end, tally, board, mem),
@@ -57,8 +58,10 @@ pub(crate) fn play_to(board: &mut Board, tally: &mut Tally, to: u32)
     requires stood { StandsForSome (boxed shown) board.old }
     requires from { turns_of board.old ≤ to }
     requires few { to ≤ 1000000000 }
-    ensures last { (x : Scenario) (s : State) → Stands (boxed shown) x board.old s → Stands (boxed shown) x board.new (run Calls x (to - s.turn) s).last }
-    ensures heard { (x : Scenario) (s : State) → Stands (boxed shown) x board.old s → tally.new ≡ heard tally.old (run Calls x (to - s.turn) s).notes }
+    ensures last { (x : Scenario) (s : State) → Stands (boxed shown) x board.old s →
+        Stands (boxed shown) x board.new (run Calls x (to - s.turn) s).last }
+    ensures heard { (x : Scenario) (s : State) → Stands (boxed shown) x board.old s →
+        tally.new ≡ heard tally.old (run Calls x (to - s.turn) s).notes }
     ensures within { turns_of board.new ≤ to }
 {
     match play(board, to, Level::Calls, tally) {
@@ -67,13 +70,16 @@ pub(crate) fn play_to(board: &mut Board, tally: &mut Tally, to: u32)
     }
 }
 
-/// Of the run that goes on from where the board stands, and of which this was heard up to there. The board goes on to its end.
+/// Of the run that goes on from where the board stands, and of which this was heard up to there.
+/// The board goes on to its end.
 pub(crate) fn told_from(board: &mut Board, front: &Tally, limit: u32, mem: bool) -> Told
     requires stood { StandsForSome (boxed shown) board.old }
     requires from { turns_of board.old ≤ limit }
     requires few { limit ≤ 1000000000 }
-    ensures told { (x : Scenario) (s : State) → Stands (boxed shown) x board.old s → IsToldFrom mem front.now (run Calls x (limit - s.turn) s) result }
-    ensures last { (x : Scenario) (s : State) → Stands (boxed shown) x board.old s → Stands (boxed shown) x board.new (run Calls x (limit - s.turn) s).last }
+    ensures told { (x : Scenario) (s : State) → Stands (boxed shown) x board.old s →
+        IsToldFrom mem front.now (run Calls x (limit - s.turn) s) result }
+    ensures last { (x : Scenario) (s : State) → Stands (boxed shown) x board.old s →
+        Stands (boxed shown) x board.new (run Calls x (limit - s.turn) s).last }
 {
     let mut tally = *front;
     match play(board, limit, Level::Calls, &mut tally) {

@@ -27,7 +27,8 @@ impl Kernel {
     pub fn give(&mut self, task: usize, values: &[u32])
         requires there { task < task_count self.old }
         requires few { length values.now ≤ 6 }
-        ensures holds { (g : Setup) (t : Turn) → Holds g self.old t → Holds g self.new (given task values.now t) }
+        ensures holds { (g : Setup) (t : Turn) → Holds g self.old t →
+            Holds g self.new (given task values.now t) }
         ensures entries { entries_of self.new ≡ entries_of self.old }
         ensures frame { AddsNotes self.old 0 self.new }
     {
@@ -40,7 +41,8 @@ impl Kernel {
     pub fn note_return(&mut self, task: usize)
         requires there { task < task_count self.old }
         requires room { note_count self.old < turn_notes }
-        ensures holds { (g : Setup) (t : Turn) → Holds g self.old t → Holds g self.new (returned task t) }
+        ensures holds { (g : Setup) (t : Turn) → Holds g self.old t →
+            Holds g self.new (returned task t) }
         ensures entries { entries_of self.new ≡ entries_of self.old }
         ensures frame { AddsNotes self.old 1 self.new }
     {
@@ -55,7 +57,8 @@ impl Kernel {
     /// The program counter of a task goes past its system call.
     pub(crate) fn go_past_syscall(&mut self, task: usize)
         requires { task < task_count self.old }
-        ensures holds { (g : Setup) (t : Turn) → Holds g self.old t → Holds g self.new (past_syscall task t) }
+        ensures holds { (g : Setup) (t : Turn) → Holds g self.old t →
+            Holds g self.new (past_syscall task t) }
         ensures entries { entries_of self.new ≡ entries_of self.old }
         ensures frame { AddsNotes self.old 0 self.new }
     {
@@ -68,7 +71,8 @@ impl Kernel {
     pub fn go_on(&mut self, task: usize)
         requires there { task < task_count self.old }
         requires room { note_count self.old < turn_notes }
-        ensures holds { (g : Setup) (t : Turn) → Holds g self.old t → Holds g self.new (goes_on task t) }
+        ensures holds { (g : Setup) (t : Turn) → Holds g self.old t →
+            Holds g self.new (goes_on task t) }
         ensures entries { entries_of self.new ≡ entries_of self.old }
         ensures frame { AddsNotes self.old 1 self.new }
     {
@@ -81,7 +85,8 @@ impl Kernel {
         requires there { task < task_count self.old }
         requires few { length values.now ≤ 6 }
         requires room { note_count self.old < turn_notes }
-        ensures holds { (g : Setup) (t : Turn) → Holds g self.old t → Holds g self.new (goes_on_with task values.now t) }
+        ensures holds { (g : Setup) (t : Turn) → Holds g self.old t →
+            Holds g self.new (goes_on_with task values.now t) }
         ensures entries { entries_of self.new ≡ entries_of self.old }
         ensures frame { AddsNotes self.old 1 self.new }
     {
@@ -93,7 +98,8 @@ impl Kernel {
     fn add_bits(&mut self, task: usize, bits: u32)
         requires there { task < task_count self.old }
         requires room { note_count self.old < turn_notes }
-        ensures holds { (g : Setup) (t : Turn) → Holds g self.old t → Holds g self.new (bits_added task bits t) }
+        ensures holds { (g : Setup) (t : Turn) → Holds g self.old t →
+            Holds g self.new (bits_added task bits t) }
         ensures frame { AddsNotes self.old 1 self.new }
     {
         let mut slot = self.slot(task);
@@ -109,7 +115,8 @@ impl Kernel {
     /// Clears the posted bits of a task that are in a mask.
     pub(crate) fn clear_bits(&mut self, task: usize, mask: u32)
         requires { task < task_count self.old }
-        ensures holds { (g : Setup) (t : Turn) → Holds g self.old t → Holds g self.new (bits_cleared task mask t) }
+        ensures holds { (g : Setup) (t : Turn) → Holds g self.old t →
+            Holds g self.new (bits_cleared task mask t) }
         ensures frame { AddsNotes self.old 0 self.new }
     {
         let mut slot = self.slot(task);
@@ -121,7 +128,8 @@ impl Kernel {
     fn wake(&mut self, task: usize)
         requires there { task < task_count self.old }
         requires room { note_count self.old < turn_notes }
-        ensures holds { (g : Setup) (t : Turn) → Holds g self.old t → Holds g self.new (woken task t) }
+        ensures holds { (g : Setup) (t : Turn) → Holds g self.old t →
+            Holds g self.new (woken task t) }
         ensures frame { AddsAtMost self.old 1 self.new }
     {
         if let Some(listening) = self.slot(task).wait.listen() {
@@ -136,13 +144,15 @@ impl Kernel {
     }
 
     /// Posts bits to a task, of any health. Where it listens and its mask meets the posted bits, it
-    /// takes them: r4 is 0, r5 0xFFFF, r6 the posted bits under the mask, r7 to r9 are 0; those bits
-    /// are cleared and it listens no more (Hubris Reference, on notifications).
+    /// takes them: r4 is 0, r5 0xFFFF, r6 the posted bits under the mask, r7 to r9 are 0; those
+    /// bits are cleared and it listens no more (Hubris Reference, on notifications).
     pub fn post(&mut self, task: usize, bits: u32)
         requires there { task < task_count self.old }
         requires room { note_count self.old + 2 ≤ turn_notes }
-        ensures holds { (g : Setup) (t : Turn) → Holds g self.old t → Holds g self.new (posted task bits t) }
-        ensures stands { (g : Setup) (t : Turn) → Stands g self.old t → Stands g self.new (posted task bits t) }
+        ensures holds { (g : Setup) (t : Turn) → Holds g self.old t →
+            Holds g self.new (posted task bits t) }
+        ensures stands { (g : Setup) (t : Turn) → Stands g self.old t →
+            Stands g self.new (posted task bits t) }
         ensures frame { AddsAtMost self.old 2 self.new }
     {
         self.add_bits(task, bits);

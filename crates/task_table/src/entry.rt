@@ -6,7 +6,8 @@ ghost use Rattle.task_table.specs.kept.Entries.{kept_at, AreLeft};
 use kernel_abi::LeaseEntry;
 use std::alloc::{AllocError, Global};
 
-/// An entry of the lease table of a call: of which lease, where it begins, and what memory has there.
+/// An entry of the lease table of a call: of which lease, where it begins, and what memory has
+/// there.
 #[derive(Clone, Copy)]
 pub struct KeptEntry {
     pub lease: u32,
@@ -27,8 +28,8 @@ impl KeptEntry {
     }
 }
 
-/// Where a store of one to four bytes may begin that meets an entry that is kept: at so many addresses
-/// from a lowest one on.
+/// Where a store of one to four bytes may begin that meets an entry that is kept: at so many
+/// addresses from a lowest one on.
 #[derive(Clone, Copy)]
 pub(crate) struct Watch {
     low: u32,
@@ -51,7 +52,8 @@ impl Watch {
     /// comparison tells, of more one where no entry is kept.
     #[inline(always)]
     pub fn catches(&self, addr: u32, count: usize) -> bool
-        ensures { result ≡ false → (base : ℕ) → IsWatched self.now.low self.now.span base → (base + 12 ≤ addr) ⊎ (addr + count ≤ base) }
+        ensures { result ≡ false → (base : ℕ) → IsWatched self.now.low self.now.span base →
+            (base + 12 ≤ addr) ⊎ (addr + count ≤ base) }
     {
         if count <= 4 {
             u64::from(addr.wrapping_sub(self.low)) < self.span
@@ -65,7 +67,8 @@ impl Watch {
     /// The same, with an entry besides.
     pub fn with(self, base: u32) -> Watch
         ensures new { IsWatched result.low result.span base }
-        ensures old { (other : ℕ) → IsWatched self.low self.span other → IsWatched result.low result.span other }
+        ensures old { (other : ℕ) → IsWatched self.low self.span other →
+            IsWatched result.low result.span other }
     {
         let first = base.saturating_sub(3);
         let low = if self.span == 0 {
@@ -93,7 +96,8 @@ pub(crate) fn no_entries(alloc: Global, count: usize) -> Result<Vec<Option<KeptE
     Ok(entries)
 }
 
-/// Drops the entries that have one of so many bytes from an address on, and tells where the others are.
+/// Drops the entries that have one of so many bytes from an address on, and tells where the others
+/// are.
 pub(crate) fn drop_met(entries: &mut [Option<KeptEntry>], addr: u32, count: usize) -> Watch
     ensures { AreLeft entries.old addr count entries.new result.low result.span }
 {

@@ -21,7 +21,8 @@ impl Kernel {
     /// A task is so from now on.
     fn set_health(&mut self, task: usize, health: Health)
         requires { task < task_count self.old }
-        ensures holds { (g : Setup) (t : Turn) → Holds g self.old t → Holds g self.new (with_health task health t) }
+        ensures holds { (g : Setup) (t : Turn) → Holds g self.old t →
+            Holds g self.new (with_health task health t) }
         ensures frame { AddsNotes self.old 0 self.new }
     {
         let mut slot = self.slot(task);
@@ -32,7 +33,8 @@ impl Kernel {
     /// Drops the listen of a task, if it has one.
     pub fn stop_listening(&mut self, task: usize)
         requires { task < task_count self.old }
-        ensures holds { (g : Setup) (t : Turn) → Holds g self.old t → Holds g self.new (changed (without_listen task) t) }
+        ensures holds { (g : Setup) (t : Turn) → Holds g self.old t →
+            Holds g self.new (changed (without_listen task) t) }
         ensures frame { AddsNotes self.old 0 self.new }
     {
         let mut slot = self.slot(task);
@@ -46,7 +48,8 @@ impl Kernel {
     pub fn close(&mut self, client: usize, ending: Ending)
         requires there { client < task_count self.old }
         requires room { note_count self.old < turn_notes }
-        ensures holds { (g : Setup) (t : Turn) → Holds g self.old t → Holds g self.new (closed client ending t) }
+        ensures holds { (g : Setup) (t : Turn) → Holds g self.old t →
+            Holds g self.new (closed client ending t) }
         ensures frame { AddsAtMost self.old 1 self.new }
     {
         let mut slot = self.slot(client);
@@ -63,7 +66,8 @@ impl Kernel {
     /// Whether another task waits for the end of a call to a task.
     pub fn calls_to(&self, other: usize, task: usize) -> bool
         requires { other < task_count self.now }
-        ensures { (g : Setup) (t : Turn) → Holds g self.now t → AreFew t.state → result ≡ is_to task (call_of t.state other) }
+        ensures { (g : Setup) (t : Turn) → Holds g self.now t → AreFew t.state →
+            result ≡ is_to task (call_of t.state other) }
     {
         let slot = self.slot(other);
         slot.wait.is_to(task)
@@ -72,7 +76,8 @@ impl Kernel {
     /// Whether another task listens for a message of a task alone.
     pub fn awaits(&self, other: usize, task: usize) -> bool
         requires { other < task_count self.now }
-        ensures { (g : Setup) (t : Turn) → Holds g self.now t → AreFew t.state → result ≡ awaits task (listen_of t.state other) }
+        ensures { (g : Setup) (t : Turn) → Holds g self.now t → AreFew t.state →
+            result ≡ awaits task (listen_of t.state other) }
     {
         let slot = self.slot(other);
         slot.wait.awaits(task)
@@ -82,7 +87,8 @@ impl Kernel {
     pub(crate) fn fault_as(&mut self, task: usize, fault: Fault, ending: Ending)
         requires there { task < task_count self.old }
         requires room { note_count self.old + 4 ≤ turn_notes }
-        ensures holds { (g : Setup) (t : Turn) → Holds g self.old t → Holds g self.new (faulted_as g task fault ending t) }
+        ensures holds { (g : Setup) (t : Turn) → Holds g self.old t →
+            Holds g self.new (faulted_as g task fault ending t) }
         ensures frame { AddsAtMost self.old 4 self.new }
     {
         self.set_health(task, Health::Faulted(fault));
@@ -99,16 +105,18 @@ impl Kernel {
     }
 
     /// A task faults: it is Faulted, its listen is dropped, the call of which it is the client is
-    /// closed, and the supervisor, which is task 0, is posted its fault bits. Calls of which the task
-    /// is the server go on waiting. A fault of the supervisor itself posts nothing (Hubris Reference,
-    /// on supervision).
+    /// closed, and the supervisor, which is task 0, is posted its fault bits. Calls of which the
+    /// task is the server go on waiting. A fault of the supervisor itself posts nothing (Hubris
+    /// Reference, on supervision).
     pub fn fault(&mut self, task: usize, fault: Fault)
         requires there { task < task_count self.old }
         requires room { note_count self.old + 4 ≤ turn_notes }
         requires from_one { 1 ≤ fault.number }
         requires to_ten { fault.number ≤ 10 }
-        ensures holds { (g : Setup) (t : Turn) → Holds g self.old t → Holds g self.new (faulted g task fault t) }
-        ensures stands { (g : Setup) (t : Turn) → Stands g self.old t → Stands g self.new (faulted g task fault t) }
+        ensures holds { (g : Setup) (t : Turn) → Holds g self.old t →
+            Holds g self.new (faulted g task fault t) }
+        ensures stands { (g : Setup) (t : Turn) → Stands g self.old t →
+            Stands g self.new (faulted g task fault t) }
         ensures frame { AddsAtMost self.old 4 self.new }
     {
         self.fault_as(task, fault, Ending::Client);
@@ -118,19 +126,22 @@ impl Kernel {
     pub fn misuse(&mut self, task: usize, usage: Usage)
         requires there { task < task_count self.old }
         requires room { note_count self.old + 4 ≤ turn_notes }
-        ensures holds { (g : Setup) (t : Turn) → Holds g self.old t → Holds g self.new (misused g task (usage_number usage) t) }
-        ensures stands { (g : Setup) (t : Turn) → Stands g self.old t → Stands g self.new (misused g task (usage_number usage) t) }
+        ensures holds { (g : Setup) (t : Turn) → Holds g self.old t →
+            Holds g self.new (misused g task (usage_number usage) t) }
+        ensures stands { (g : Setup) (t : Turn) → Stands g self.old t →
+            Stands g self.new (misused g task (usage_number usage) t) }
         ensures frame { AddsAtMost self.old 4 self.new }
     {
         self.fault(task, Fault::usage(usage));
     }
 
-    /// Notes the system call that a task makes by its registers: the number in r11, the arguments in
-    /// r4 to r10.
+    /// Notes the system call that a task makes by its registers: the number in r11, the arguments
+    /// in r4 to r10.
     pub fn note_syscall(&mut self, task: usize)
         requires there { task < task_count self.old }
         requires room { note_count self.old < turn_notes }
-        ensures holds { (g : Setup) (t : Turn) → Holds g self.old t → Holds g self.new (syscall_noted task t) }
+        ensures holds { (g : Setup) (t : Turn) → Holds g self.old t →
+            Holds g self.new (syscall_noted task t) }
         ensures frame { AddsNotes self.old 1 self.new }
     {
         let slot = self.slot(task);
@@ -145,7 +156,8 @@ impl Kernel {
     pub fn panic(&mut self, caller: usize)
         requires there { caller < task_count self.old }
         requires room { note_count self.old + 4 ≤ turn_notes }
-        ensures stands { (g : Setup) (t : Turn) → Stands g self.old t → Stands g self.new (panicked g caller t) }
+        ensures stands { (g : Setup) (t : Turn) → Stands g self.old t →
+            Stands g self.new (panicked g caller t) }
         ensures frame { AddsAtMost self.old 4 self.new }
     {
         let r4 = self.register(caller, 4);

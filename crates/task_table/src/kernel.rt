@@ -33,8 +33,8 @@ use region_check::Region;
 use std::alloc::{AllocError, Global};
 use words_core::Flags;
 
-/// The tasks and all that they share: at most `TASKS` tasks, the interrupt lines of the board, and what
-/// a turn notes, at most `TURN_NOTES` lines, for which there is room from the start.
+/// The tasks and all that they share: at most `TASKS` tasks, the interrupt lines of the board, and
+/// what a turn notes, at most `TURN_NOTES` lines, for which there is room from the start.
 #[derive(Drop)]
 pub struct Kernel {
     tasks: Vec<TaskStart>,
@@ -83,10 +83,10 @@ impl Kernel {
     ghost use Rattle.task_table.specs.kept.Frames.{AddsNotes};
     ghost use Rattle.task_table.specs.declared.entry.KeptEntry.{KeptEntry};
 
-    /// The kernel at the start of a run, of one task at least: each task as at its first birth, and the
-    /// memory as it is handed in, with zeros in the RAM, which was given each region of a task that is no
-    /// device. The order of the tasks gives their indices.
-    /// Where the parts are those of a sound image, the state is sane.
+    /// The kernel at the start of a run, of one task at least: each task as at its first birth, and
+    /// the memory as it is handed in, with zeros in the RAM, which was given each region of a task
+    /// that is no device. The order of the tasks gives their indices. Where the parts are those of
+    /// a sound image, the state is sane.
     ///
     /// # Errors
     ///
@@ -103,8 +103,10 @@ impl Kernel {
         requires few_owners { length lines.now ≤ board_lines }
         requires zeros { memory.bytes.ram ≡ replicate (length memory.bytes.ram) 0 }
         requires given { AreOpenable memory.regions (map task_setup tasks.now) }
-        ensures holds { let g = setup_of_parts memory.bytes fault_bits tasks.now lines.now in IfOk result (λ k. Holds g k (begun (started_at g))) }
-        ensures stands { let g = setup_of_parts memory.bytes fault_bits tasks.now lines.now in IsSound g → IfOk result (λ k. Stands g k (begun (started_at g))) }
+        ensures holds { let g = setup_of_parts memory.bytes fault_bits tasks.now lines.now in
+            IfOk result (λ k. Holds g k (begun (started_at g))) }
+        ensures stands { let g = setup_of_parts memory.bytes fault_bits tasks.now lines.now in
+            IsSound g → IfOk result (λ k. Stands g k (begun (started_at g))) }
         ensures count { IfOk result (λ k. task_count k ≡ length tasks.now) }
         ensures notes { IfOk result (λ k. note_count k ≡ 0) }
     {
@@ -144,7 +146,8 @@ impl Kernel {
     pub fn task_count(&self) -> usize
         ensures value { result ≡ task_count self.now }
         ensures few { result ≤ most_tasks }
-        ensures holds { (g : Setup) (t : Turn) → Holds g self.now t → result ≡ length t.state.tasks }
+        ensures holds { (g : Setup) (t : Turn) → Holds g self.now t →
+            result ≡ length t.state.tasks }
     {
         self.slots.len()
     }
@@ -184,7 +187,8 @@ impl Kernel {
 
     /// How an interrupt line is, or None where there is none with this number.
     pub fn line(&self, number: usize) -> Option<Line>
-        ensures { (g : Setup) (t : Turn) → Holds g self.now t → result ≡ slice_get t.state.lines number }
+        ensures { (g : Setup) (t : Turn) → Holds g self.now t →
+            result ≡ slice_get t.state.lines number }
     {
         self.lines.get(number).copied()
     }
@@ -192,7 +196,8 @@ impl Kernel {
     /// The owners of the interrupt lines that have one, in the order of the image.
     pub fn owners(&self) -> &[LineStart]
         ensures few { length result.now ≤ board_lines }
-        ensures holds { (g : Setup) (t : Turn) → Holds g self.now t → map line_setup result.now ≡ g.lines }
+        ensures holds { (g : Setup) (t : Turn) → Holds g self.now t →
+            map line_setup result.now ≡ g.lines }
     {
         &self.owners
     }
@@ -208,7 +213,8 @@ impl Kernel {
     #[inline(always)]
     pub fn regions(&self, task: usize) -> &[Region]
         ensures value { result.now ≡ (setup_at (setup_of self.now) task).regions }
-        ensures holds { (g : Setup) (t : Turn) → Holds g self.now t → result.now ≡ (setup_at g task).regions }
+        ensures holds { (g : Setup) (t : Turn) → Holds g self.now t →
+            result.now ≡ (setup_at g task).regions }
     {
         match self.tasks.get(task) {
             Some(start) => &start.regions,
@@ -244,7 +250,8 @@ impl Kernel {
     /// How a task is.
     pub fn health(&self, task: usize) -> Health
         requires { task < task_count self.now }
-        ensures { (g : Setup) (t : Turn) → Holds g self.now t → result ≡ (task_at t.state task).health }
+        ensures { (g : Setup) (t : Turn) → Holds g self.now t →
+            result ≡ (task_at t.state task).health }
     {
         self.slot(task).health
     }
@@ -252,7 +259,8 @@ impl Kernel {
     /// How often a task was born again, modulo 64.
     pub fn generation(&self, task: usize) -> Generation
         requires { task < task_count self.now }
-        ensures { (g : Setup) (t : Turn) → Holds g self.now t → result.number ≡ (task_at t.state task).births % 64 }
+        ensures { (g : Setup) (t : Turn) → Holds g self.now t →
+            result.number ≡ (task_at t.state task).births % 64 }
     {
         self.slot(task).generation
     }
@@ -260,7 +268,8 @@ impl Kernel {
     /// The registers of a task.
     pub fn registers(&self, task: usize) -> [u32; 16]
         requires { task < task_count self.now }
-        ensures { (g : Setup) (t : Turn) → Holds g self.now t → result ≡ (task_at t.state task).registers }
+        ensures { (g : Setup) (t : Turn) → Holds g self.now t →
+            result ≡ (task_at t.state task).registers }
     {
         self.slot(task).registers
     }
@@ -269,7 +278,8 @@ impl Kernel {
     pub fn register(&self, task: usize, number: usize) -> u32
         requires there { task < task_count self.now }
         requires small { number < 16 }
-        ensures { (g : Setup) (t : Turn) → Holds g self.now t → result ≡ register t.state task number }
+        ensures { (g : Setup) (t : Turn) → Holds g self.now t →
+            result ≡ register t.state task number }
     {
         let slot = self.slot(task);
         slot.registers[number]
@@ -278,7 +288,8 @@ impl Kernel {
     /// The flags of a task.
     pub fn flags(&self, task: usize) -> Flags
         requires { task < task_count self.now }
-        ensures { (g : Setup) (t : Turn) → Holds g self.now t → result ≡ (task_at t.state task).flags }
+        ensures { (g : Setup) (t : Turn) → Holds g self.now t →
+            result ≡ (task_at t.state task).flags }
     {
         self.slot(task).flags
     }
@@ -286,7 +297,8 @@ impl Kernel {
     /// The posted bits of a task.
     pub fn posted_bits(&self, task: usize) -> u32
         requires { task < task_count self.now }
-        ensures { (g : Setup) (t : Turn) → Holds g self.now t → result ≡ (task_at t.state task).posted }
+        ensures { (g : Setup) (t : Turn) → Holds g self.now t →
+            result ≡ (task_at t.state task).posted }
     {
         self.slot(task).posted
     }
@@ -294,7 +306,8 @@ impl Kernel {
     /// The timer of a task, where it is set.
     pub fn timer(&self, task: usize) -> Option<Timer>
         requires { task < task_count self.now }
-        ensures { (g : Setup) (t : Turn) → Holds g self.now t → result ≡ (task_at t.state task).timer }
+        ensures { (g : Setup) (t : Turn) → Holds g self.now t →
+            result ≡ (task_at t.state task).timer }
     {
         self.slot(task).timer
     }
@@ -302,7 +315,8 @@ impl Kernel {
     /// What a task waits for.
     pub fn wait(&self, task: usize) -> Wait
         requires { task < task_count self.now }
-        ensures { (g : Setup) (t : Turn) → Holds g self.now t → result ≡ wait_of (call_of t.state task) (listen_of t.state task) }
+        ensures { (g : Setup) (t : Turn) → Holds g self.now t →
+            result ≡ wait_of (call_of t.state task) (listen_of t.state task) }
     {
         self.slot(task).wait
     }
@@ -329,7 +343,8 @@ impl Kernel {
 
     /// The byte at an address, where there is one.
     pub fn byte(&self, addr: u32) -> Option<u8>
-        ensures { (g : Setup) (t : Turn) → Holds g self.now t → result ≡ byte_at t.state.memory addr }
+        ensures { (g : Setup) (t : Turn) → Holds g self.now t →
+            result ≡ byte_at t.state.memory addr }
     {
         if self.memory.holds(addr) {
             Some(self.memory.byte(addr))
@@ -338,20 +353,22 @@ impl Kernel {
         }
     }
 
-    /// The number that 1, 2 or 4 bytes from an address on spell, the lowest first. Where there is no
-    /// memory a byte counts as 0.
+    /// The number that 1, 2 or 4 bytes from an address on spell, the lowest first. Where there is
+    /// no memory a byte counts as 0.
     #[inline(always)]
     pub fn number(&self, addr: u32, size: u32) -> u32
         requires { (size ≡ 1) ⊎ (size ≡ 2) ⊎ (size ≡ 4) }
         ensures value { result ≡ number_at (memory_of self.now) addr size }
-        ensures holds { (g : Setup) (t : Turn) → Holds g self.now t → result ≡ number_at t.state.memory addr size }
+        ensures holds { (g : Setup) (t : Turn) → Holds g self.now t →
+            result ≡ number_at t.state.memory addr size }
     {
         self.memory.number(addr, size)
     }
 
     /// Nothing is noted any more. What the turn wrote and read is forgotten with it.
     pub fn clear_notes(&mut self)
-        ensures holds { (g : Setup) (t : Turn) → Holds g self.old t → Holds g self.new (begun t.state) }
+        ensures holds { (g : Setup) (t : Turn) → Holds g self.old t →
+            Holds g self.new (begun t.state) }
         ensures count { note_count self.new ≡ 0 }
         ensures tasks { task_count self.new ≡ task_count self.old }
         ensures setup { setup_of self.new ≡ setup_of self.old }
@@ -362,7 +379,8 @@ impl Kernel {
     /// This task runs.
     pub fn set_current(&mut self, task: usize)
         requires { task < task_count self.old }
-        ensures holds { (g : Setup) (t : Turn) → Holds g self.old t → Holds g self.new (changed (λ s. record s { current = task }) t) }
+        ensures holds { (g : Setup) (t : Turn) → Holds g self.old t →
+            Holds g self.new (changed (λ s. record s { current = task }) t) }
         ensures frame { AddsNotes self.old 0 self.new }
     {
         self.current = task;
@@ -371,7 +389,8 @@ impl Kernel {
     /// Adds a note.
     pub fn note(&mut self, note: Note)
         requires { note_count self.old < turn_notes }
-        ensures holds { (g : Setup) (t : Turn) → Holds g self.old t → Holds g self.new (noted note t) }
+        ensures holds { (g : Setup) (t : Turn) → Holds g self.old t →
+            Holds g self.new (noted note t) }
         ensures entries { entries_of self.new ≡ entries_of self.old }
         ensures current { current_of self.new ≡ current_of self.old }
         ensures frame { AddsNotes self.old 1 self.new }
@@ -392,7 +411,8 @@ impl Kernel {
 
     /// An interrupt line is so from now on; where there is none with this number, nothing changes.
     pub fn set_line(&mut self, number: usize, line: Line)
-        ensures holds { (g : Setup) (t : Turn) → Holds g self.old t → Holds g self.new (with_line number line t) }
+        ensures holds { (g : Setup) (t : Turn) → Holds g self.old t →
+            Holds g self.new (with_line number line t) }
         ensures frame { AddsNotes self.old 0 self.new }
     {
         if number < LINES {
@@ -403,7 +423,8 @@ impl Kernel {
     /// The number of the next call is used.
     pub(crate) fn use_number(&mut self)
         requires { next_call_of self.old + 1 < 2 ^ 32 }
-        ensures holds { (g : Setup) (t : Turn) → Holds g self.old t → Holds g self.new (changed (λ s. record s { next_call = s.next_call + 1 }) t) }
+        ensures holds { (g : Setup) (t : Turn) → Holds g self.old t →
+            Holds g self.new (changed (λ s. record s { next_call = s.next_call + 1 }) t) }
         ensures frame { AddsNotes self.old 0 self.new }
     {
         self.next_call += 1;
@@ -414,7 +435,8 @@ impl Kernel {
     #[inline(always)]
     pub fn half(&self, addr: u32) -> u16
         ensures value { result ≡ number_at (memory_of self.now) addr 2 }
-        ensures holds { (g : Setup) (t : Turn) → Holds g self.now t → result ≡ number_at t.state.memory addr 2 }
+        ensures holds { (g : Setup) (t : Turn) → Holds g self.now t →
+            result ≡ number_at t.state.memory addr 2 }
     {
         self.memory.half(addr)
     }
@@ -427,13 +449,15 @@ impl Kernel {
         self.memory.is_ram(addr, count)
     }
 
-    /// Copies so many bytes into the RAM, as if all were read before the first is written. An entry that is
-    /// kept stays so where none of the bytes is one of its own.
+    /// Copies so many bytes into the RAM, as if all were read before the first is written. An entry
+    /// that is kept stays so where none of the bytes is one of its own.
     pub fn copy(&mut self, from: u32, to: u32, count: u32)
         requires source { IsWithin (memory_of self.old) from count }
         requires target { IsWithinRam (memory_of self.old) to count }
-        ensures holds { (g : Setup) (t : Turn) (on : Ground) → Holds g self.old t → Holds g self.new (copied on from to count t) }
-        ensures stay { (i : ℕ) (x : KeptEntry) → kept_at (entries_of self.old) i ≡ Some x → meets x to count ≡ false → kept_at (entries_of self.new) i ≡ Some x }
+        ensures holds { (g : Setup) (t : Turn) (on : Ground) → Holds g self.old t →
+            Holds g self.new (copied on from to count t) }
+        ensures stay { (i : ℕ) (x : KeptEntry) → kept_at (entries_of self.old) i ≡ Some x →
+            meets x to count ≡ false → kept_at (entries_of self.new) i ≡ Some x }
         ensures frame { AddsNotes self.old 0 self.new }
     {
         self.touched(to, count as usize);
@@ -443,7 +467,8 @@ impl Kernel {
     /// Writes bytes into the RAM for the task that runs, on its own ground.
     pub fn store(&mut self, addr: u32, bytes: &[u8])
         requires { IsWithinRam (memory_of self.old) addr (length bytes.now) }
-        ensures holds { (g : Setup) (t : Turn) → Holds g self.old t → Holds g self.new (stored Own addr bytes.now t) }
+        ensures holds { (g : Setup) (t : Turn) → Holds g self.old t →
+            Holds g self.new (stored Own addr bytes.now t) }
         ensures current { current_of self.new ≡ current_of self.old }
         ensures frame { AddsNotes self.old 0 self.new }
     {

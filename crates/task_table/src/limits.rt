@@ -6,8 +6,9 @@ pub const TASKS: usize = 512;
 /// Words of a set of tasks, with a bit for each.
 pub const TASK_WORDS: usize = 16;
 
-/// Sets of tasks by the deadlines of their timers, one for each remainder of a deadline. A timer that is set for longer
-/// than so many ticks is met early, and looked at in vain, once in so many ticks.
+/// Sets of tasks by the deadlines of their timers, one for each remainder of a deadline. A timer
+/// that is set for longer than so many ticks is met early, and looked at in vain, once in so many
+/// ticks.
 pub const WHEEL: usize = 64;
 
 /// Interrupt lines of a board.

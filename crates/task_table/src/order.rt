@@ -12,8 +12,8 @@ use crate::start::TaskStart;
 use crate::task_set::TaskSet;
 use std::alloc::{AllocError, Global};
 
-/// The tasks by priority number, those of one number by index. Sets of tasks are sets of places in this order, so that
-/// the least place of a set is a task of the lowest priority number.
+/// The tasks by priority number, those of one number by index. Sets of tasks are sets of places in
+/// this order, so that the least place of a set is a task of the lowest priority number.
 #[derive(Drop)]
 pub struct Order {
     /// For each place 1024 times the priority number, and the index of the task.
@@ -65,7 +65,8 @@ fn priorities_of(alloc: Global, tasks: &[TaskStart]) -> Result<Vec<u8>, AllocErr
 /// The order of the tasks of an image.
 pub(crate) fn order_of(alloc: Global, tasks: &[TaskStart]) -> Result<Order, AllocError>
     requires { length tasks.now ≤ most_tasks }
-    ensures { IfOk result (λ o. AreOrdered (priorities_of (map task_setup tasks.now)) o.keys.items o.places.items) }
+    ensures { IfOk result (λ o. AreOrdered (priorities_of (map task_setup tasks.now)) o.keys.items
+        o.places.items) }
 {
     let priorities = priorities_of(alloc, tasks)?;
     Order::of(alloc, &priorities)
@@ -74,7 +75,8 @@ pub(crate) fn order_of(alloc: Global, tasks: &[TaskStart]) -> Result<Order, Allo
 /// The least place whose key is at least this one.
 #[inline(never)]
 fn place_of(keys: &[u32], key: u32) -> usize
-    ensures { (priorities places : List ℕ) → AreOrdered priorities keys.now places → IsPlaceOf keys.now key result }
+    ensures { (priorities places : List ℕ) → AreOrdered priorities keys.now places →
+        IsPlaceOf keys.now key result }
 {
     match keys.binary_search(&key) {
         Ok(place) => place,
@@ -82,7 +84,8 @@ fn place_of(keys: &[u32], key: u32) -> usize
     }
 }
 
-/// The key of the first task of a set from a place on that has this priority number, or else another key.
+/// The key of the first task of a set from a place on that has this priority number, or else
+/// another key.
 #[inline(always)]
 fn key_from(keys: &[u32], among: &TaskSet, place: usize, priority: u32, other: u32) -> u32
     requires inside { (p : ℕ) → has among.now.words p ≡ true → p < length keys.now }
@@ -130,7 +133,9 @@ impl Order {
     /// The least place whose key is at least this one. Mostly it is the place of this task.
     #[inline(always)]
     fn place_at(&self, key: u32, task: usize) -> usize
-        ensures { (priorities : List ℕ) → AreOrdered priorities self.now.keys.items self.now.places.items → IsPlaceOf self.now.keys.items key result }
+        ensures { (priorities : List ℕ) →
+            AreOrdered priorities self.now.keys.items self.now.places.items →
+            IsPlaceOf self.now.keys.items key result }
     {
         match self.places.get(task) {
             None => place_of(&self.keys, key),
@@ -149,8 +154,10 @@ impl Order {
 pub fn first_around(order: &Order, among: &TaskSet, from: usize) -> Option<usize>
     requires few { from < 1024 }
     requires inside { (p : ℕ) → has among.now.words p ≡ true → p < length order.now.keys.items }
-    ensures { (priorities : List ℕ) → AreOrdered priorities order.now.keys.items order.now.places.items → from ≤ length priorities
-        → result ≡ first_around priorities (has_task order.now.places.items among.now.words) (length priorities) from }
+    ensures { (priorities : List ℕ) →
+        AreOrdered priorities order.now.keys.items order.now.places.items → from ≤ length priorities
+        → result ≡ first_around priorities (has_task order.now.places.items among.now.words)
+        (length priorities) from }
 {
     match among.first_from(0) {
         None => None,

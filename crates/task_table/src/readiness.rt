@@ -1,4 +1,5 @@
-//! Which tasks are ready, and lists of sets of which a task is in one at most, as those of the clients of each server.
+//! Which tasks are ready, and lists of sets of which a task is in one at most, as those of the
+//! clients of each server.
 
 ghost use Rattle.std.specs.Prelude.{◌≡◌, ◌<◌, ◌≤◌, ◌&&◌, ◌==◌, ℕ, false, length, IfOk, if◌then◌else◌, slice_index_or};
 ghost use Rattle.task_table.specs.kept.Limits.{most_tasks};
@@ -28,7 +29,8 @@ pub(crate) fn ready_tasks(slots: &[Slot], order: &Order) -> TaskSet
 /// So many empty sets.
 pub(crate) fn empty_sets(alloc: Global, count: usize) -> Result<Vec<TaskSet>, AllocError>
     ensures count { IfOk result (λ sets. length sets.items ≡ count) }
-    ensures empty { IfOk result (λ sets. (k i : ℕ) (d : TaskSet) → k < length sets.items → has (slice_index_or sets.items k d).words i ≡ false) }
+    ensures empty { IfOk result (λ sets. (k i : ℕ) (d : TaskSet) → k < length sets.items →
+        has (slice_index_or sets.items k d).words i ≡ false) }
 {
     let mut sets = Vec::new(alloc);
     for _ in 0..count {
@@ -37,11 +39,13 @@ pub(crate) fn empty_sets(alloc: Global, count: usize) -> Result<Vec<TaskSet>, Al
     Ok(sets)
 }
 
-/// Which tasks are ready once the one at a place is so from now on, of which it was known whether it was ready.
+/// Which tasks are ready once the one at a place is so from now on, of which it was known whether
+/// it was ready.
 pub(crate) fn follow_readiness(ready: &mut TaskSet, place: usize, before: bool, after: bool)
     requires small { place < most_tasks }
     requires before { has ready.old.words place ≡ before }
-    ensures { (p : ℕ) → has ready.new.words p ≡ (if p == place then after else has ready.old.words p) }
+    ensures { (p : ℕ) → has ready.new.words p ≡
+        (if p == place then after else has ready.old.words p) }
 {
     if before != after {
         ready.set(place, after);
@@ -52,7 +56,10 @@ pub(crate) fn follow_readiness(ready: &mut TaskSet, place: usize, before: bool, 
 fn set_member(sets: &mut [TaskSet], number: Option<usize>, task: usize, member: bool)
     requires { task < most_tasks }
     ensures count { length sets.new ≡ length sets.old }
-    ensures each { (k i : ℕ) (d : TaskSet) → k < length sets.old → has (slice_index_or sets.new k d).words i ≡ (if is_at k number && i == task then member else has (slice_index_or sets.old k d).words i) }
+    ensures each { (k i : ℕ) (d : TaskSet) → k < length sets.old →
+        has (slice_index_or sets.new k d).words i ≡
+        (if is_at k number && i == task then member else has (slice_index_or sets.old k d).words
+        i) }
 {
     if let Some(number) = number {
         if number < sets.len() {
@@ -61,8 +68,8 @@ fn set_member(sets: &mut [TaskSet], number: Option<usize>, task: usize, member: 
     }
 }
 
-/// The sets once a task, by its place or its index, is in the one with this number, or in none, of which it was known in
-/// which it was.
+/// The sets once a task, by its place or its index, is in the one with this number, or in none, of
+/// which it was known in which it was.
 pub(crate) fn move_member(
     sets: &mut [TaskSet],
     task: usize,
@@ -70,9 +77,12 @@ pub(crate) fn move_member(
     after: Option<usize>,
 )
     requires small { task < most_tasks }
-    requires before { (k : ℕ) (d : TaskSet) → k < length sets.old → has (slice_index_or sets.old k d).words task ≡ is_at k before }
+    requires before { (k : ℕ) (d : TaskSet) → k < length sets.old →
+        has (slice_index_or sets.old k d).words task ≡ is_at k before }
     ensures count { length sets.new ≡ length sets.old }
-    ensures each { (k i : ℕ) (d : TaskSet) → k < length sets.old → has (slice_index_or sets.new k d).words i ≡ (if i == task then is_at k after else has (slice_index_or sets.old k d).words i) }
+    ensures each { (k i : ℕ) (d : TaskSet) → k < length sets.old →
+        has (slice_index_or sets.new k d).words i ≡
+        (if i == task then is_at k after else has (slice_index_or sets.old k d).words i) }
 {
     if before != after {
         set_member(sets, before, task, false);

@@ -1,4 +1,5 @@
-//! What RECV does to a task: it takes its posted bits, listens, or takes a call that is offered to it.
+//! What RECV does to a task: it takes its posted bits, listens, or takes a call that is offered to
+//! it.
 
 use crate::kernel::Kernel;
 use crate::slot::{FromId, Listening, OpenCall, Slice, Wait};
@@ -22,7 +23,8 @@ impl Kernel {
     /// The call that a client offers to a server, where it does.
     pub fn offered(&self, client: usize, server: usize) -> Option<OpenCall>
         requires { client < task_count self.now }
-        ensures { (g : Setup) (t : Turn) → Stands g self.now t → result ≡ option_map kept_call (offer_by t.state client server) }
+        ensures { (g : Setup) (t : Turn) → Stands g self.now t →
+            result ≡ option_map kept_call (offer_by t.state client server) }
     {
         let slot = self.slot(client);
         slot.wait.offered_to(server)
@@ -31,7 +33,8 @@ impl Kernel {
     /// The call of a client that a server has taken, where it has.
     pub fn taken(&self, client: usize, server: usize) -> Option<OpenCall>
         requires { client < task_count self.now }
-        ensures { (g : Setup) (t : Turn) → Stands g self.now t → result ≡ option_map kept_call (taken_by t.state client server) }
+        ensures { (g : Setup) (t : Turn) → Stands g self.now t →
+            result ≡ option_map kept_call (taken_by t.state client server) }
     {
         let slot = self.slot(client);
         slot.wait.taken_by(server)
@@ -40,7 +43,8 @@ impl Kernel {
     /// The first byte of a range that may not be copied for a task, where there is one.
     pub fn bad_byte(&self, task: usize, right: Right, base: u32, len: u32) -> Option<u32>
         requires { base + len ≤ 2 ^ 32 }
-        ensures { (g : Setup) (t : Turn) → Holds g self.now t → result ≡ bad_byte g task right record { base = base; len = len } }
+        ensures { (g : Setup) (t : Turn) → Holds g self.now t →
+            result ≡ bad_byte g task right record { base = base; len = len } }
     {
         may_range(self.regions(task), base, len, right)
     }
@@ -49,19 +53,22 @@ impl Kernel {
     pub fn deny(&mut self, task: usize, at: u32, access: Access)
         requires there { task < task_count self.old }
         requires room { note_count self.old + 4 ≤ turn_notes }
-        ensures holds { (g : Setup) (t : Turn) → Holds g self.old t → Holds g self.new (denied g task (access_number access) (Some at) t) }
-        ensures stands { (g : Setup) (t : Turn) → Stands g self.old t → Stands g self.new (denied g task (access_number access) (Some at) t) }
+        ensures holds { (g : Setup) (t : Turn) → Holds g self.old t →
+            Holds g self.new (denied g task (access_number access) (Some at) t) }
+        ensures stands { (g : Setup) (t : Turn) → Stands g self.old t →
+            Stands g self.new (denied g task (access_number access) (Some at) t) }
         ensures frame { AddsAtMost self.old 4 self.new }
     {
         self.fault(task, Fault::access(at, access));
     }
 
-    /// A caller takes its posted bits under a mask, which are cleared, and goes on: r4 is 0, r5 0xFFFF,
-    /// r6 those bits, r7 to r9 are 0 (Hubris Reference, on notifications).
+    /// A caller takes its posted bits under a mask, which are cleared, and goes on: r4 is 0, r5
+    /// 0xFFFF, r6 those bits, r7 to r9 are 0 (Hubris Reference, on notifications).
     pub fn take_bits(&mut self, task: usize, mask: u32)
         requires there { task < task_count self.old }
         requires room { note_count self.old < turn_notes }
-        ensures holds { (g : Setup) (t : Turn) → Holds g self.old t → Holds g self.new (takes_bits task mask t) }
+        ensures holds { (g : Setup) (t : Turn) → Holds g self.old t →
+            Holds g self.new (takes_bits task mask t) }
         ensures frame { AddsNotes self.old 1 self.new }
     {
         let under = self.posted_bits(task) & mask;
@@ -72,7 +79,8 @@ impl Kernel {
     /// The present id of a task (Hubris Reference, on task ids).
     pub fn id(&self, task: usize) -> TaskId
         requires { task < task_count self.now }
-        ensures { (g : Setup) (t : Turn) → Holds g self.now t → result.number ≡ present_id t.state task }
+        ensures { (g : Setup) (t : Turn) → Holds g self.now t →
+            result.number ≡ present_id t.state task }
     {
         TaskId::new(task as u16, self.generation(task))
     }
@@ -80,7 +88,8 @@ impl Kernel {
     /// Whom a task hears that listens so.
     fn from_id(&self, from: FromIndex) -> FromId
         requires { IsListened (task_count self.now) from }
-        ensures { (g : Setup) (t : Turn) → Holds g self.now t → result ≡ from_id_of (from_of t.state from) }
+        ensures { (g : Setup) (t : Turn) → Holds g self.now t →
+            result ≡ from_id_of (from_of t.state from) }
     {
         match from {
             FromIndex::Any => FromId::Any,
@@ -94,7 +103,8 @@ impl Kernel {
         requires there { task < task_count self.old }
         requires whom { IsListened (task_count self.old) from }
         requires room { note_count self.old < turn_notes }
-        ensures holds { (g : Setup) (t : Turn) → Holds g self.old t → IsIdle t.state task → Holds g self.new (listening task (asked t.state task) (from_of t.state from) t) }
+        ensures holds { (g : Setup) (t : Turn) → Holds g self.old t → IsIdle t.state task →
+            Holds g self.new (listening task (asked t.state task) (from_of t.state from) t) }
         ensures frame { AddsNotes self.old 1 self.new }
     {
         let args = RecvArgs::of(&self.arguments(task));
@@ -112,13 +122,14 @@ impl Kernel {
         });
     }
 
-    /// A caller that waits for nothing goes past its system call and listens, with the buffer and the mask of
-    /// its registers r4 to r6 (Hubris Reference, on RECV).
+    /// A caller that waits for nothing goes past its system call and listens, with the buffer and
+    /// the mask of its registers r4 to r6 (Hubris Reference, on RECV).
     pub fn listen(&mut self, task: usize, from: FromIndex)
         requires there { task < task_count self.old }
         requires whom { IsListened (task_count self.old) from }
         requires room { note_count self.old < turn_notes }
-        ensures holds { (g : Setup) (t : Turn) → Holds g self.old t → IsIdle t.state task → Holds g self.new (listens task (asked t.state task) (from_of t.state from) t) }
+        ensures holds { (g : Setup) (t : Turn) → Holds g self.old t → IsIdle t.state task →
+            Holds g self.new (listens task (asked t.state task) (from_of t.state from) t) }
         ensures frame { AddsNotes self.old 1 self.new }
     {
         self.go_past_syscall(task);
@@ -128,7 +139,8 @@ impl Kernel {
     /// The call of a client is taken from now on, if it has one.
     fn take(&mut self, client: usize)
         requires { client < task_count self.old }
-        ensures holds { (g : Setup) (t : Turn) → Holds g self.old t → Holds g self.new (changed (with_taken client) t) }
+        ensures holds { (g : Setup) (t : Turn) → Holds g self.old t →
+            Holds g self.new (changed (with_taken client) t) }
         ensures frame { AddsNotes self.old 0 self.new }
     {
         let mut slot = self.slot(client);
@@ -136,14 +148,17 @@ impl Kernel {
         self.set_slot(client, slot);
     }
 
-    /// The open call of a client goes to its server, with as much of the message as fits into a buffer.
+    /// The open call of a client goes to its server, with as much of the message as fits into a
+    /// buffer.
     pub(crate) fn hand_over(&mut self, client: usize, server: usize, call: &OpenCall, buffer: Slice)
         requires client { client < task_count self.old }
         requires server { server < task_count self.old }
         requires room { note_count self.old < turn_notes }
         requires source { IsWithin (memory_of self.old) call.now.message.base call.now.message.len }
         requires target { IsWithinRam (memory_of self.old) buffer.base buffer.len }
-        ensures holds { (g : Setup) (t : Turn) (on : Ground) (c : Call) → Holds g self.old t → kept_call c ≡ call.now → c.client.index ≡ client → c.server.index ≡ server → Holds g self.new (handed on c buffer t) }
+        ensures holds { (g : Setup) (t : Turn) (on : Ground) (c : Call) → Holds g self.old t →
+            kept_call c ≡ call.now → c.client.index ≡ client → c.server.index ≡ server →
+            Holds g self.new (handed on c buffer t) }
         ensures frame { AddsNotes self.old 1 self.new }
     {
         let copied = call.message.len.min(buffer.len);
@@ -167,16 +182,18 @@ impl Kernel {
         );
     }
 
-    /// A caller goes past its system call and takes the call that a client offers to it, with as much of the
-    /// message as fits into the buffer of its registers r4 and r5: r4 is 0, r5 the client's id, r6 the
-    /// operation, r7 the message's length, r8 the room for a reply, r9 the number of leases (Hubris
-    /// Reference, on RECV).
+    /// A caller goes past its system call and takes the call that a client offers to it, with as
+    /// much of the message as fits into the buffer of its registers r4 and r5: r4 is 0, r5 the
+    /// client's id, r6 the operation, r7 the message's length, r8 the room for a reply, r9 the
+    /// number of leases (Hubris Reference, on RECV).
     pub fn receive(&mut self, server: usize, client: usize, call: &OpenCall)
         requires there { server < task_count self.old }
         requires client { client < task_count self.old }
         requires room { note_count self.old + 2 ≤ turn_notes }
         requires receivable { IsReceivable self.old server client call.now }
-        ensures holds { (g : Setup) (t : Turn) (c : Call) → Stands g self.old t → offer_by t.state client server ≡ Some c → kept_call c ≡ call.now → Holds g self.new (receives server (asked t.state server) c t) }
+        ensures holds { (g : Setup) (t : Turn) (c : Call) → Stands g self.old t →
+            offer_by t.state client server ≡ Some c → kept_call c ≡ call.now →
+            Holds g self.new (receives server (asked t.state server) c t) }
         ensures frame { AddsNotes self.old 2 self.new }
     {
         let args = RecvArgs::of(&self.arguments(server));

@@ -1,5 +1,5 @@
-//! What SEND, REPLY and REPLY_FAULT do to two tasks: a call is offered, and taken at once where its server
-//! listens for it; it is answered, or its client is faulted.
+//! What SEND, REPLY and REPLY_FAULT do to two tasks: a call is offered, and taken at once where its
+//! server listens for it; it is answered, or its client is faulted.
 
 use crate::kernel::Kernel;
 use crate::slot::{OpenCall, Phase, Slice, Wait};
@@ -22,7 +22,8 @@ impl Kernel {
     fn buffer_for(&self, server: usize, client: usize) -> Option<Slice>
         requires server { server < task_count self.now }
         requires client { client < task_count self.now }
-        ensures { (g : Setup) (t : Turn) → Stands g self.now t → result ≡ buffer_for (present t.state client) (listen_of t.state server) }
+        ensures { (g : Setup) (t : Turn) → Stands g self.now t →
+            result ≡ buffer_for (present t.state client) (listen_of t.state server) }
     {
         let slot = self.slot(server);
         slot.wait.buffer_for(self.id(client))
@@ -32,7 +33,8 @@ impl Kernel {
     fn call_to(&self, client: usize, server: usize, args: &SendArgs) -> OpenCall
         requires client { client < task_count self.now }
         requires server { server < task_count self.now }
-        ensures { (g : Setup) (t : Turn) → Holds g self.now t → result ≡ kept_call (call_made t.state client args.now server) }
+        ensures { (g : Setup) (t : Turn) → Holds g self.now t →
+            result ≡ kept_call (call_made t.state client args.now server) }
     {
         OpenCall {
             number: self.next_call(),
@@ -59,7 +61,9 @@ impl Kernel {
         requires server { server < task_count self.old }
         requires room { note_count self.old < turn_notes }
         requires number { next_call_of self.old + 1 < 2 ^ 32 }
-        ensures holds { (g : Setup) (t : Turn) (k : Call) → Holds g self.old t → IsIdle t.state client → kept_call k ≡ call.now → k.client.index ≡ client → k.server.index ≡ server → Holds g self.new (offered k t) }
+        ensures holds { (g : Setup) (t : Turn) (k : Call) → Holds g self.old t →
+            IsIdle t.state client → kept_call k ≡ call.now → k.client.index ≡ client →
+            k.server.index ≡ server → Holds g self.new (offered k t) }
         ensures frame { AddsNotes self.old 1 self.new }
     {
         // Nothing is written between the slot's read and its write.
@@ -74,16 +78,17 @@ impl Kernel {
         });
     }
 
-    /// A caller that waits for nothing goes past its system call and offers a call to a server, under the next
-    /// number and with the ids that both have now. A server that listens for it takes it at once (Hubris
-    /// Reference, on SEND).
+    /// A caller that waits for nothing goes past its system call and offers a call to a server,
+    /// under the next number and with the ids that both have now. A server that listens for it
+    /// takes it at once (Hubris Reference, on SEND).
     pub fn send(&mut self, caller: usize, server: usize, args: &SendArgs)
         requires there { caller < task_count self.old }
         requires server { server < task_count self.old }
         requires room { note_count self.old + 3 ≤ turn_notes }
         requires number { next_call_of self.old + 1 < 2 ^ 32 }
         requires sendable { IsSending self.old caller args.now }
-        ensures holds { (g : Setup) (t : Turn) → Stands g self.old t → IsIdle t.state caller → caller ≢ server → Holds g self.new (sends caller args.now server t) }
+        ensures holds { (g : Setup) (t : Turn) → Stands g self.old t → IsIdle t.state caller →
+            caller ≢ server → Holds g self.new (sends caller args.now server t) }
         ensures frame { AddsAtMost self.old 3 self.new }
     {
         let buffer = self.buffer_for(server, caller);
@@ -96,14 +101,17 @@ impl Kernel {
         }
     }
 
-    /// A caller answers the call of a client that it has taken, and goes on: the client gets the reply, in r4
-    /// the response code and in r5 the reply's length, and its call is closed (Hubris Reference, on REPLY).
+    /// A caller answers the call of a client that it has taken, and goes on: the client gets the
+    /// reply, in r4 the response code and in r5 the reply's length, and its call is closed (Hubris
+    /// Reference, on REPLY).
     pub fn hand_reply(&mut self, caller: usize, client: usize, call: &OpenCall, args: &ReplyArgs)
         requires there { caller < task_count self.old }
         requires client { client < task_count self.old }
         requires room { note_count self.old + 3 ≤ turn_notes }
         requires replying { IsReplying self.old caller client call.now args.now }
-        ensures holds { (g : Setup) (t : Turn) (k : Call) → Stands g self.old t → taken_by t.state client caller ≡ Some k → kept_call k ≡ call.now → Holds g self.new (answers caller args.now k t) }
+        ensures holds { (g : Setup) (t : Turn) (k : Call) → Stands g self.old t →
+            taken_by t.state client caller ≡ Some k → kept_call k ≡ call.now →
+            Holds g self.new (answers caller args.now k t) }
         ensures frame { AddsAtMost self.old 3 self.new }
     {
         self.copy(args.reply_base, call.reply.base, args.reply_length);
@@ -113,13 +121,15 @@ impl Kernel {
         self.go_on(caller);
     }
 
-    /// A caller faults the client of a call that it has taken, and goes on: the fault tells the caller's id
-    /// and the reason (Hubris Reference, on REPLY_FAULT).
+    /// A caller faults the client of a call that it has taken, and goes on: the fault tells the
+    /// caller's id and the reason (Hubris Reference, on REPLY_FAULT).
     pub fn reply_fault(&mut self, caller: usize, client: usize, reason: Reason)
         requires there { caller < task_count self.old }
         requires client { client < task_count self.old }
         requires room { note_count self.old + 5 ≤ turn_notes }
-        ensures holds { (g : Setup) (t : Turn) (k : Call) → Stands g self.old t → taken_by t.state client caller ≡ Some k → Holds g self.new (faults_client g caller k (reason_number reason) t) }
+        ensures holds { (g : Setup) (t : Turn) (k : Call) → Stands g self.old t →
+            taken_by t.state client caller ≡ Some k →
+            Holds g self.new (faults_client g caller k (reason_number reason) t) }
         ensures frame { AddsAtMost self.old 5 self.new }
     {
         let fault = Fault::reply_fault(self.id(caller), reason);

@@ -34,7 +34,8 @@ pub enum Phase {
 }
 
 /// A call that is open, as its client made it, with the ids that client and server had then: the
-/// message, the room for the reply, and the lease table of so many leases (Hubris Reference, on SEND).
+/// message, the room for the reply, and the lease table of so many leases (Hubris Reference, on
+/// SEND).
 #[derive(Clone, Copy, Debug, PartialEq, Eq)]
 pub struct OpenCall {
     pub number: u32,

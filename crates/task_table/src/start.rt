@@ -72,7 +72,8 @@ fn birth_health(started: bool) -> Health
 /// What is kept of a task that is born, at this generation.
 pub(crate) fn birth_slot(task: &TaskStart, generation: Generation, started: bool) -> Slot
     requires { generation.number < 64 }
-    ensures { result ≡ packed_task (at_birth (task_setup task.now) generation.number (if started then Well else Stopped)) Nothing }
+    ensures { result ≡ packed_task (at_birth (task_setup task.now) generation.number
+        (if started then Well else Stopped)) Nothing }
 {
     let pc = task.entry - task.entry % 2;
     Slot {
@@ -117,7 +118,8 @@ fn first_slot(task: &TaskStart) -> Slot
 
 /// What is kept of each task at its first birth.
 pub(crate) fn first_slots(alloc: Global, tasks: &[TaskStart]) -> Result<Vec<Slot>, AllocError>
-    ensures { IfOk result (λ xs. xs.items ≡ map (λ x. packed_task (born (task_setup x)) Nothing) tasks.now) }
+    ensures { IfOk result (λ xs. xs.items ≡ map (λ x. packed_task (born (task_setup x)) Nothing)
+        tasks.now) }
 {
     let mut slots = Vec::new(alloc);
     for task in tasks {

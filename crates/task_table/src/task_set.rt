@@ -1,5 +1,6 @@
-//! Sets of tasks, as sets of their places in the order of the tasks, or of their indices: bit p % 32 of word p / 32 tells
-//! whether the task at place p is in the set, and bit w of the summary whether word w has any.
+//! Sets of tasks, as sets of their places in the order of the tasks, or of their indices: bit p %
+//! 32 of word p / 32 tells whether the task at place p is in the set, and bit w of the summary
+//! whether word w has any.
 
 ghost use Rattle.std.specs.Prelude.{◌≡◌, length};
 ghost use Rattle.task_table.specs.kept.Limits.{task_words};
@@ -7,8 +8,8 @@ ghost use Rattle.task_table.specs.kept.TaskSets.{IsSummary};
 
 use crate::limits::TASK_WORDS;
 
-/// Some of the tasks of an application, by their places in its `Order` or by their indices. The summary makes each
-/// search one of two words, however many there are.
+/// Some of the tasks of an application, by their places in its `Order` or by their indices. The
+/// summary makes each search one of two words, however many there are.
 #[derive(Clone, Copy)]
 pub struct TaskSet {
     words: [u32; TASK_WORDS],
@@ -69,7 +70,8 @@ impl TaskSet {
     #[inline(always)]
     pub fn set(&mut self, place: usize, member: bool)
         requires { place < most_tasks }
-        ensures { (i : ℕ) → has self.new.words i ≡ (if i == place then member else has self.old.words i) }
+        ensures { (i : ℕ) → has self.new.words i ≡
+            (if i == place then member else has self.old.words i) }
     {
         if member {
             self.insert(place);

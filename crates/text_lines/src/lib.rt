@@ -1,5 +1,5 @@
-//! The lines of a text, and the numbers and names that pieces of it are (docs/FORMATS.md, Assembler, Script and
-//! Application).
+//! The lines of a text, and the numbers and names that pieces of it are (docs/FORMATS.md,
+//! Assembler, Script and Application).
 #![tactic(auto)]
 
 mod names;
@@ -27,8 +27,10 @@ impl<'a> Lines<'a> {
     /// The next line, without the LF that ends it and without a CR right before that LF. The last
     /// line may lack its LF. `None` past the last line.
     pub fn next(&mut self) -> Option<&'a [u8]>
-        ensures line { IfSome result (λ line. lines_of self.old.rest.now ≡ line.now ∷ lines_of self.new.rest.now) }
-        ensures shorter { IfSome result (λ line. length self.new.rest.now < length self.old.rest.now) }
+        ensures line { IfSome result (λ line. lines_of self.old.rest.now ≡ line.now ∷ lines_of
+            self.new.rest.now) }
+        ensures shorter { IfSome result
+            (λ line. length self.new.rest.now < length self.old.rest.now) }
 
         ensures end { IfNone result (lines_of self.old.rest.now ≡ []) }
         ensures unchanged { IfNone result (self.new.rest.now ≡ self.old.rest.now) }
@@ -158,7 +160,8 @@ fn digit(c: u8) -> u64
 
 /// A number with one more digit behind it, where that is at most `max`.
 fn grown(value: u64, base: u64, digit: u64, max: u64) -> Option<u64>
-    ensures { result ≡ (if nat_le (value * base + digit) max then Some (value * base + digit) else None) }
+    ensures { result ≡ (if nat_le (value * base + digit) max then Some (value * base + digit) else
+        None) }
 {
     let more = value.checked_mul(base)?.checked_add(digit)?;
     if more <= max { Some(more) } else { None }

@@ -27,7 +27,8 @@ fn all_name_bytes(bytes: &[u8]) -> bool
     true
 }
 
-/// Whether the bytes are a name: a letter, then letters, digits and `_`, at most 24 (docs/FORMATS.md, Application).
+/// Whether the bytes are a name: a letter, then letters, digits and `_`, at most 24
+/// (docs/FORMATS.md, Application).
 pub fn is_name(bytes: &[u8]) -> bool
     ensures { result ≡ is_name bytes.now }
 {

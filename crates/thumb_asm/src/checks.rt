@@ -149,7 +149,8 @@ fn extra_of(loads: bool) -> u8
 /// The cause that is told first.
 #[inline(always)]
 fn first_cause(bad_register: bool, bad_number: bool, bad_list: bool) -> Option<Cause>
-    ensures { result ≡ (if bad_register then Some BadRegister else if bad_number then Some BadNumber else if bad_list then Some BadList else None) }
+    ensures { result ≡ (if bad_register then Some BadRegister else if bad_number then Some BadNumber
+        else if bad_list then Some BadList else None) }
 {
     if bad_register {
         Some(Cause::BadRegister)

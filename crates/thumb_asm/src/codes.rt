@@ -205,7 +205,8 @@ fn push_half(out: &mut Vec<u8>, half: u16) -> Result<(), Stop>
 
 /// The code of an instruction, which takes as many bytes as the instruction is long.
 fn code_of(insn: &Insn) -> Result<Code, Fit>
-    ensures coded { IfOk result (λ c. (insn_of c ≡ Some insn.now) × IsCode c × (length (code_bytes c) ≡ insn_size insn.now)) }
+    ensures coded { IfOk result (λ c. (insn_of c ≡ Some insn.now) × IsCode c
+        × (length (code_bytes c) ≡ insn_size insn.now)) }
     ensures fits { OnOk result (fit_of insn.now ≡ None) }
     ensures refused { IfErr result (λ f. fit_of insn.now ≡ Some f) }
 {
@@ -259,8 +260,10 @@ pub(crate) fn emit_insn(at: u32, insn: Insn, out: &mut Vec<u8>) -> Result<(), St
 /// Puts an instruction that was found, or tells why there is none.
 #[tactic(auto, using(crate::proofs::Coding::put_ok, crate::proofs::Coding::put_err))]
 pub(crate) fn emit_found(at: u32, found: Result<Insn, Cause>, out: &mut Vec<u8>) -> Result<(), Stop>
-    ensures ok { (r : Result Instruction Why) → Finds found r → OnOk result (Put r at out.old.items out.new.items) }
-    ensures err { (r : Result Instruction Why) → Finds found r → IfErr result (λ e. Stops e (insn_cause at r)) }
+    ensures ok { (r : Result Instruction Why) → Finds found r →
+        OnOk result (Put r at out.old.items out.new.items) }
+    ensures err { (r : Result Instruction Why) → Finds found r →
+        IfErr result (λ e. Stops e (insn_cause at r)) }
 {
     match found {
         Ok(insn) => emit_insn(at, insn, out),

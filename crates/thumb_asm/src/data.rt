@@ -42,7 +42,8 @@ pub(crate) fn push_zeros(count: u32, out: &mut Vec<u8>) -> Result<(), Stop>
 }
 
 fn is_unknown(piece: &[u8], names: &KnownNames<'_>) -> bool
-    ensures { result ≡ is_unknown (value (env_in names.now.labels.now names.now.symbols.now) piece.now) }
+    ensures { result ≡ is_unknown (value (env_in names.now.labels.now names.now.symbols.now)
+        piece.now) }
 {
     match value(piece, names) {
         None => true,
@@ -75,7 +76,8 @@ fn is_beyond(size: Size, number: i64) -> bool
 }
 
 fn is_out(size: Size, piece: &[u8], names: &KnownNames<'_>) -> bool
-    ensures { result ≡ is_beyond (scale size) (value (env_in names.now.labels.now names.now.symbols.now) piece.now) }
+    ensures { result ≡ is_beyond (scale size)
+        (value (env_in names.now.labels.now names.now.symbols.now) piece.now) }
 {
     match value(piece, names) {
         None => false,
@@ -84,7 +86,8 @@ fn is_out(size: Size, piece: &[u8], names: &KnownNames<'_>) -> bool
 }
 
 fn has_unknown(pieces: &[u8], names: &KnownNames<'_>) -> bool
-    ensures { result ≡ list_any (λ e. is_unknown (value (env_in names.now.labels.now names.now.symbols.now) e)) (operand_pieces pieces.now) }
+    ensures { result ≡ list_any (λ e. is_unknown
+        (value (env_in names.now.labels.now names.now.symbols.now) e)) (operand_pieces pieces.now) }
 {
     let mut left = Pieces::of(pieces);
     'pieces: while let Some(piece) = left.next() {
@@ -96,7 +99,8 @@ fn has_unknown(pieces: &[u8], names: &KnownNames<'_>) -> bool
 }
 
 fn has_beyond(size: Size, pieces: &[u8], names: &KnownNames<'_>) -> bool
-    ensures { result ≡ list_any (λ e. is_beyond (scale size) (value (env_in names.now.labels.now names.now.symbols.now) e)) (operand_pieces pieces.now) }
+    ensures { result ≡ list_any (λ e. is_beyond (scale size)
+        (value (env_in names.now.labels.now names.now.symbols.now) e)) (operand_pieces pieces.now) }
 {
     let mut left = Pieces::of(pieces);
     'pieces: while let Some(piece) = left.next() {
@@ -167,9 +171,13 @@ fn push_piece(
     names: &KnownNames<'_>,
     out: &mut Vec<u8>,
 ) -> Result<(), Stop>
-    requires known { is_unknown (value (env_in names.now.labels.now names.now.symbols.now) piece.now) ≡ false }
-    requires within { is_beyond (scale size) (value (env_in names.now.labels.now names.now.symbols.now) piece.now) ≡ false }
-    ensures ok { OnOk result (out.new.items ≡ out.old.items ++ value_bytes (scale size) (value (env_in names.now.labels.now names.now.symbols.now) piece.now)) }
+    requires known { is_unknown (value (env_in names.now.labels.now names.now.symbols.now)
+        piece.now) ≡ false }
+    requires within { is_beyond (scale size)
+        (value (env_in names.now.labels.now names.now.symbols.now) piece.now) ≡ false }
+    ensures ok { OnOk result (out.new.items ≡ out.old.items
+        ++ value_bytes (scale size) (value (env_in names.now.labels.now names.now.symbols.now)
+        piece.now)) }
     ensures err { IfErr result (λ e. (cause : Option Why) → Stops e cause) }
 {
     match value(piece, names) {
@@ -185,9 +193,15 @@ fn push_all(
     names: &KnownNames<'_>,
     out: &mut Vec<u8>,
 ) -> Result<(), Stop>
-    requires known { list_any (λ e. is_unknown (value (env_in names.now.labels.now names.now.symbols.now) e)) (operand_pieces pieces.now) ≡ false }
-    requires within { list_any (λ e. is_beyond (scale size) (value (env_in names.now.labels.now names.now.symbols.now) e)) (operand_pieces pieces.now) ≡ false }
-    ensures ok { OnOk result (out.new.items ≡ out.old.items ++ data_bytes (env_in names.now.labels.now names.now.symbols.now) (scale size) (operand_pieces pieces.now)) }
+    requires known { list_any (λ e. is_unknown
+        (value (env_in names.now.labels.now names.now.symbols.now) e)) (operand_pieces pieces.now) ≡
+        false }
+    requires within { list_any (λ e. is_beyond (scale size)
+        (value (env_in names.now.labels.now names.now.symbols.now) e)) (operand_pieces pieces.now) ≡
+        false }
+    ensures ok { OnOk result (out.new.items ≡ out.old.items
+        ++ data_bytes (env_in names.now.labels.now names.now.symbols.now) (scale size)
+        (operand_pieces pieces.now)) }
     ensures err { IfErr result (λ e. (cause : Option Why) → Stops e cause) }
 {
     let mut left = Pieces::of(pieces);
@@ -220,8 +234,11 @@ pub(crate) fn emit(
     names: &KnownNames<'_>,
     out: &mut Vec<u8>,
 ) -> Result<(), Stop>
-    ensures ok { OnOk result (Gave (env_in names.now.labels.now names.now.symbols.now) at (Data (scale size) (operand_pieces pieces.now)) out.old.items out.new.items) }
-    ensures err { IfErr result (λ e. Stops e (shape_cause (env_in names.now.labels.now names.now.symbols.now) at (Data (scale size) (operand_pieces pieces.now)))) }
+    ensures ok { OnOk result (Gave (env_in names.now.labels.now names.now.symbols.now) at
+        (Data (scale size) (operand_pieces pieces.now)) out.old.items out.new.items) }
+    ensures err { IfErr result (λ e. Stops e
+        (shape_cause (env_in names.now.labels.now names.now.symbols.now) at
+        (Data (scale size) (operand_pieces pieces.now)))) }
 {
     if is_misplaced(at, size) {
         return Err(Stop::Cause(Cause::Misaligned));

@@ -135,7 +135,8 @@ fn turned(sign: u8, number: i64) -> i64
 fn added_at<'a>(expr: Option<Expr<'a>>, sign: u8, rest: &[u8]) -> Option<Expr<'a>>
     requires small { IfSome expr (λ e. nat_abs e.number < 2 ^ 32) }
     requires name { IfSome expr (λ e. IfSome e.name (λ n. is_name n.now ≡ true)) }
-    ensures value { option_map expr_of result ≡ added (option_map expr_of expr.entry) (sign ∷ rest.now) }
+    ensures value { option_map expr_of result ≡ added (option_map expr_of expr.entry)
+        (sign ∷ rest.now) }
     ensures small { IfSome result (λ e. nat_abs e.number < 2 ^ 33) }
     ensures name { IfSome result (λ e. IfSome e.name (λ n. is_name n.now ≡ true)) }
 {

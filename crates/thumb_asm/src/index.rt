@@ -74,7 +74,9 @@ impl KnownNames<'_> {
 /// Gives a name a value, in place of the one that it had.
 #[tactic(auto, using(std::proofs::lemmas::Map::Text::text_keys))]
 fn insert(index: &mut BTreeMap<String, u32>, name: String, value: u32) -> Result<(), AllocError>
-    ensures { OnOk result ((q : List ℕ) → get_by_text index.new q ≡ (if bytes_eq q (string_bytes name) then Some value else get_by_text index.old q)) }
+    ensures { OnOk result ((q : List ℕ) →
+        get_by_text index.new q ≡ (if bytes_eq q (string_bytes name) then Some value else
+        get_by_text index.old q)) }
 {
     index.insert(name, value)?;
     Ok(())
@@ -99,7 +101,9 @@ pub(crate) fn add(
     at: u32,
 ) -> Result<(), AllocError>
     requires { IfSome label (λ name. is_name name.now ≡ true) }
-    ensures { OnOk result ((q : List ℕ) → get_by_text labels.new q ≡ with_label at (option_map (λ r. r.now) label.entry) (get_by_text labels.old) q) }
+    ensures { OnOk result ((q : List ℕ) →
+        get_by_text labels.new q ≡ with_label at (option_map (λ r. r.now) label.entry)
+        (get_by_text labels.old) q) }
 {
     match label {
         None => Ok(()),
@@ -117,7 +121,8 @@ fn add_symbol(
     name: &str,
     value: u32,
 ) -> Result<(), AllocError>
-    ensures { OnOk result ((q : List ℕ) → get_by_text index.new q ≡ with_symbol name.now value (get_by_text index.old) q) }
+    ensures { OnOk result ((q : List ℕ) →
+        get_by_text index.new q ≡ with_symbol name.now value (get_by_text index.old) q) }
 {
     match index.get(name) {
         Some(_) => Ok(()),

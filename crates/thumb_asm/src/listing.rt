@@ -15,7 +15,8 @@ use super::words::is_name;
 use std::alloc::{AllocError, Global};
 use text_lines::Lines;
 
-/// A line of a text that is an instruction: its number, counted from 1, and the address of its bytes.
+/// A line of a text that is an instruction: its number, counted from 1, and the address of its
+/// bytes.
 #[derive(Clone, Copy, PartialEq)]
 pub struct InsnLine {
     pub number: usize,
@@ -51,7 +52,8 @@ pub(crate) struct PlacedLines<'a> {
 fn room_for(line: &[u8], base: u32, used: u32) -> Option<u32>
     requires base { base + 1048576 < 2 ^ 32 }
     requires used { used ≤ 1048576 }
-    ensures value { MatchOption result (1048576 < used + line_size (base + used) line.now) (λ n. n ≡ line_size (base + used) line.now) }
+    ensures value { MatchOption result (1048576 < used + line_size (base + used) line.now)
+        (λ n. n ≡ line_size (base + used) line.now) }
     ensures within { IfSome result (λ n. used + n ≤ 1048576) }
 {
     match shape::statement(line_of(line).statement) {
@@ -79,9 +81,11 @@ impl<'a> PlacedLines<'a> {
     #[tactic(auto, using(crate::proofs::Placing::left_none, crate::proofs::Placing::left_stops, crate::proofs::Placing::left_next))]
     fn next(&mut self) -> Option<Placed<'a>>
         requires room { HaveRoom self.old }
-        ensures line { MatchOption result (lines_left self.old ≡ []) (λ p. lines_left self.old ≡ placed_of p ∷ lines_left self.new) }
+        ensures line { MatchOption result (lines_left self.old ≡ [])
+            (λ p. lines_left self.old ≡ placed_of p ∷ lines_left self.new) }
         ensures room { HaveRoom self.new }
-        ensures shorter { IfSome result (λ p. length self.new.lines.rest.now < length self.old.lines.rest.now) }
+        ensures shorter { IfSome result
+            (λ p. length self.new.lines.rest.now < length self.old.lines.rest.now) }
     {
         let text = self.lines.next()?;
         let size = room_for(text, self.base, self.used)?;
@@ -122,9 +126,10 @@ fn is_instruction(line: &[u8]) -> bool
     }
 }
 
-/// The lines of a text that are instructions, where its first line stands at `base`. A line of data, of a label alone or
-/// of nothing is none. A text that `assemble` accepts is listed whole, by `accepted_texts_are_listed_whole`; of another one the
-/// lines are listed up to the first that would end behind 1048576 bytes.
+/// The lines of a text that are instructions, where its first line stands at `base`. A line of
+/// data, of a label alone or of nothing is none. A text that `assemble` accepts is listed whole, by
+/// `accepted_texts_are_listed_whole`; of another one the lines are listed up to the first that
+/// would end behind 1048576 bytes.
 ///
 /// # Errors
 ///
@@ -150,7 +155,8 @@ pub fn instruction_lines(alloc: Global, text: &[u8], base: u32) -> Result<Vec<In
 /// The label of a line, if it has one that is a name.
 #[tactic(auto, using(crate::proofs::Placing::label_pushed, crate::proofs::Placing::label_left, crate::proofs::Placing::label_none))]
 fn push_label(alloc: Global, labels: &mut Vec<Label>, line: &Placed<'_>) -> Result<(), AllocError>
-    ensures { OnOk result (labels_in labels.new.items ≡ labels_in labels.old.items ++ named_label line.now.at (parts line.now.text.now).label) }
+    ensures { OnOk result (labels_in labels.new.items ≡ labels_in labels.old.items
+        ++ named_label line.now.at (parts line.now.text.now).label) }
 {
     match line_of(line.text).label {
         None => Ok(()),
@@ -166,8 +172,9 @@ fn push_label(alloc: Global, labels: &mut Vec<Label>, line: &Placed<'_>) -> Resu
     }
 }
 
-/// The labels of a text in order of its lines, where its first line stands at `base`; what stands before a colon and is no name is
-/// none. Of the lines, those count that `instruction_lines` looks at.
+/// The labels of a text in order of its lines, where its first line stands at `base`; what stands
+/// before a colon and is no name is none. Of the lines, those count that `instruction_lines` looks
+/// at.
 ///
 /// # Errors
 ///
@@ -185,7 +192,8 @@ pub fn label_lines(alloc: Global, text: &[u8], base: u32) -> Result<Vec<Label>, 
     Ok(labels)
 }
 
-/// A text that `assemble` accepts has an address for each line, and `label_lines` gives the labels that it gives.
+/// A text that `assemble` accepts has an address for each line, and `label_lines` gives the labels
+/// that it gives.
 pub fn accepted_texts_are_listed_whole()
     ensures lines { EachLineIsPlaced }
     ensures labels { EachLabelIsListed }

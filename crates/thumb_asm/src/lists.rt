@@ -32,9 +32,11 @@ impl<'a> Ranges<'a> {
     /// The next range, by its ends.
     #[tactic(auto, unfolding(crate::specs::Kinds::good_ranges))]
     fn next(&mut self) -> Option<(u8, u8)>
-        ensures range { MatchOption result (ranges_left (ranges_text self.old) ≡ []) (λ r. ranges_left (ranges_text self.old) ≡ r ∷ ranges_left (ranges_text self.new)) }
+        ensures range { MatchOption result (ranges_left (ranges_text self.old) ≡ [])
+            (λ r. ranges_left (ranges_text self.old) ≡ r ∷ ranges_left (ranges_text self.new)) }
         ensures bounds { IfSome result (λ r. (r.0 < 16) × (r.1 < 16)) }
-        ensures shorter { IfSome result (λ r. left_length (ranges_text self.new) < left_length (ranges_text self.old)) }
+        ensures shorter { IfSome result
+            (λ r. left_length (ranges_text self.new) < left_length (ranges_text self.old)) }
     {
         match self.rest {
             None => None,

@@ -126,7 +126,8 @@ fn offset(base: Reg, piece: &[u8]) -> Option<Operand<'_>>
 
 /// What stands before the first mark, and what behind it.
 pub(crate) fn split_by(mark: u8, text: &[u8]) -> (&[u8], Option<&[u8]>)
-    ensures cuts { stripped_by mark text.now ≡ result.0.now ∷ cuts_left mark (option_map (λ r. r.now) result.1) }
+    ensures cuts { stripped_by mark text.now ≡ result.0.now ∷ cuts_left mark
+        (option_map (λ r. r.now) result.1) }
     ensures shorter { left_length (option_map (λ r. r.now) result.1) < length text.now + 1 }
 {
     for (i, c) in text.iter().enumerate() {

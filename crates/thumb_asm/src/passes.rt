@@ -37,7 +37,8 @@ struct Survey {
 
 /// Why a label is refused.
 fn check_label(label: Option<&[u8]>, names: &KnownNames<'_>) -> Option<Cause>
-    ensures { result ≡ label_cause (given_in names.now.symbols.now) (get_by_text names.now.labels.now) (option_map (λ r. r.now) label.entry) }
+    ensures { result ≡ label_cause (given_in names.now.symbols.now)
+        (get_by_text names.now.labels.now) (option_map (λ r. r.now) label.entry) }
 {
     match label {
         None => None,
@@ -60,8 +61,10 @@ fn check_label(label: Option<&[u8]>, names: &KnownNames<'_>) -> Option<Cause>
 fn survey_line(line: &[u8], base: u32, used: u32, names: &KnownNames<'_>) -> Result<u32, Cause>
     requires base { base + 1048576 < 2 ^ 32 }
     requires used { used ≤ 1048576 }
-    ensures ok { IfOk result (HasPlace (given_in names.now.symbols.now) base (get_by_text names.now.labels.now) used line.now) }
-    ensures err { IfErr result (λ c. first_group (given_in names.now.symbols.now) base (get_by_text names.now.labels.now) used line.now ≡ Some c) }
+    ensures ok { IfOk result (HasPlace (given_in names.now.symbols.now) base
+        (get_by_text names.now.labels.now) used line.now) }
+    ensures err { IfErr result (λ c. first_group (given_in names.now.symbols.now) base
+        (get_by_text names.now.labels.now) used line.now ≡ Some c) }
 {
     if line.len() > 255 {
         return Err(Cause::LineTooLong);
@@ -89,8 +92,10 @@ fn place_lines(
     symbols: &GivenSymbols<'_>,
 ) -> Result<Survey, AsmFault>
     requires { base + 1048576 < 2 ^ 32 }
-    ensures ok { IfOk result (λ s. HavePlaces (given_in symbols.now) base (lines_of text.now) s.labels s.size) }
-    ensures err { IfErr result (λ e. Refuses e (first_in (given_in symbols.now) base [] 0 1 (lines_of text.now))) }
+    ensures ok { IfOk result (λ s. HavePlaces (given_in symbols.now) base (lines_of text.now)
+        s.labels s.size) }
+    ensures err { IfErr result (λ e. Refuses e
+        (first_in (given_in symbols.now) base [] 0 1 (lines_of text.now))) }
 {
     let mut labels: BTreeMap<String, u32> = BTreeMap::new(alloc);
     let mut used = 0u32;
@@ -119,8 +124,11 @@ fn place_lines(
 
 /// The bytes of a line.
 fn emit_line(at: u32, line: &[u8], names: &KnownNames<'_>, out: &mut Vec<u8>) -> Result<(), Stop>
-    ensures ok { OnOk result (Emitted (env_in names.now.labels.now names.now.symbols.now) at line.now out.old.items out.new.items) }
-    ensures err { IfErr result (λ e. Stops e (second_group (env_in names.now.labels.now names.now.symbols.now) at (statement_of (parts line.now).statement))) }
+    ensures ok { OnOk result (Emitted (env_in names.now.labels.now names.now.symbols.now) at
+        line.now out.old.items out.new.items) }
+    ensures err { IfErr result (λ e. Stops e
+        (second_group (env_in names.now.labels.now names.now.symbols.now) at
+        (statement_of (parts line.now).statement))) }
 {
     match shape::statement(line_of(line).statement) {
         Ok(found) => match found {
@@ -132,7 +140,8 @@ fn emit_line(at: u32, line: &[u8], names: &KnownNames<'_>, out: &mut Vec<u8>) ->
 }
 
 fn fault_at(stop: Stop, line: usize) -> AsmFault
-    ensures { (cause : Option Cause) (later : Option (Cause × ℕ)) → Stops stop cause → Refuses result (at_line line cause later) }
+    ensures { (cause : Option Cause) (later : Option (Cause × ℕ)) → Stops stop cause →
+        Refuses result (at_line line cause later) }
 {
     match stop {
         Stop::Memory => AsmFault::Memory,
@@ -144,8 +153,11 @@ fn fault_at(stop: Stop, line: usize) -> AsmFault
 fn emit(alloc: Global, text: &[u8], base: u32, names: &KnownNames<'_>) -> Result<Vec<u8>, AsmFault>
     requires base { base + 1048576 < 2 ^ 32 }
     requires size { size_from base (lines_of text.now) ≤ 1048576 }
-    ensures ok { IfOk result (λ v. HaveBytes (env_in names.now.labels.now names.now.symbols.now) base (lines_of text.now) v.items) }
-    ensures err { IfErr result (λ e. Refuses e (second_in (env_in names.now.labels.now names.now.symbols.now) base 1 (lines_of text.now))) }
+    ensures ok { IfOk result (λ v. HaveBytes (env_in names.now.labels.now names.now.symbols.now)
+        base (lines_of text.now) v.items) }
+    ensures err { IfErr result (λ e. Refuses e
+        (second_in (env_in names.now.labels.now names.now.symbols.now) base 1
+        (lines_of text.now))) }
 {
     let mut out: Vec<u8> = Vec::new(alloc);
     let mut number = 0usize;
@@ -169,9 +181,12 @@ fn assemble_given(
     symbols: &GivenSymbols<'_>,
 ) -> Result<Object, AsmFault>
     requires { base + 1048576 < 2 ^ 32 }
-    ensures accepted { IfOk result (λ o. first_cause (lines_of text.now) base (given_in symbols.now) ≡ None) }
-    ensures assembled { IfOk result (λ o. Assembles (lines_of text.now) base (given_in symbols.now) o.bytes.items (get_by_text o.labels)) }
-    ensures refused { IfErr result (λ e. Refuses e (first_cause (lines_of text.now) base (given_in symbols.now))) }
+    ensures accepted { IfOk result (λ o. first_cause (lines_of text.now) base (given_in symbols.now)
+        ≡ None) }
+    ensures assembled { IfOk result (λ o. Assembles (lines_of text.now) base (given_in symbols.now)
+        o.bytes.items (get_by_text o.labels)) }
+    ensures refused { IfErr result (λ e. Refuses e
+        (first_cause (lines_of text.now) base (given_in symbols.now))) }
 {
     match place_lines(alloc, text, base, symbols) {
         Err(fault) => Err(fault),
@@ -193,9 +208,9 @@ fn assemble_given(
     }
 }
 
-/// `assemble` for many texts that share symbols: `own` and then `shared` give names values besides the
-/// labels. The index of the shared ones is made once (`Symbols::of`), and a label is the name of none of
-/// either.
+/// `assemble` for many texts that share symbols: `own` and then `shared` give names values besides
+/// the labels. The index of the shared ones is made once (`Symbols::of`), and a label is the name
+/// of none of either.
 pub fn assemble_with(
     alloc: Global,
     text: &[u8],
@@ -204,9 +219,14 @@ pub fn assemble_with(
     own: &[(String, u32)],
 ) -> Result<Object, AsmFault>
     requires { base + 1048576 < 2 ^ 32 }
-    ensures accepted { IfOk result (λ o. first_cause (lines_of text.now) base (over (symbol_values own.now) (values_of shared.now)) ≡ None) }
-    ensures assembled { IfOk result (λ o. Assembles (lines_of text.now) base (over (symbol_values own.now) (values_of shared.now)) o.bytes.items (get_by_text o.labels)) }
-    ensures refused { IfErr result (λ e. Refuses e (first_cause (lines_of text.now) base (over (symbol_values own.now) (values_of shared.now)))) }
+    ensures accepted { IfOk result (λ o. first_cause (lines_of text.now) base
+        (over (symbol_values own.now) (values_of shared.now)) ≡ None) }
+    ensures assembled { IfOk result (λ o. Assembles (lines_of text.now) base
+        (over (symbol_values own.now) (values_of shared.now)) o.bytes.items
+        (get_by_text o.labels)) }
+    ensures refused { IfErr result (λ e. Refuses e
+        (first_cause (lines_of text.now) base
+        (over (symbol_values own.now) (values_of shared.now)))) }
 {
     match Symbols::of(alloc, own) {
         Err(_) => Err(AsmFault::Memory),
@@ -215,8 +235,9 @@ pub fn assemble_with(
 }
 
 /// The bytes and labels of a text whose first line stands at `base`, or the first cause why it has
-/// none, by the order of docs/FORMATS.md, Assembler. `symbols` give names values besides the labels;
-/// of two with one name the first counts. The last byte of a text stands below address 2^32.
+/// none, by the order of docs/FORMATS.md, Assembler. `symbols` give names values besides the
+/// labels; of two with one name the first counts. The last byte of a text stands below address
+/// 2^32.
 pub fn assemble(
     alloc: Global,
     text: &[u8],
@@ -224,9 +245,12 @@ pub fn assemble(
     symbols: &[(String, u32)],
 ) -> Result<Object, AsmFault>
     requires { base + 1048576 < 2 ^ 32 }
-    ensures accepted { IfOk result (λ o. first_cause (lines_of text.now) base (symbol_values symbols.now) ≡ None) }
-    ensures assembled { IfOk result (λ o. Assembles (lines_of text.now) base (symbol_values symbols.now) o.bytes.items (get_by_text o.labels)) }
-    ensures refused { IfErr result (λ e. Refuses e (first_cause (lines_of text.now) base (symbol_values symbols.now))) }
+    ensures accepted { IfOk result (λ o. first_cause (lines_of text.now) base
+        (symbol_values symbols.now) ≡ None) }
+    ensures assembled { IfOk result (λ o. Assembles (lines_of text.now) base
+        (symbol_values symbols.now) o.bytes.items (get_by_text o.labels)) }
+    ensures refused { IfErr result (λ e. Refuses e
+        (first_cause (lines_of text.now) base (symbol_values symbols.now))) }
 {
     assemble_with(alloc, text, base, &Symbols::none(alloc), symbols)
 }

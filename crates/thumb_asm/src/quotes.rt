@@ -33,8 +33,11 @@ impl<'a> Quoted<'a> {
     /// at the end.
     #[tactic(auto, unfolding(crate::specs::Kinds::good_text), using(crate::proofs::Texts::next_steps))]
     fn next(&mut self) -> Option<u8>
-        ensures byte { MatchOption result (good_text false self.old.rest.now ≡ []) (λ c. good_text false self.old.rest.now ≡ c ∷ good_text false self.new.rest.now) }
-        ensures closed { MatchOption result (ends_well false self.old.rest.now ≡ bytes_eq self.new.rest.now (34 ∷ [])) (λ c. ends_well false self.old.rest.now ≡ ends_well false self.new.rest.now) }
+        ensures byte { MatchOption result (good_text false self.old.rest.now ≡ [])
+            (λ c. good_text false self.old.rest.now ≡ c ∷ good_text false self.new.rest.now) }
+        ensures closed { MatchOption result
+            (ends_well false self.old.rest.now ≡ bytes_eq self.new.rest.now (34 ∷ []))
+            (λ c. ends_well false self.old.rest.now ≡ ends_well false self.new.rest.now) }
         ensures shorter { IfSome result (λ c. length self.new.rest.now < length self.old.rest.now) }
     {
         match head(self.rest) {
@@ -62,8 +65,10 @@ impl<'a> Quoted<'a> {
 /// The byte behind a backslash, and what follows it.
 #[tactic(auto, unfolding(crate::specs::Kinds::good_text), using(crate::proofs::Texts::escape_steps))]
 fn escaped(rest: &[u8]) -> Option<(u8, &[u8])>
-    ensures byte { MatchOption result (good_text true rest.now ≡ []) (λ p. good_text true rest.now ≡ p.0 ∷ good_text false p.1.now) }
-    ensures closed { MatchOption result (ends_well true rest.now ≡ false) (λ p. ends_well true rest.now ≡ ends_well false p.1.now) }
+    ensures byte { MatchOption result (good_text true rest.now ≡ [])
+        (λ p. good_text true rest.now ≡ p.0 ∷ good_text false p.1.now) }
+    ensures closed { MatchOption result (ends_well true rest.now ≡ false)
+        (λ p. ends_well true rest.now ≡ ends_well false p.1.now) }
     ensures shorter { IfSome result (λ p. length p.1.now < length rest.now) }
 {
     match head(rest) {

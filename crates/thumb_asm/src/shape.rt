@@ -140,7 +140,8 @@ fn padding(at: u32, power: u32) -> u32
 
 /// How many bytes values take, unless they are too many.
 fn data_size(size: Size, pieces: &[u8]) -> Option<u32>
-    ensures { MatchOption result (1048576 < scale size * length (operand_pieces pieces.now)) (λ n. n ≡ scale size * length (operand_pieces pieces.now)) }
+    ensures { MatchOption result (1048576 < scale size * length (operand_pieces pieces.now))
+        (λ n. n ≡ scale size * length (operand_pieces pieces.now)) }
 {
     let count = count(pieces);
     if count > 1_048_576 {
@@ -152,7 +153,8 @@ fn data_size(size: Size, pieces: &[u8]) -> Option<u32>
 
 /// How many bytes a text says, unless they are too many.
 fn text_size(text: &[u8]) -> Option<u32>
-    ensures { MatchOption result (1048576 < length (good_text false text.now)) (λ n. n ≡ length (good_text false text.now)) }
+    ensures { MatchOption result (1048576 < length (good_text false text.now))
+        (λ n. n ≡ length (good_text false text.now)) }
 {
     let count = quotes::count(text);
     if count > 1_048_576 {
@@ -166,7 +168,8 @@ fn text_size(text: &[u8]) -> Option<u32>
 #[tactic(auto, unfolding(crate::specs::Sizes::shape_size, crate::specs::Sizes::has_bad_count))]
 pub(crate) fn size(at: u32, shape: &Shape<'_>) -> Option<u32>
     requires { has_bad_count (shape_of shape.now) ≡ false }
-    ensures { MatchOption result (1048576 < shape_size at (shape_of shape.now)) (λ n. n ≡ shape_size at (shape_of shape.now)) }
+    ensures { MatchOption result (1048576 < shape_size at (shape_of shape.now))
+        (λ n. n ≡ shape_size at (shape_of shape.now)) }
 {
     match *shape {
         Shape::Fixed(insn) => Some(insn_size(&insn)),
@@ -183,12 +186,15 @@ pub(crate) fn size(at: u32, shape: &Shape<'_>) -> Option<u32>
     }
 }
 
-/// How many bytes a line with this statement, or with none, takes behind those used, where it ends within 1048576 bytes.
+/// How many bytes a line with this statement, or with none, takes behind those used, where it ends
+/// within 1048576 bytes.
 pub(crate) fn room_for(found: &Option<Shape<'_>>, base: u32, used: u32) -> Option<u32>
     requires counted { IfSome found.now (λ s. has_bad_count (shape_of s) ≡ false) }
     requires base { base + 1048576 < 2 ^ 32 }
     requires used { used ≤ 1048576 }
-    ensures value { MatchOption result (1048576 < used + size_by (base + used) (Ok (option_map shape_of found.now))) (λ n. n ≡ size_by (base + used) (Ok (option_map shape_of found.now))) }
+    ensures value { MatchOption result
+        (1048576 < used + size_by (base + used) (Ok (option_map shape_of found.now)))
+        (λ n. n ≡ size_by (base + used) (Ok (option_map shape_of found.now))) }
     ensures within { IfSome result (λ n. used + n ≤ 1048576) }
 {
     let size = match found {
@@ -205,7 +211,8 @@ pub(crate) fn room_for(found: &Option<Shape<'_>>, base: u32, used: u32) -> Optio
 /// The value's instruction, or why there is none.
 #[tactic(auto, unfolding(crate::specs::Meaning::insn_at))]
 fn filled(at: u32, piece: &[u8], insn: Insn, names: &KnownNames<'_>) -> Result<Insn, Cause>
-    ensures { Finds result (insn_at (env_in names.now.labels.now names.now.symbols.now) at (SpecFilled piece.now (fill insn))) }
+    ensures { Finds result (insn_at (env_in names.now.labels.now names.now.symbols.now) at
+        (SpecFilled piece.now (fill insn))) }
 {
     match value(piece, names) {
         None => Err(Cause::UnknownSymbol),
@@ -223,7 +230,8 @@ fn within(
     insn: Insn,
     names: &KnownNames<'_>,
 ) -> Result<Insn, Cause>
-    ensures { Finds result (insn_at (env_in names.now.labels.now names.now.symbols.now) at (SpecWithin low top piece.now (fill insn))) }
+    ensures { Finds result (insn_at (env_in names.now.labels.now names.now.symbols.now) at
+        (SpecWithin low top piece.now (fill insn))) }
 {
     match value(piece, names) {
         None => Err(Cause::UnknownSymbol),
@@ -244,7 +252,8 @@ fn distance(at: u32, target: i64) -> i64
 /// The instruction with the distance of a target, or why there is none.
 #[tactic(auto, unfolding(crate::specs::Meaning::insn_at))]
 fn aimed(at: u32, piece: &[u8], insn: Insn, names: &KnownNames<'_>) -> Result<Insn, Cause>
-    ensures { Finds result (insn_at (env_in names.now.labels.now names.now.symbols.now) at (SpecAimed piece.now (aim insn))) }
+    ensures { Finds result (insn_at (env_in names.now.labels.now names.now.symbols.now) at
+        (SpecAimed piece.now (aim insn))) }
 {
     match value(piece, names) {
         None => Err(Cause::UnknownSymbol),
@@ -263,7 +272,8 @@ fn aligned_distance(at: u32, target: i64) -> i64
 /// The same from the address aligned down.
 #[tactic(auto, unfolding(crate::specs::Meaning::insn_at))]
 fn near(at: u32, piece: &[u8], insn: Insn, names: &KnownNames<'_>) -> Result<Insn, Cause>
-    ensures { Finds result (insn_at (env_in names.now.labels.now names.now.symbols.now) at (SpecNear piece.now (fill insn))) }
+    ensures { Finds result (insn_at (env_in names.now.labels.now names.now.symbols.now) at
+        (SpecNear piece.now (fill insn))) }
 {
     match value(piece, names) {
         None => Err(Cause::UnknownSymbol),
@@ -302,7 +312,8 @@ fn block_insn(n: Reg, loads: bool, list: u8) -> Insn
 #[tactic(auto, unfolding(crate::specs::Meaning::insn_at))]
 fn insn_at(at: u32, shape: &Shape<'_>, names: &KnownNames<'_>) -> Result<Insn, Cause>
     requires { HoldsInsn shape.now }
-    ensures { Finds result (insn_at (env_in names.now.labels.now names.now.symbols.now) at (shape_of shape.now)) }
+    ensures { Finds result (insn_at (env_in names.now.labels.now names.now.symbols.now) at
+        (shape_of shape.now)) }
 {
     match *shape {
         Shape::Fixed(insn) => Ok(insn),
@@ -325,8 +336,10 @@ fn emit_code(
     out: &mut Vec<u8>,
 ) -> Result<(), Stop>
     requires { HoldsInsn shape.now }
-    ensures ok { OnOk result (Gave (env_in names.now.labels.now names.now.symbols.now) at (shape_of shape.now) out.old.items out.new.items) }
-    ensures err { IfErr result (λ e. Stops e (shape_cause (env_in names.now.labels.now names.now.symbols.now) at (shape_of shape.now))) }
+    ensures ok { OnOk result (Gave (env_in names.now.labels.now names.now.symbols.now) at
+        (shape_of shape.now) out.old.items out.new.items) }
+    ensures err { IfErr result (λ e. Stops e
+        (shape_cause (env_in names.now.labels.now names.now.symbols.now) at (shape_of shape.now))) }
 {
     emit_found(at, insn_at(at, shape, names), out)
 }
@@ -340,8 +353,10 @@ pub(crate) fn emit(
     out: &mut Vec<u8>,
 ) -> Result<(), Stop>
     requires { has_bad_count (shape_of shape.now) ≡ false }
-    ensures ok { OnOk result (Gave (env_in names.now.labels.now names.now.symbols.now) at (shape_of shape.now) out.old.items out.new.items) }
-    ensures err { IfErr result (λ e. Stops e (shape_cause (env_in names.now.labels.now names.now.symbols.now) at (shape_of shape.now))) }
+    ensures ok { OnOk result (Gave (env_in names.now.labels.now names.now.symbols.now) at
+        (shape_of shape.now) out.old.items out.new.items) }
+    ensures err { IfErr result (λ e. Stops e
+        (shape_cause (env_in names.now.labels.now names.now.symbols.now) at (shape_of shape.now))) }
 {
     match *shape {
         Shape::Data(size, pieces) => data::emit(at, size, pieces, names, out),

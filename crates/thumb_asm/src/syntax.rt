@@ -36,7 +36,9 @@ pub(crate) fn shaped(m: Mnemonic, rest: &[u8]) -> Option<Shape<'_>>
 #[tactic(auto, unfolding(crate::specs::Operands::operands))]
 fn behind_one<'a>(m: Mnemonic, a: Operand<'a>, mut pieces: Pieces<'a>) -> Option<Shape<'a>>
     requires { IsPlain m }
-    ensures { option_map shape_of result ≡ shaped_by m (followed_by (operand_of a.entry ∷ []) (operands (pieces_left (pieces_text pieces.entry)))) }
+    ensures { option_map shape_of result ≡ shaped_by m
+        (followed_by (operand_of a.entry ∷ [])
+        (operands (pieces_left (pieces_text pieces.entry)))) }
 {
     match pieces.next() {
         None => one(m, a),
@@ -53,7 +55,9 @@ fn behind_two<'a>(
     mut pieces: Pieces<'a>,
 ) -> Option<Shape<'a>>
     requires { IsPlain m }
-    ensures { option_map shape_of result ≡ shaped_by m (followed_by (operand_of a.entry ∷ operand_of b.entry ∷ []) (operands (pieces_left (pieces_text pieces.entry)))) }
+    ensures { option_map shape_of result ≡ shaped_by m
+        (followed_by (operand_of a.entry ∷ operand_of b.entry ∷ [])
+        (operands (pieces_left (pieces_text pieces.entry)))) }
 {
     match pieces.next() {
         None => two(m, a, b),
@@ -71,7 +75,9 @@ fn behind_three<'a>(
     mut pieces: Pieces<'a>,
 ) -> Option<Shape<'a>>
     requires { IsPlain m }
-    ensures { option_map shape_of result ≡ shaped_by m (followed_by (operand_of a.entry ∷ operand_of b.entry ∷ operand_of c.entry ∷ []) (operands (pieces_left (pieces_text pieces.entry)))) }
+    ensures { option_map shape_of result ≡ shaped_by m
+        (followed_by (operand_of a.entry ∷ operand_of b.entry ∷ operand_of c.entry ∷ [])
+        (operands (pieces_left (pieces_text pieces.entry)))) }
 {
     match pieces.next() {
         None => three(m, a, b, c),
@@ -82,7 +88,8 @@ fn behind_three<'a>(
 /// Values, each an expression, at least one.
 #[tactic(auto, using(crate::proofs::Expressions::values_some, crate::proofs::Expressions::values_none))]
 pub(crate) fn values(size: Size, rest: &[u8]) -> Option<Shape<'_>>
-    ensures { option_map shape_of result ≡ shaped_by (Values size) (operands (operand_pieces rest.now)) }
+    ensures { option_map shape_of result ≡ shaped_by (Values size)
+        (operands (operand_pieces rest.now)) }
 {
     if are_expressions(rest) {
         Some(Shape::Data(size, rest))

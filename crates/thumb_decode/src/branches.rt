@@ -19,7 +19,8 @@ fn target(h: u16, width: u8) -> i32
     (i32::from(bits(h, 0, width)) << (32 - width)) >> (31 - width)
 }
 
-/// The same of the eleven bits of B. The other five are those of its row: one XOR clears them and turns the sign round.
+/// The same of the eleven bits of B. The other five are those of its row: one XOR clears them and
+/// turns the sign round.
 #[inline(always)]
 fn jump_target(h: u16) -> i32
     requires { h / 2048 ≡ 28 }
@@ -31,7 +32,8 @@ fn jump_target(h: u16) -> i32
 /// B with a condition.
 #[inline(always)]
 fn conditional_branch<T: Taker>(h: u16, cond: Cond, to: &mut T) -> bool
-    requires { narrow_result (narrow_of h) ≡ results.Narrow (insns.BranchIf cond (double (signed_field 8 (field h 0 8)))) }
+    requires { narrow_result (narrow_of h) ≡ results.Narrow
+        (insns.BranchIf cond (double (signed_field 8 (field h 0 8)))) }
     ensures { T.did to.old (narrow_result (narrow_of h)) result to.new }
 {
     to.take(

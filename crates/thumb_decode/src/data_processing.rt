@@ -7,7 +7,8 @@ use crate::Taker;
 use crate::fields::low_reg;
 use thumb_insn::{Insn, Op};
 
-/// AND, EOR, LSL, LSR, ASR, ADC, SBC, ROR, TST, RSB, CMP, CMN, ORR, MUL, BIC or MVN of two low registers.
+/// AND, EOR, LSL, LSR, ASR, ADC, SBC, ROR, TST, RSB, CMP, CMN, ORR, MUL, BIC or MVN of two low
+/// registers.
 #[tactic(auto, using(thumb_insn::proofs::Rows::data_rows))]
 #[inline(always)]
 pub(crate) fn data_operation<T: Taker>(h: u16, to: &mut T) -> bool

@@ -75,7 +75,8 @@ pub fn finish_nz(cpu: &mut Cpu, d: Reg, value: u32)
 #[inline(always)]
 pub fn finish_nzc(cpu: &mut Cpu, d: Reg, shifted: (u32, bool))
     requires { d.number < 16 }
-    ensures { sum_to cpu.old d (shifted.0, nzc cpu.old.flags shifted.0 shifted.1) ≡ Next cpu.new [] }
+    ensures { sum_to cpu.old d (shifted.0, nzc cpu.old.flags shifted.0 shifted.1) ≡ Next cpu.new
+        [] }
 {
     cpu.flags.set_c(shifted.1);
     finish_nz(cpu, d, shifted.0);

@@ -9,9 +9,9 @@ use region_check::Right;
 /// Memory behind a check of rights, byte by byte. Addresses have 32 bits; a value of n bytes has
 /// the lowest byte first. A refusal is the address of the first byte that lacks the right.
 ///
-/// An implementation says what it is by four meanings: which bytes are refused, what bytes hold, how
-/// it is after a store, and how once it was loaded from. The last two are relations, so that they may
-/// reach more than memory.
+/// An implementation says what it is by four meanings: which bytes are refused, what bytes hold,
+/// how it is after a store, and how once it was loaded from. The last two are relations, so that
+/// they may reach more than memory.
 pub trait Bus {
     /// The first of so many bytes, from an address on, that lacks the right.
     ghost refuses: { Self → ℕ → ℕ → Rights → Option ℕ };
@@ -34,25 +34,29 @@ pub trait Bus {
     /// The halfword at an even address, both bytes of which need the right to execute.
     fn fetch(&self, addr: u32) -> Result<u16, u32>
         requires { addr % 2 ≡ 0 }
-        ensures { MatchResult result (λ code. (refuses self.now addr 2 Execute ≡ None) × (code ≡ holds self.now addr 2)) (λ at. refuses self.now addr 2 Execute ≡ Some at) };
+        ensures { MatchResult result (λ code. (refuses self.now addr 2 Execute ≡ None)
+            × (code ≡ holds self.now addr 2)) (λ at. refuses self.now addr 2 Execute ≡ Some at) };
 
     /// What n bytes hold, each of which needs the right to read.
     fn load(&self, addr: u32, n: u32) -> Result<u32, u32>
         requires size { IsSize n }
         requires aligned { addr % n ≡ 0 }
-        ensures { MatchResult result (λ value. (refuses self.now addr n Read ≡ None) × (value ≡ holds self.now addr n)) (λ at. refuses self.now addr n Read ≡ Some at) };
+        ensures { MatchResult result (λ value. (refuses self.now addr n Read ≡ None)
+            × (value ≡ holds self.now addr n)) (λ at. refuses self.now addr n Read ≡ Some at) };
 
     /// Stores the low n bytes of a value, each of which needs the right to write; or changes
     /// nothing. No store changes a right.
     fn store(&mut self, addr: u32, n: u32, value: u32) -> Result<(), u32>
         requires size { IsSize n }
         requires aligned { addr % n ≡ 0 }
-        ensures done { IfOk result (λ done. (refuses self.old addr n Write ≡ None) × stored self.old addr n value self.new) }
-        ensures refused { IfErr result (λ at. (refuses self.old addr n Write ≡ Some at) × (self.new ≡ self.old)) }
+        ensures done { IfOk result (λ done. (refuses self.old addr n Write ≡ None)
+            × stored self.old addr n value self.new) }
+        ensures refused { IfErr result (λ at. (refuses self.old addr n Write ≡ Some at)
+            × (self.new ≡ self.old)) }
         ensures rights { (a m : ℕ) (r : Rights) → refuses self.new a m r ≡ refuses self.old a m r };
 
-    /// An instruction that goes on has loaded from an address: a device there gives up what it gave. That
-    /// changes no right.
+    /// An instruction that goes on has loaded from an address: a device there gives up what it
+    /// gave. That changes no right.
     fn taken(&mut self, addr: u32)
         ensures done { took self.old addr self.new }
         ensures rights { (a m : ℕ) (r : Rights) → refuses self.new a m r ≡ refuses self.old a m r };
@@ -61,10 +65,11 @@ pub trait Bus {
     fn takes(&self) -> bool
         ensures { result ≡ false → (addr : ℕ) → took self.now addr self.now };
 
-    /// Whether one test tells that each of so many words from an address on gives the right; false says
-    /// nothing.
+    /// Whether one test tells that each of so many words from an address on gives the right; false
+    /// says nothing.
     fn gives(&self, addr: u32, count: u32, right: Right) -> bool
         requires aligned { addr % 4 ≡ 0 }
         requires few { count ≤ 16 }
-        ensures { result ≡ true → (k : ℕ) → k < count → refuses self.now ((addr + 4 * k) % 2 ^ 32) 4 right ≡ None };
+        ensures { result ≡ true → (k : ℕ) → k < count →
+            refuses self.now ((addr + 4 * k) % 2 ^ 32) 4 right ≡ None };
 }

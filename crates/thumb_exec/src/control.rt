@@ -37,7 +37,8 @@ pub fn put_any(cpu: &mut Cpu, d: Reg, value: u32)
     }
 }
 
-/// Whether the condition holds (section A6.3). The flags come by reference for speed: those that it does not ask for are not read.
+/// Whether the condition holds (section A6.3). The flags come by reference for speed: those that it
+/// does not ask for are not read.
 pub fn holds(cond: Cond, f: &LazyFlags) -> bool
     ensures { result ≡ holds_if cond f.now }
 {

@@ -11,21 +11,26 @@ ghost use Rattle.thumb_insn.specs.declared.Insn.{Insn as Instruction};
 /// be written and loads only bytes that may be read, sixteen times at most, and raises none but its
 /// own faults.
 pub fn every_effect_keeps()
-    ensures { (refuses : Refusals) (holds : Contents) (c : Processor) (i : Instruction) → IsCoded i → IsWholeCpu c → Keeps refuses (effect refuses holds c i) }
+    ensures { (refuses : Refusals) (holds : Contents) (c : Processor) (i : Instruction) →
+        IsCoded i → IsWholeCpu c → Keeps refuses (effect refuses holds c i) }
 {}
 
 /// What an instruction stores it may store, and what it loads it may load.
 pub fn every_move_is_permitted()
-    ensures { (refuses : Refusals) (holds : Contents) (c : Processor) (i : Instruction) → AllPermitted refuses (effect refuses holds c i) }
+    ensures { (refuses : Refusals) (holds : Contents) (c : Processor) (i : Instruction) →
+        AllPermitted refuses (effect refuses holds c i) }
 {}
 
 /// What an instruction does depends on memory only where it may be read.
 pub fn every_effect_reads_what_it_may()
-    ensures { (refuses : Refusals) (holds held : Contents) → Agree refuses holds held → (c : Processor) (i : Instruction) → effect refuses holds c i ≡ effect refuses held c i }
+    ensures { (refuses : Refusals) (holds held : Contents) → Agree refuses holds held →
+        (c : Processor) (i : Instruction) → effect refuses holds c i ≡ effect refuses held c i }
 {}
 
-/// An instruction that goes on does the same with more rights, over memory that holds the same where
-/// it may be read.
+/// An instruction that goes on does the same with more rights, over memory that holds the same
+/// where it may be read.
 pub fn what_goes_on_goes_on_with_more_rights()
-    ensures { (refuses wider : Refusals) (holds held : Contents) → Widens refuses wider holds held → (c : Processor) (i : Instruction) → GoesOnAs (effect refuses holds c i) (effect wider held c i) }
+    ensures { (refuses wider : Refusals) (holds held : Contents) → Widens refuses wider holds held →
+        (c : Processor) (i : Instruction) →
+        GoesOnAs (effect refuses holds c i) (effect wider held c i) }
 {}

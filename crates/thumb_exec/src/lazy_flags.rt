@@ -5,8 +5,8 @@ ghost use Rattle.words_core.specs.Words.{negative, is_zero};
 use std::marker::Model;
 use words_core::Flags;
 
-/// The four condition flags, of which N and Z are kept as results that they follow, for speed: most are never asked for, and
-/// to keep a result is less work than to test it.
+/// The four condition flags, of which N and Z are kept as results that they follow, for speed: most
+/// are never asked for, and to keep a result is less work than to test it.
 #[derive(Drop)]
 pub struct LazyFlags {
     // N is the sign of this one
@@ -98,7 +98,8 @@ impl LazyFlags {
         self.v
     }
 
-    /// N and Z follow a result (`APSR.N`, `APSR.Z`; A6.7). C and V stay: they are neither read nor written.
+    /// N and Z follow a result (`APSR.N`, `APSR.Z`; A6.7). C and V stay: they are neither read nor
+    /// written.
     #[inline(always)]
     pub fn follow(&mut self, value: u32)
         ensures { self.new ≡ record self.old { n = negative value; z = is_zero value } }

@@ -58,7 +58,8 @@ fn low_part(word: u32, size: Size) -> u32
 #[inline(always)]
 pub fn load<B: Bus>(cpu: &mut Cpu, bus: &mut B, kind: Load, t: Reg, addr: u32) -> Outcome
     requires { t.number < 16 }
-    ensures { Acts B.stored B.took cpu.old cpu.new bus.old bus.new result (load_effect (B.refuses bus.old) (B.holds bus.old) cpu.old kind t addr) }
+    ensures { Acts B.stored B.took cpu.old cpu.new bus.old bus.new result
+        (load_effect (B.refuses bus.old) (B.holds bus.old) cpu.old kind t addr) }
 {
     let n = loaded_bytes(kind);
     if addr % n != 0 {
@@ -79,7 +80,8 @@ pub fn load<B: Bus>(cpu: &mut Cpu, bus: &mut B, kind: Load, t: Reg, addr: u32) -
 #[inline(always)]
 pub fn store<B: Bus>(cpu: &mut Cpu, bus: &mut B, size: Size, t: Reg, addr: u32) -> Outcome
     requires { t.number < 16 }
-    ensures { Acts B.stored B.took cpu.old cpu.new bus.old bus.new result (store_effect (B.refuses bus.old) cpu.old size t addr) }
+    ensures { Acts B.stored B.took cpu.old cpu.new bus.old bus.new result
+        (store_effect (B.refuses bus.old) cpu.old size t addr) }
 {
     let n = bytes_of(size);
     if addr % n != 0 {

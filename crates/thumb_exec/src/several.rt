@@ -28,7 +28,8 @@ pub fn count_of(mask: u16) -> u32
 #[inline(always)]
 fn split_lowest(mask: u16) -> (usize, u16)
     requires { 0 < mask }
-    ensures first { (addr : ℕ) → transfers mask addr ≡ (result.0, addr) ∷ transfers result.1 ((addr + 4) % 2 ^ 32) }
+    ensures first { (addr : ℕ) → transfers mask addr ≡ (result.0, addr) ∷ transfers result.1
+        ((addr + 4) % 2 ^ 32) }
     ensures register { result.0 < 16 }
     ensures rest { result.1 < mask }
 {
@@ -130,13 +131,15 @@ fn store_words<B: Bus>(regs: &Regs, bus: &mut B, mask: u16, addr: u32)
     }
 }
 
-/// Stores the registers of a mask to ascending words; or tells the first byte that lacks the right, and stores nothing.
+/// Stores the registers of a mask to ascending words; or tells the first byte that lacks the right,
+/// and stores nothing.
 #[inline(always)]
 fn store_if_allowed<B: Bus>(regs: &Regs, bus: &mut B, mask: u16, addr: u32) -> Option<u32>
     requires { addr % 4 ≡ 0 }
     ensures tells { result ≡ first_refused (B.refuses bus.old) rights.Write (transfers mask addr) }
     ensures nothing { IfSome result (λ at. bus.new ≡ bus.old) }
-    ensures all { IfNone result (Moves B.stored B.took bus.old (stores_of regs.now (transfers mask addr)) bus.new) }
+    ensures all { IfNone result (Moves B.stored B.took bus.old
+        (stores_of regs.now (transfers mask addr)) bus.new) }
 {
     let refusal = refused(bus, mask, addr, Right::Write);
     if refusal.is_none() {
@@ -168,7 +171,8 @@ pub fn store_all<B: Bus>(
     value: u32,
 ) -> Outcome
     requires { d.number < 16 }
-    ensures { Acts B.stored B.took cpu.old cpu.new bus.old bus.new result (store_all (B.refuses bus.old) cpu.old mask addr (go_past 2 (put cpu.old d.number value))) }
+    ensures { Acts B.stored B.took cpu.old cpu.new bus.old bus.new result
+        (store_all (B.refuses bus.old) cpu.old mask addr (go_past 2 (put cpu.old d.number value))) }
 {
     if addr % 4 != 0 {
         return Outcome::Trap(Fault::unaligned(addr, true));
@@ -194,7 +198,8 @@ fn has(mask: u16, r: Reg) -> bool
 #[inline(never)]
 pub fn ldm<B: Bus>(cpu: &mut Cpu, bus: &mut B, n: Reg, list: u8) -> Outcome
     requires { n.number < 8 }
-    ensures { Acts B.stored B.took cpu.old cpu.new bus.old bus.new result (effect (B.refuses bus.old) (B.holds bus.old) cpu.old (insns.Ldm n list)) }
+    ensures { Acts B.stored B.took cpu.old cpu.new bus.old bus.new result
+        (effect (B.refuses bus.old) (B.holds bus.old) cpu.old (insns.Ldm n list)) }
 {
     let mask = u16::from(list);
     let addr = get(cpu, n);
@@ -217,7 +222,8 @@ pub fn ldm<B: Bus>(cpu: &mut Cpu, bus: &mut B, n: Reg, list: u8) -> Outcome
 #[tactic(auto, unfolding(crate::specs::Effect::effect))]
 #[inline(never)]
 pub fn pop<B: Bus>(cpu: &mut Cpu, bus: &mut B, list: u8, has_pc: bool) -> Outcome
-    ensures { Acts B.stored B.took cpu.old cpu.new bus.old bus.new result (effect (B.refuses bus.old) (B.holds bus.old) cpu.old (insns.Pop list has_pc)) }
+    ensures { Acts B.stored B.took cpu.old cpu.new bus.old bus.new result
+        (effect (B.refuses bus.old) (B.holds bus.old) cpu.old (insns.Pop list has_pc)) }
 {
     let mask = mask_of(list, has_pc, 0x8000);
     let addr = cpu.regs.get(STACK_POINTER);

@@ -41,7 +41,8 @@ fn shift(by: Shift, x: u32, n: u8, c: bool) -> (u32, bool)
 fn adding(cpu: &Cpu, insn: Insn) -> (Reg, (u32, Flags))
     requires family { IsSum insn }
     requires range { InRange insn }
-    ensures effect { (refuses : Refusals) (holds : Contents) → effect refuses holds cpu.now insn ≡ sum_to cpu.now result.0 result.1 }
+    ensures effect { (refuses : Refusals) (holds : Contents) →
+        effect refuses holds cpu.now insn ≡ sum_to cpu.now result.0 result.1 }
     ensures register { result.0.number < 16 }
     ensures follows { FollowsSum result.1 }
 {
@@ -61,7 +62,8 @@ fn adding(cpu: &Cpu, insn: Insn) -> (Reg, (u32, Flags))
 fn sum(cpu: &mut Cpu, insn: Insn)
     requires family { IsSum insn }
     requires range { InRange insn }
-    ensures { (refuses : Refusals) (holds : Contents) → effect refuses holds cpu.old insn ≡ Next cpu.new [] }
+    ensures { (refuses : Refusals) (holds : Contents) →
+        effect refuses holds cpu.old insn ≡ Next cpu.new [] }
 {
     let (d, sum) = adding(cpu, insn);
     finish_sum(cpu, d, sum);
@@ -73,7 +75,8 @@ fn sum(cpu: &mut Cpu, insn: Insn)
 fn compute(cpu: &mut Cpu, insn: Insn)
     requires family { IsData insn }
     requires range { InRange insn }
-    ensures { (refuses : Refusals) (holds : Contents) → effect refuses holds cpu.old insn ≡ Next cpu.new [] }
+    ensures { (refuses : Refusals) (holds : Contents) →
+        effect refuses holds cpu.old insn ≡ Next cpu.new [] }
 {
     match insn {
         Insn::ShiftImm {
@@ -112,7 +115,8 @@ fn compute(cpu: &mut Cpu, insn: Insn)
 fn place(cpu: &mut Cpu, insn: Insn)
     requires family { IsAddress insn }
     requires range { InRange insn }
-    ensures { (refuses : Refusals) (holds : Contents) → effect refuses holds cpu.old insn ≡ Next cpu.new [] }
+    ensures { (refuses : Refusals) (holds : Contents) →
+        effect refuses holds cpu.old insn ≡ Next cpu.new [] }
 {
     match insn {
         Insn::AddHigh { d, m } => {
@@ -149,7 +153,8 @@ fn place(cpu: &mut Cpu, insn: Insn)
 fn branch(cpu: &mut Cpu, insn: Insn)
     requires family { IsBranch insn }
     requires range { InRange insn }
-    ensures { (refuses : Refusals) (holds : Contents) → effect refuses holds cpu.old insn ≡ Next cpu.new [] }
+    ensures { (refuses : Refusals) (holds : Contents) →
+        effect refuses holds cpu.old insn ≡ Next cpu.new [] }
 {
     match insn {
         Insn::BranchIf { cond, offset } => {
@@ -179,7 +184,8 @@ fn branch(cpu: &mut Cpu, insn: Insn)
 fn jump(cpu: &mut Cpu, insn: Insn) -> Outcome
     requires family { IsJump insn }
     requires range { InRange insn }
-    ensures { (refuses : Refusals) (holds : Contents) → Effects cpu.old cpu.new result (effect refuses holds cpu.old insn) }
+    ensures { (refuses : Refusals) (holds : Contents) →
+        Effects cpu.old cpu.new result (effect refuses holds cpu.old insn) }
 {
     match insn {
         Insn::Bx { m } => {
@@ -200,7 +206,8 @@ fn jump(cpu: &mut Cpu, insn: Insn) -> Outcome
 fn system(cpu: &mut Cpu, insn: Insn)
     requires family { IsSystem insn }
     requires range { InRange insn }
-    ensures { (refuses : Refusals) (holds : Contents) → effect refuses holds cpu.old insn ≡ Next cpu.new [] }
+    ensures { (refuses : Refusals) (holds : Contents) →
+        effect refuses holds cpu.old insn ≡ Next cpu.new [] }
 {
     match insn {
         Insn::Cpsie | Insn::Cpsid | Insn::Hint { .. } => go_past(cpu, 2),
@@ -228,7 +235,9 @@ fn address(cpu: &Cpu, n: Reg, offset: u32) -> u32
 fn loading(cpu: &Cpu, insn: Insn) -> (Load, Reg, u32)
     requires family { IsLoad insn }
     requires range { InRange insn }
-    ensures effect { (refuses : Refusals) (holds : Contents) → effect refuses holds cpu.now insn ≡ load_effect refuses holds cpu.now result.0 result.1 result.2 }
+    ensures effect { (refuses : Refusals) (holds : Contents) →
+        effect refuses holds cpu.now insn ≡ load_effect refuses holds cpu.now result.0 result.1
+        result.2 }
     ensures register { result.1.number < 16 }
 {
     match insn {
@@ -258,7 +267,9 @@ fn loading(cpu: &Cpu, insn: Insn) -> (Load, Reg, u32)
 fn storing(cpu: &Cpu, insn: Insn) -> (Size, Reg, u32)
     requires family { IsStore insn }
     requires range { InRange insn }
-    ensures effect { (refuses : Refusals) (holds : Contents) → effect refuses holds cpu.now insn ≡ store_effect refuses cpu.now result.0 result.1 result.2 }
+    ensures effect { (refuses : Refusals) (holds : Contents) →
+        effect refuses holds cpu.now insn ≡ store_effect refuses cpu.now result.0 result.1
+        result.2 }
     ensures register { result.1.number < 16 }
 {
     match insn {
@@ -278,13 +289,16 @@ fn storing(cpu: &Cpu, insn: Insn) -> (Size, Reg, u32)
     }
 }
 
-/// Which registers a store of several words stores and where, and which register then has which word.
+/// Which registers a store of several words stores and where, and which register then has which
+/// word.
 #[tactic(auto, unfolding(crate::specs::Effect::effect))]
 #[inline(always)]
 fn storing_all(cpu: &Cpu, insn: Insn) -> (u16, u32, Reg, u32)
     requires family { IsStoreAll insn }
     requires range { InRange insn }
-    ensures effect { (refuses : Refusals) (holds : Contents) → effect refuses holds cpu.now insn ≡ store_all refuses cpu.now result.0 result.1 (go_past 2 (put cpu.now result.2.number result.3)) }
+    ensures effect { (refuses : Refusals) (holds : Contents) →
+        effect refuses holds cpu.now insn ≡ store_all refuses cpu.now result.0 result.1
+        (go_past 2 (put cpu.now result.2.number result.3)) }
     ensures register { result.2.number < 16 }
 {
     match insn {
@@ -308,7 +322,8 @@ fn storing_all(cpu: &Cpu, insn: Insn) -> (u16, u32, Reg, u32)
 fn rest(cpu: &mut Cpu, insn: Insn) -> Outcome
     requires range { InRange insn }
     requires rest { IsRest insn }
-    ensures { (refuses : Refusals) (holds : Contents) → Effects cpu.old cpu.new result (effect refuses holds cpu.old insn) }
+    ensures { (refuses : Refusals) (holds : Contents) →
+        Effects cpu.old cpu.new result (effect refuses holds cpu.old insn) }
 {
     match insn {
         Insn::Bx { .. } | Insn::Blx { .. } => jump(cpu, insn),
@@ -326,7 +341,8 @@ fn rest(cpu: &mut Cpu, insn: Insn) -> Outcome
 #[inline(always)]
 fn step<B: Bus>(cpu: &mut Cpu, insn: Insn, bus: &mut B) -> Outcome
     requires { InRange insn }
-    ensures { Acts B.stored B.took cpu.old cpu.new bus.old bus.new result (effect (B.refuses bus.old) (B.holds bus.old) cpu.old insn) }
+    ensures { Acts B.stored B.took cpu.old cpu.new bus.old bus.new result
+        (effect (B.refuses bus.old) (B.holds bus.old) cpu.old insn) }
 {
     match insn {
         Insn::AddsReg { .. }
@@ -387,25 +403,28 @@ fn step<B: Bus>(cpu: &mut Cpu, insn: Insn, bus: &mut B) -> Outcome
 /// table of instructions tells (docs/FORMATS.md; ARMv6-M Architecture Reference Manual, A6.7).
 ///
 /// A fault comes in this order: Unaligned, Access at the first byte in order of transfer that lacks
-/// its right, State, Breakpoint. A fault and a system call leave processor and bus as they are; the kernel
-/// moves PC past a system call.
+/// its right, State, Breakpoint. A fault and a system call leave processor and bus as they are; the
+/// kernel moves PC past a system call.
 #[tactic(auto, using(thumb_insn::proofs::InRange::coded_in_range))]
 #[inline(never)]
 pub fn exec<B: Bus>(cpu: &mut Cpu, insn: &Insn, bus: &mut B) -> Outcome
     requires { IsCoded insn.now }
-    ensures { Acts B.stored B.took cpu.old cpu.new bus.old bus.new result (effect (B.refuses bus.old) (B.holds bus.old) cpu.old insn.now) }
+    ensures { Acts B.stored B.took cpu.old cpu.new bus.old bus.new result
+        (effect (B.refuses bus.old) (B.holds bus.old) cpu.old insn.now) }
 {
     step(cpu, *insn, bus)
 }
 
-/// Executes an instruction at PC, one that some code means, as `exec` does, where it goes on. Where it is a system call
-/// or faults nothing changes, and the answer is false.
+/// Executes an instruction at PC, one that some code means, as `exec` does, where it goes on. Where
+/// it is a system call or faults nothing changes, and the answer is false.
 #[tactic(auto, using(thumb_insn::proofs::InRange::coded_in_range, crate::proofs::Acting::acts_halted))]
 #[inline(always)]
 pub fn proceed<B: Bus>(cpu: &mut Cpu, insn: &Insn, bus: &mut B) -> bool
     requires { IsCoded insn.now }
-    ensures done { result ≡ true → Acts B.stored B.took cpu.old cpu.new bus.old bus.new outcome.Next (effect (B.refuses bus.old) (B.holds bus.old) cpu.old insn.now) }
-    ensures halts { result ≡ false → Halts (effect (B.refuses bus.old) (B.holds bus.old) cpu.old insn.now) }
+    ensures done { result ≡ true → Acts B.stored B.took cpu.old cpu.new bus.old bus.new outcome.Next
+        (effect (B.refuses bus.old) (B.holds bus.old) cpu.old insn.now) }
+    ensures halts { result ≡ false → Halts
+        (effect (B.refuses bus.old) (B.holds bus.old) cpu.old insn.now) }
     ensures cpu { result ≡ false → cpu.new ≡ cpu.old }
     ensures bus { result ≡ false → bus.new ≡ bus.old }
 {

@@ -137,7 +137,8 @@ fn push_imm(out: &mut ArrayString<64>, i: u32)
 /// One more register of a list, behind a comma where it is not the first.
 fn push_listed(out: &mut ArrayString<64>, first: bool, k: u8)
     requires { array_string_len out.old + 6 ≤ 64 }
-    ensures bytes { out.new.bytes ≡ out.old.bytes ++ (if first then register_name k else codes ", " ++ register_name k) }
+    ensures bytes { out.new.bytes ≡ out.old.bytes
+        ++ (if first then register_name k else codes ", " ++ register_name k) }
     ensures len { array_string_len out.new ≤ array_string_len out.old + 6 }
 {
     if !first {
@@ -149,7 +150,8 @@ fn push_listed(out: &mut ArrayString<64>, first: bool, k: u8)
 /// The registers r0 to r7 of a list. The result says whether there was none.
 fn push_registers(out: &mut ArrayString<64>, list: u8) -> bool
     requires { array_string_len out.old + 48 ≤ 64 }
-    ensures bytes { out.new.bytes ≡ out.old.bytes ++ joined (map register_name (low_registers list)) }
+    ensures bytes { out.new.bytes ≡ out.old.bytes
+        ++ joined (map register_name (low_registers list)) }
     ensures len { array_string_len out.new ≤ array_string_len out.old + 48 }
     ensures none { result ≡ is_empty (low_registers list) }
 {
@@ -350,7 +352,8 @@ fn literal(at: u32, offset: u32) -> Operand
 
 /// A list, with register k behind it where it has that one too.
 fn list_with(name: Name, list: u8, has: bool, k: u8) -> Line
-    ensures { line_text result ≡ line (name_text name) (braces (low_registers list ++ and_also has k) ∷ []) }
+    ensures { line_text result ≡ line (name_text name)
+        (braces (low_registers list ++ and_also has k) ∷ []) }
 {
     if has {
         Line::ListAnd(name, list, k)
@@ -369,7 +372,9 @@ fn is_listed(list: u8, n: u8) -> bool
 
 /// A load of several registers, whose base is raised unless it is among them.
 fn loaded(n: Reg, list: u8) -> Line
-    ensures { line_text result ≡ line (codes "ldm") ((if is_listed list n.number then reg_text n else raised n) ∷ braces (low_registers list) ∷ []) }
+    ensures { line_text result ≡ line (codes "ldm")
+        ((if is_listed list n.number then reg_text n else raised n) ∷ braces (low_registers list) ∷
+        []) }
 {
     if is_listed(list, n.number) {
         Line::Several(Name::Ldm, n, list)

@@ -4,8 +4,10 @@ ghost use Rattle.thumb_exec.specs.declared.cpu.Cpu.{Cpu as Processor};
 ghost use Rattle.thumb_exec.specs.Keeps.{GoesOnAs};
 ghost use Rattle.thumb_exec.specs.Fetch.{WidensFetch, step_effect};
 
-/// A step that goes on does the same with more rights, over memory that holds the same where it may be
-/// read or executed.
+/// A step that goes on does the same with more rights, over memory that holds the same where it may
+/// be read or executed.
 pub fn what_goes_on_goes_on_with_more_rights()
-    ensures { (refuses wider : Refusals) (holds held : Contents) → WidensFetch refuses wider holds held → (c : Processor) → GoesOnAs (step_effect refuses holds c) (step_effect wider held c) }
+    ensures { (refuses wider : Refusals) (holds held : Contents) →
+        WidensFetch refuses wider holds held → (c : Processor) →
+        GoesOnAs (step_effect refuses holds c) (step_effect wider held c) }
 {}

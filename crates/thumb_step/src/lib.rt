@@ -77,12 +77,13 @@ pub fn fetch<B: Bus>(bus: &B, at: u32) -> Result<Fetched, Fault>
     }
 }
 
-/// Fetches, decodes and executes the instruction at PC. A fault and a system call leave processor and bus as
-/// they are.
+/// Fetches, decodes and executes the instruction at PC. A fault and a system call leave processor
+/// and bus as they are.
 #[inline(always)]
 pub fn step<B: Bus>(cpu: &mut Cpu, bus: &mut B) -> Outcome
     requires { reg_at cpu.old.regs program_counter % 2 ≡ 0 }
-    ensures { Acts B.stored B.took cpu.old cpu.new bus.old bus.new result (step_effect (B.refuses bus.old) (B.holds bus.old) cpu.old) }
+    ensures { Acts B.stored B.took cpu.old cpu.new bus.old bus.new result
+        (step_effect (B.refuses bus.old) (B.holds bus.old) cpu.old) }
 {
     let at = cpu.regs.get(PROGRAM_COUNTER);
     match fetch(bus, at) {

@@ -1,5 +1,5 @@
-//! Instructions on end of a processor whose flash, RAM and further areas lie in four vectors of bytes. An access is
-//! one test of its place, and no look-up.
+//! Instructions on end of a processor whose flash, RAM and further areas lie in four vectors of
+//! bytes. An access is one test of its place, and no look-up.
 ghost use Rattle.std.specs.Prelude.{◌≡◌, ◌+◌, ◌*◌, ◌/◌, ◌≤◌, ◌<◌, None, Some, true, false, MatchOption, MatchResult, IfOk, IfErr, length, take, drop, vec_len};
 ghost use Rattle.mem_banks.specs.Memory.{number_of, pasted};
 ghost use Rattle.region_check.specs.declared.Right.TheVariants.{Read, Write};
@@ -18,9 +18,10 @@ use thumb_exec::step::proceed;
 use thumb_insn::{Decoded, Insn};
 use words_core::PROGRAM_COUNTER;
 
-/// What a processor reaches: the flash, of which it may execute a stretch, and perhaps read all, the RAM, which it may read and
-/// write, and two areas, which it may read, and perhaps write, each from an address on. Only accesses beyond flash and
-/// RAM look at the areas, and only those beyond the first one at the second, so that the others have no test more.
+/// What a processor reaches: the flash, of which it may execute a stretch, and perhaps read all,
+/// the RAM, which it may read and write, and two areas, which it may read, and perhaps write, each
+/// from an address on. Only accesses beyond flash and RAM look at the areas, and only those beyond
+/// the first one at the second, so that the others have no test more.
 #[derive(Drop)]
 pub struct Window {
     pub flash: Vec<u8>,
@@ -61,8 +62,9 @@ fn has(base: u32, bytes: &[u8], addr: u32, n: u32) -> bool
     addr >= base && (addr - base) as usize + n as usize <= bytes.len()
 }
 
-/// The number that two bytes from a place on spell, the lowest first. The hint is not `always`: LLVM makes one load of it
-/// in the function itself, and no more once the decoder, which looks at the high byte alone, is around it.
+/// The number that two bytes from a place on spell, the lowest first. The hint is not `always`:
+/// LLVM makes one load of it in the function itself, and no more once the decoder, which looks at
+/// the high byte alone, is around it.
 #[inline]
 fn half(bytes: &[u8], at: usize) -> u16
     requires { at + 2 ≤ length bytes.now }
@@ -173,15 +175,17 @@ impl Window {
         }
     }
 
-    /// The halfword at an address, where the stretch has it, by how many places it has for one. It ends within the address space,
-    /// since the flash ends below the RAM: so one comparison tells.
+    /// The halfword at an address, where the stretch has it, by how many places it has for one. It
+    /// ends within the address space, since the flash ends below the RAM: so one comparison tells.
     #[inline(always)]
     pub fn code_half(&self, addr: u32, places: u32) -> Option<u16>
         requires apart { IsApart (view_of self.now) }
         requires places { places ≡ code_places (view_of self.now) }
-        ensures { MatchOption result (has_code (view_of self.now) addr 2 ≡ false) (λ half. IsFetched (view_of self.now) addr half) }
+        ensures { MatchOption result (has_code (view_of self.now) addr 2 ≡ false)
+            (λ half. IsFetched (view_of self.now) addr half) }
     {
-        // Read for the proof alone, which needs that it is below 2^32: the range of a field is known once it is read.
+        // Read for the proof alone, which needs that it is below 2^32: the range of a field is
+        // known once it is read.
         let _end = self.ram_base;
         if addr.wrapping_sub(self.code_base) < places {
             Some(half(&self.flash, (addr - self.flash_base) as usize))
@@ -190,7 +194,8 @@ impl Window {
         }
     }
 
-    /// Whether the instruction at a processor's PC is a system call in the stretch, by one look at its halfword.
+    /// Whether the instruction at a processor's PC is a system call in the stretch, by one look at
+    /// its halfword.
     #[inline(always)]
     pub fn is_at_syscall(&self, processor: &Cpu) -> bool
         requires apart { IsApart (view_of self.now) }
@@ -222,7 +227,9 @@ impl Window {
         requires size { IsSize n }
         requires beyond { has self.now.ram_base self.now.ram.items addr n ≡ false }
         requires beside { has self.now.flash_base self.now.flash.items addr n ≡ false }
-        ensures { MatchResult result (λ value. (refused_by (view_of self.now) addr n Read ≡ None) × (value ≡ held_by (view_of self.now) addr n)) (λ at. refused_by (view_of self.now) addr n Read ≡ Some at) }
+        ensures { MatchResult result (λ value. (refused_by (view_of self.now) addr n Read ≡ None)
+            × (value ≡ held_by (view_of self.now) addr n))
+            (λ at. refused_by (view_of self.now) addr n Read ≡ Some at) }
     {
         if self.has_area(addr, n) {
             Ok(number(&self.area, (addr - self.area_base) as usize, n))
@@ -233,13 +240,15 @@ impl Window {
         }
     }
 
-    /// A load of bytes that the RAM does not have: of the flash, or else of an area, which is a function of its own, so that a load of
-    /// the flash has no preparations for it.
+    /// A load of bytes that the RAM does not have: of the flash, or else of an area, which is a
+    /// function of its own, so that a load of the flash has no preparations for it.
     #[inline(never)]
     fn load_flash(&self, addr: u32, n: u32) -> Result<u32, u32>
         requires size { IsSize n }
         requires beyond { has self.now.ram_base self.now.ram.items addr n ≡ false }
-        ensures { MatchResult result (λ value. (refused_by (view_of self.now) addr n Read ≡ None) × (value ≡ held_by (view_of self.now) addr n)) (λ at. refused_by (view_of self.now) addr n Read ≡ Some at) }
+        ensures { MatchResult result (λ value. (refused_by (view_of self.now) addr n Read ≡ None)
+            × (value ≡ held_by (view_of self.now) addr n))
+            (λ at. refused_by (view_of self.now) addr n Read ≡ Some at) }
     {
         if self.has_flash(addr, n) {
             if !self.readable {
@@ -256,8 +265,10 @@ impl Window {
     fn store_area(&mut self, addr: u32, n: u32, value: u32) -> Result<(), u32>
         requires size { IsSize n }
         requires beyond { has self.old.ram_base self.old.ram.items addr n ≡ false }
-        ensures done { IfOk result (λ done. (refused_by (view_of self.old) addr n Write ≡ None) × IsStored self.old addr n value self.new) }
-        ensures refused { IfErr result (λ at. (refused_by (view_of self.old) addr n Write ≡ Some at) × (self.new ≡ self.old)) }
+        ensures done { IfOk result (λ done. (refused_by (view_of self.old) addr n Write ≡ None)
+            × IsStored self.old addr n value self.new) }
+        ensures refused { IfErr result (λ at. (refused_by (view_of self.old) addr n Write ≡ Some at)
+            × (self.new ≡ self.old)) }
         ensures fixed { Keeps (view_of self.old) (view_of self.new) }
     {
         if !self.writes_area(addr, n) {
@@ -366,14 +377,17 @@ impl Taker for Runner {
 }
 
 impl Runner {
-    /// One instruction, where it is fetched from the stretch, which has so many places for a halfword, and goes on within the
-    /// window; else nothing changes, and the answer is false.
+    /// One instruction, where it is fetched from the stretch, which has so many places for a
+    /// halfword, and goes on within the window; else nothing changes, and the answer is false.
     #[inline(always)]
     fn step(&mut self, places: u32) -> bool
         requires apart { IsApart (view_of self.old.window) }
         requires places { places ≡ code_places (view_of self.old.window) }
-        ensures goes { result ≡ true → GoesOn (view_of self.old.window) self.old.processor (view_of self.new.window) self.new.processor }
-        ensures halts { result ≡ false → Halts (step_effect (refused_by (view_of self.old.window)) (held_by (view_of self.old.window)) self.old.processor) }
+        ensures goes { result ≡ true → GoesOn (view_of self.old.window) self.old.processor
+            (view_of self.new.window) self.new.processor }
+        ensures halts { result ≡ false →
+            Halts (step_effect (refused_by (view_of self.old.window))
+            (held_by (view_of self.old.window)) self.old.processor) }
         ensures kept { result ≡ false → self.new ≡ self.old }
         ensures fixed { Keeps (view_of self.old.window) (view_of self.new.window) }
     {
@@ -399,8 +413,11 @@ impl Runner {
         requires here { at ≡ reg_at self.old.processor.regs program_counter }
         requires first { IsFetched (view_of self.old.window) at first }
         requires wide { 29 ≤ first / 2048 }
-        ensures goes { result ≡ true → GoesOn (view_of self.old.window) self.old.processor (view_of self.new.window) self.new.processor }
-        ensures halts { result ≡ false → Halts (step_effect (refused_by (view_of self.old.window)) (held_by (view_of self.old.window)) self.old.processor) }
+        ensures goes { result ≡ true → GoesOn (view_of self.old.window) self.old.processor
+            (view_of self.new.window) self.new.processor }
+        ensures halts { result ≡ false →
+            Halts (step_effect (refused_by (view_of self.old.window))
+            (held_by (view_of self.old.window)) self.old.processor) }
         ensures kept { result ≡ false → self.new ≡ self.old }
         ensures fixed { Keeps (view_of self.old.window) (view_of self.new.window) }
     {
@@ -413,15 +430,19 @@ impl Runner {
         }
     }
 
-    /// Instructions on end, at most so many: as long as each is fetched from the stretch and goes on within the
-    /// window. How many there were.
+    /// Instructions on end, at most so many: as long as each is fetched from the stretch and goes
+    /// on within the window. How many there were.
     pub fn glide(&mut self, most: u32) -> u32
         requires apart { IsApart (view_of self.old.window) }
-        ensures glides { Glides (view_of self.old.window) self.old.processor result (view_of self.new.window) self.new.processor }
+        ensures glides { Glides (view_of self.old.window) self.old.processor result
+            (view_of self.new.window) self.new.processor }
         ensures within { result ≤ most }
 
-        // It stops before that many only where the next one is a system call, faults or reaches beyond the window.
-        ensures far { result < most → Halts (step_effect (refused_by (view_of self.new.window)) (held_by (view_of self.new.window)) self.new.processor) }
+        // It stops before that many only where the next one is a system call, faults or reaches
+        // beyond the window.
+        ensures far { result < most → Halts
+            (step_effect (refused_by (view_of self.new.window)) (held_by (view_of self.new.window))
+            self.new.processor) }
         ensures fixed { Keeps (view_of self.old.window) (view_of self.new.window) }
     {
         let places = self.window.code_places();

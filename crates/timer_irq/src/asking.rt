@@ -14,9 +14,12 @@ use crate::owners::{is_owner, line_of, owns};
 use kernel_abi::{IrqArgs, Note, Usage};
 use task_table::{Kernel, Line, LineStart};
 
-/// The line of an owner, where it is this task with exactly these bits; else one that is disabled with nothing pending.
+/// The line of an owner, where it is this task with exactly these bits; else one that is disabled
+/// with nothing pending.
 fn own_line(k: &Kernel, caller: usize, bits: u32, owner: &LineStart) -> Line
-    ensures { (g : Setup) (t : Turn) → Holds g k.now t → result ≡ (if owns_with caller bits (line_setup owner.now) then line_at t.state owner.now.line else no_line) }
+    ensures { (g : Setup) (t : Turn) → Holds g k.now t →
+        result ≡ (if owns_with caller bits (line_setup owner.now) then line_at t.state
+        owner.now.line else no_line) }
 {
     if is_owner(owner, caller, bits) {
         line_of(k, usize::from(owner.line))
@@ -38,9 +41,11 @@ fn both_lines(a: Line, b: Line) -> Line
     }
 }
 
-/// The lines that a task owns with exactly these bits as one: enabled where one is, pending where one is.
+/// The lines that a task owns with exactly these bits as one: enabled where one is, pending where
+/// one is.
 fn own_lines(k: &Kernel, caller: usize, bits: u32) -> Line
-    ensures { (g : Setup) (t : Turn) → Holds g k.now t → result ≡ lines_together t.state (filter (owns_with caller bits) g.lines) }
+    ensures { (g : Setup) (t : Turn) → Holds g k.now t →
+        result ≡ lines_together t.state (filter (owns_with caller bits) g.lines) }
 {
     let mut together = Line {
         enabled: false,
@@ -67,10 +72,12 @@ fn sum_of(lines: Line, posted: u32) -> u32
     value_if(lines.enabled, 1) + value_if(lines.pending, 2) + value_if(posted != 0, 4)
 }
 
-/// How the lines that a task owns with exactly these bits are, and whether some of the bits are posted to it.
+/// How the lines that a task owns with exactly these bits are, and whether some of the bits are
+/// posted to it.
 fn status_of(k: &Kernel, caller: usize, bits: u32) -> u32
     requires { caller < task_count k.now }
-    ensures { (g : Setup) (t : Turn) → Holds g k.now t → result ≡ status_of_lines g t.state caller bits }
+    ensures { (g : Setup) (t : Turn) → Holds g k.now t →
+        result ≡ status_of_lines g t.state caller bits }
 {
     sum_of(own_lines(k, caller, bits), k.posted_bits(caller) & bits)
 }
@@ -79,7 +86,8 @@ fn status_of(k: &Kernel, caller: usize, bits: u32) -> u32
 fn irq_status_rows(k: &mut Kernel, caller: usize)
     requires there { caller < task_count k.old }
     requires room { note_count k.old + syscall_notes ≤ turn_notes }
-    ensures holds { (g : Setup) (t : Turn) → Holds g k.old t → Holds g k.new (irq_answered g caller t) }
+    ensures holds { (g : Setup) (t : Turn) → Holds g k.old t →
+        Holds g k.new (irq_answered g caller t) }
     ensures frame { AddsAtMost k.old syscall_notes k.new }
 {
     let args = IrqArgs::of(&k.arguments(caller));
@@ -96,9 +104,10 @@ fn irq_status_rows(k: &mut Kernel, caller: usize)
     }
 }
 
-/// IRQ_STATUS: of the lines that the caller owns with exactly the bits in r4, r4 becomes the sum of 1 where one is
-/// enabled, 2 where on one an interrupt is pending, and 4 where some of these bits are posted to the caller. Where the
-/// caller owns no such line, it faults by usage 6, NoIrq (the call is this project's own).
+/// IRQ_STATUS: of the lines that the caller owns with exactly the bits in r4, r4 becomes the sum of
+/// 1 where one is enabled, 2 where on one an interrupt is pending, and 4 where some of these bits
+/// are posted to the caller. Where the caller owns no such line, it faults by usage 6, NoIrq (the
+/// call is this project's own).
 pub fn irq_status(k: &mut Kernel, caller: usize)
     requires there { caller < task_count k.old }
     requires room { note_count k.old + syscall_notes ≤ turn_notes }

@@ -18,7 +18,8 @@ use task_table::{Kernel, Line, LineStart};
 fn control(k: &mut Kernel, caller: usize, bits: u32, enable: bool, line: u8)
     requires there { caller < task_count k.old }
     requires room { note_count k.old + 2 ≤ turn_notes }
-    ensures holds { (g : Setup) (t : Turn) → Holds g k.old t → Holds g k.new (line_controlled caller bits enable line t) }
+    ensures holds { (g : Setup) (t : Turn) → Holds g k.old t →
+        Holds g k.new (line_controlled caller bits enable line t) }
     ensures frame { AddsAtMost k.old 2 k.new }
 {
     let number = usize::from(line);
@@ -43,7 +44,9 @@ fn control(k: &mut Kernel, caller: usize, bits: u32, enable: bool, line: u8)
 fn control_if(k: &mut Kernel, caller: usize, bits: u32, enable: bool, owner: &LineStart)
     requires there { caller < task_count k.old }
     requires room { note_count k.old + 2 ≤ turn_notes }
-    ensures holds { (g : Setup) (t : Turn) → Holds g k.old t → Holds g k.new (with_next (λ u o. line_controlled caller bits enable o.line u) (owns_with caller bits) (Some (line_setup owner.now)) t) }
+    ensures holds { (g : Setup) (t : Turn) → Holds g k.old t →
+        Holds g k.new (with_next (λ u o. line_controlled caller bits enable o.line u)
+        (owns_with caller bits) (Some (line_setup owner.now)) t) }
     ensures frame { AddsAtMost k.old 2 k.new }
 {
     if is_owner(owner, caller, bits) {
@@ -60,7 +63,8 @@ fn item(owners: &[LineStart], i: usize) -> Option<LineStart>
 
 /// The i-th owner of a line, where there is one.
 fn owner_at(k: &Kernel, i: usize) -> Option<LineStart>
-    ensures { (g : Setup) (t : Turn) → Holds g k.now t → option_map line_setup result ≡ slice_get g.lines i }
+    ensures { (g : Setup) (t : Turn) → Holds g k.now t →
+        option_map line_setup result ≡ slice_get g.lines i }
 {
     item(k.owners(), i)
 }
@@ -69,7 +73,9 @@ fn owner_at(k: &Kernel, i: usize) -> Option<LineStart>
 fn control_at(k: &mut Kernel, caller: usize, bits: u32, enable: bool, i: usize)
     requires there { caller < task_count k.old }
     requires room { note_count k.old + 2 ≤ turn_notes }
-    ensures holds { (g : Setup) (t : Turn) → Holds g k.old t → Holds g k.new (with_next (λ u o. line_controlled caller bits enable o.line u) (owns_with caller bits) (slice_get g.lines i) t) }
+    ensures holds { (g : Setup) (t : Turn) → Holds g k.old t →
+        Holds g k.new (with_next (λ u o. line_controlled caller bits enable o.line u)
+        (owns_with caller bits) (slice_get g.lines i) t) }
     ensures frame { AddsAtMost k.old 2 k.new }
 {
     if let Some(owner) = owner_at(k, i) {
@@ -81,7 +87,9 @@ fn control_at(k: &mut Kernel, caller: usize, bits: u32, enable: bool, i: usize)
 fn control_all(k: &mut Kernel, caller: usize, bits: u32, enable: bool)
     requires there { caller < task_count k.old }
     requires room { note_count k.old + 2 * board_lines ≤ turn_notes }
-    ensures holds { (g : Setup) (t : Turn) → Holds g k.old t → Holds g k.new (fold (λ u o. line_controlled caller bits enable o.line u) t (filter (owns_with caller bits) g.lines)) }
+    ensures holds { (g : Setup) (t : Turn) → Holds g k.old t →
+        Holds g k.new (fold (λ u o. line_controlled caller bits enable o.line u) t
+        (filter (owns_with caller bits) g.lines)) }
     ensures frame { AddsAtMost k.old (2 * board_lines) k.new }
 {
     for i in 0..k.owners().len() {
@@ -93,7 +101,8 @@ fn control_all(k: &mut Kernel, caller: usize, bits: u32, enable: bool)
 fn irq_control_rows(k: &mut Kernel, caller: usize)
     requires there { caller < task_count k.old }
     requires room { note_count k.old + syscall_notes ≤ turn_notes }
-    ensures holds { (g : Setup) (t : Turn) → Holds g k.old t → Holds g k.new (irq_controlled g caller t) }
+    ensures holds { (g : Setup) (t : Turn) → Holds g k.old t →
+        Holds g k.new (irq_controlled g caller t) }
     ensures frame { AddsAtMost k.old syscall_notes k.new }
 {
     let args = IrqArgs::of(&k.arguments(caller));
@@ -105,10 +114,11 @@ fn irq_control_rows(k: &mut Kernel, caller: usize)
     }
 }
 
-/// IRQ_CONTROL: each line that the caller owns with exactly the bits in r4, ascending, is disabled, or,
-/// where bit 0 of r5 is set, enabled; where an interrupt is pending on a line that is to be enabled, it
-/// is cleared, the bits are posted and the line is disabled again. Where the caller owns no such line,
-/// it faults by usage 6, NoIrq (Hubris Reference, on IRQ_CONTROL; that interrupts are held is this project's profile).
+/// IRQ_CONTROL: each line that the caller owns with exactly the bits in r4, ascending, is disabled,
+/// or, where bit 0 of r5 is set, enabled; where an interrupt is pending on a line that is to be
+/// enabled, it is cleared, the bits are posted and the line is disabled again. Where the caller
+/// owns no such line, it faults by usage 6, NoIrq (Hubris Reference, on IRQ_CONTROL; that
+/// interrupts are held is this project's profile).
 pub fn irq_control(k: &mut Kernel, caller: usize)
     requires there { caller < task_count k.old }
     requires room { note_count k.old + syscall_notes ≤ turn_notes }

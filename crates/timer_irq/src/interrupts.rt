@@ -15,7 +15,8 @@ use task_table::{Kernel, LineStart};
 fn interrupt_owned(k: &mut Kernel, line: u8, owner: &LineStart)
     requires there { owner.now.task < task_count k.old }
     requires room { note_count k.old + syscall_notes ≤ turn_notes }
-    ensures holds { (g : Setup) (t : Turn) → Holds g k.old t → Holds g k.new (interrupted_by line (Some (line_setup owner.now)) t) }
+    ensures holds { (g : Setup) (t : Turn) → Holds g k.old t →
+        Holds g k.new (interrupted_by line (Some (line_setup owner.now)) t) }
     ensures frame { AddsAtMost k.old syscall_notes k.new }
 {
     let number = usize::from(line);
@@ -36,13 +37,14 @@ fn interrupt_owned(k: &mut Kernel, line: u8, owner: &LineStart)
     }
 }
 
-/// An interrupt on a line. Where the line is enabled, its owner is posted the line's bits and the line
-/// is disabled; where it is disabled, an interrupt is pending from then on; where no task owns it,
-/// nothing happens.
+/// An interrupt on a line. Where the line is enabled, its owner is posted the line's bits and the
+/// line is disabled; where it is disabled, an interrupt is pending from then on; where no task owns
+/// it, nothing happens.
 pub fn interrupt(k: &mut Kernel, line: u8)
     requires stood { StandsForSome k.old }
     requires room { note_count k.old + syscall_notes ≤ turn_notes }
-    ensures stands { (g : Setup) (t : Turn) → Stands g k.old t → Stands g k.new (interrupted g line t) }
+    ensures stands { (g : Setup) (t : Turn) → Stands g k.old t →
+        Stands g k.new (interrupted g line t) }
     ensures frame { AddsAtMost k.old syscall_notes k.new }
 {
     match owner_of(k, line) {

@@ -1,6 +1,7 @@
 #![tactic(auto)]
 //! Timers and interrupt lines: ticks and interrupts, which come from outside, and the system calls
-//! SET_TIMER, GET_TIMER, IRQ_CONTROL and IRQ_STATUS (Hubris Reference: timers, interrupts; docs/FORMATS.md, Script, System calls).
+//! SET_TIMER, GET_TIMER, IRQ_CONTROL and IRQ_STATUS (Hubris Reference: timers, interrupts;
+//! docs/FORMATS.md, Script, System calls).
 //!
 //! Each event and each system call asks for room for `SYSCALL_NOTES` notes and makes no more.
 

@@ -15,7 +15,8 @@ use task_table::{Kernel, Line, LineStart};
 
 /// The owner of a line.
 pub(crate) fn owner_of(k: &Kernel, line: u8) -> Option<LineStart>
-    ensures { (g : Setup) (t : Turn) → Holds g k.now t → option_map line_setup result ≡ owner_of g line }
+    ensures { (g : Setup) (t : Turn) → Holds g k.now t →
+        option_map line_setup result ≡ owner_of g line }
 {
     for owner in k.owners() {
         if owner.line == line {
@@ -40,7 +41,8 @@ pub(crate) fn line_of(k: &Kernel, number: usize) -> Line
 
 /// A line is disabled, with something pending or not.
 pub(crate) fn disable(k: &mut Kernel, number: usize, pending: bool)
-    ensures holds { (g : Setup) (t : Turn) → Holds g k.old t → Holds g k.new (with_line number (line_off pending) t) }
+    ensures holds { (g : Setup) (t : Turn) → Holds g k.old t →
+        Holds g k.new (with_line number (line_off pending) t) }
     ensures frame { AddsNotes k.old 0 k.new }
 {
     k.set_line(
@@ -63,7 +65,8 @@ fn has_owner(owners: &[LineStart], caller: usize, bits: u32) -> bool
 
 /// Whether a task owns a line with exactly these bits.
 pub(crate) fn owns(k: &Kernel, caller: usize, bits: u32) -> bool
-    ensures { (g : Setup) (t : Turn) → Holds g k.now t → result ≡ list_any (owns_with caller bits) g.lines }
+    ensures { (g : Setup) (t : Turn) → Holds g k.now t →
+        result ≡ list_any (owns_with caller bits) g.lines }
 {
     has_owner(k.owners(), caller, bits)
 }

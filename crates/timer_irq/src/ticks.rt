@@ -26,11 +26,12 @@ fn expire(k: &mut Kernel, task: usize)
     }
 }
 
-/// Each task in order whose timer is due is posted, where no deadline has gone by before now. So only those are looked at
-/// whose deadline may be just now.
+/// Each task in order whose timer is due is posted, where no deadline has gone by before now. So
+/// only those are looked at whose deadline may be just now.
 fn expire_all(k: &mut Kernel)
     requires { note_count k.old + 2 * most_tasks ≤ turn_notes }
-    ensures holds { (g : Setup) (t : Turn) → Holds g k.old t → AreNotPast t.state → Holds g k.new (fold expired t (range_with_len 0 (length t.state.tasks))) }
+    ensures holds { (g : Setup) (t : Turn) → Holds g k.old t → AreNotPast t.state →
+        Holds g k.new (fold expired t (range_with_len 0 (length t.state.tasks))) }
     ensures frame { AddsAtMost k.old (2 * most_tasks) k.new }
 {
     let due = *k.due();
@@ -41,8 +42,8 @@ fn expire_all(k: &mut Kernel)
     }
 }
 
-/// A tick: the time rises by one; then each task in order whose deadline is at most that time has its
-/// timer off and is posted the timer's bits.
+/// A tick: the time rises by one; then each task in order whose deadline is at most that time has
+/// its timer off and is posted the timer's bits.
 pub fn tick(k: &mut Kernel)
     requires room { note_count k.old + syscall_notes ≤ turn_notes }
     requires small { clock_of k.old + 1 < 2 ^ 64 }

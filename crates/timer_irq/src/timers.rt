@@ -37,9 +37,10 @@ fn set_timer_rows(k: &mut Kernel, caller: usize)
     }
 }
 
-/// SET_TIMER: r4 is 0 to turn the caller's timer off; else the timer is set to the deadline in r5 (low
-/// word) and r6 with the bits in r7, or, where the deadline is at most now, is off and the bits are
-/// posted at once (Hubris Reference, on SET_TIMER; registers, and when a timer is due, are this project's profile).
+/// SET_TIMER: r4 is 0 to turn the caller's timer off; else the timer is set to the deadline in r5
+/// (low word) and r6 with the bits in r7, or, where the deadline is at most now, is off and the
+/// bits are posted at once (Hubris Reference, on SET_TIMER; registers, and when a timer is due, are
+/// this project's profile).
 pub fn set_timer(k: &mut Kernel, caller: usize)
     requires there { caller < task_count k.old }
     requires room { note_count k.old + syscall_notes ≤ turn_notes }
@@ -67,8 +68,9 @@ fn timer_results(now: u64, timer: Option<Timer>) -> [u32; 6]
     }
 }
 
-/// GET_TIMER: r4 and r5 become the time, low word first; r6 is 1 where the caller's timer is set, r7
-/// and r8 are then its deadline and r9 its bits, else r6 to r9 are 0 (the call is this project's own).
+/// GET_TIMER: r4 and r5 become the time, low word first; r6 is 1 where the caller's timer is set,
+/// r7 and r8 are then its deadline and r9 its bits, else r6 to r9 are 0 (the call is this project's
+/// own).
 pub fn get_timer(k: &mut Kernel, caller: usize)
     requires there { caller < task_count k.old }
     requires room { note_count k.old + syscall_notes ≤ turn_notes }

@@ -35,22 +35,28 @@ fn judgement(alloc: Global, text: &[u8]) -> Result<Judgement, AllocError>
     }
 }
 
-/// Whether a text is a trace that holds together: `Yes`, with the number of calls that it offers and of those that it does not
-/// close, exactly where each of its lines has a form of a trace (docs/FORMATS.md, Trace) and follows from those before it
-/// (`specs/Rules`, this project's); else `No` with its first line, from 1 on, that does not, which is one past the last where no
-/// line ends the turns. The text may have any bytes and any length. It takes time in line with the length, times the
-/// logarithm of the number of clients, and memory in line with that of the calls that are open at once.
+/// Whether a text is a trace that holds together: `Yes`, with the number of calls that it offers
+/// and of those that it does not close, exactly where each of its lines has a form of a trace
+/// (docs/FORMATS.md, Trace) and follows from those before it (`specs/Rules`, this project's); else
+/// `No` with its first line, from 1 on, that does not, which is one past the last where no line
+/// ends the turns. The text may have any bytes and any length. It takes time in line with the
+/// length, times the logarithm of the number of clients, and memory in line with that of the calls
+/// that are open at once.
 ///
 /// # Errors
 ///
-/// `Refused` exactly where a line has a byte that no line of a trace has (cause 1), or too many bytes (cause 2), with the first
-/// such line and its cause; `Memory` where memory is short.
+/// `Refused` exactly where a line has a byte that no line of a trace has (cause 1), or too many
+/// bytes (cause 2), with the first such line and its cause; `Memory` where memory is short.
 pub fn audit(alloc: Global, text: &[u8]) -> Result<Judgement, AuditFault>
-    ensures yes { IfOk result (λ v. (calls left : ℕ) → (v ≡ Judgement.Yes calls left) ↔ IsGoodWith (read_lines text.now) calls left) }
-    ensures no { IfOk result (λ v. (n : ℕ) → (v ≡ Judgement.No n) ↔ IsFirstBad (read_lines text.now) n) }
+    ensures yes { IfOk result (λ v. (calls left : ℕ) → (v ≡ Judgement.Yes calls left) ↔
+        IsGoodWith (read_lines text.now) calls left) }
+    ensures no { IfOk result (λ v. (n : ℕ) → (v ≡ Judgement.No n) ↔
+        IsFirstBad (read_lines text.now) n) }
     ensures fine { IfOk result (λ v. HasNoCause (lines_of text.now)) }
-    ensures exact { (cause n : ℕ) → (result ≡ Err (AuditFault.Refused cause n)) ↔ IsFirstCause (lines_of text.now) cause n }
-    ensures first { (cause n : ℕ) → result ≡ Err (AuditFault.Refused cause n) → first_cause 1 (lines_of text.now) ≡ Some (cause, n) }
+    ensures exact { (cause n : ℕ) → (result ≡ Err (AuditFault.Refused cause n)) ↔
+        IsFirstCause (lines_of text.now) cause n }
+    ensures first { (cause n : ℕ) → result ≡ Err (AuditFault.Refused cause n) →
+        first_cause 1 (lines_of text.now) ≡ Some (cause, n) }
     ensures none { IfOk result (λ v. first_cause 1 (lines_of text.now) ≡ None) }
 {
     if let Some((cause, line)) = first_cause(text) {

@@ -82,7 +82,8 @@ impl Book {
 
     /// The client of an open call, and whether it was taken.
     fn open_call(&self, call: u64) -> Option<(u64, bool)>
-        ensures { result ≡ open_by (get nat_cmp self.now.calls) call (get nat_cmp self.now.clients call) }
+        ensures { result ≡ open_by (get nat_cmp self.now.calls) call
+            (get nat_cmp self.now.clients call) }
     {
         match self.client_of(call) {
             None => None,
@@ -103,7 +104,8 @@ impl Book {
 
     /// Takes an offer, if it has the next number and its client has no open call.
     fn offer(&mut self, call: u64, client: u64) -> Result<bool, AllocError>
-        ensures told { (said : List Word) → HasHeard said (kept_in self.old) → IfOk result (Notes said (Saying.Offers call client) (kept_in self.new)) }
+        ensures told { (said : List Word) → HasHeard said (kept_in self.old) →
+            IfOk result (Notes said (Saying.Offers call client) (kept_in self.new)) }
         ensures same { IsRest self.old self.new }
     {
         if call == 0 || call - 1 != self.offered {
@@ -120,7 +122,8 @@ impl Book {
 
     /// Takes that a call is taken, if it is open and was not taken.
     fn take(&mut self, call: u64) -> Result<bool, AllocError>
-        ensures told { (said : List Word) → HasHeard said (kept_in self.old) → IfOk result (Notes said (Saying.Takes call) (kept_in self.new)) }
+        ensures told { (said : List Word) → HasHeard said (kept_in self.old) →
+            IfOk result (Notes said (Saying.Takes call) (kept_in self.new)) }
         ensures same { IsRest self.old self.new }
     {
         match self.open_call(call) {
@@ -137,7 +140,8 @@ impl Book {
 
     /// Takes that a call is closed, if it is open, and taken where this is an answer.
     fn close(&mut self, call: u64, answer: bool) -> bool
-        ensures told { (said : List Word) → HasHeard said (kept_in self.old) → Notes said (Saying.Closes call answer) (kept_in self.new) result }
+        ensures told { (said : List Word) → HasHeard said (kept_in self.old) →
+            Notes said (Saying.Closes call answer) (kept_in self.new) result }
         ensures same { IsRest self.old self.new }
     {
         match self.open_call(call) {
@@ -155,7 +159,8 @@ impl Book {
 
     /// Whether the leases of a call may be used: it is open and taken.
     fn may_borrow(&self, call: u64) -> bool
-        ensures { (said : List Word) → HasHeard said (kept_in self.now) → Notes said (Saying.Borrows call) (kept_in self.now) result }
+        ensures { (said : List Word) → HasHeard said (kept_in self.now) →
+            Notes said (Saying.Borrows call) (kept_in self.now) result }
     {
         match self.open_call(call) {
             Some((_, taken)) => taken,
@@ -165,7 +170,8 @@ impl Book {
 
     /// Takes what a line says of calls, if it is good.
     fn hear(&mut self, saying: Saying) -> Result<bool, AllocError>
-        ensures told { (said : List Word) → HasHeard said (kept_in self.old) → IfOk result (Notes said saying (kept_in self.new)) }
+        ensures told { (said : List Word) → HasHeard said (kept_in self.old) →
+            IfOk result (Notes said saying (kept_in self.new)) }
         ensures same { IsRest self.old self.new }
     {
         match saying {
@@ -200,7 +206,8 @@ impl Book {
 
     /// Takes a line of a turn, if it is good.
     fn tell(&mut self, turn: u64, saying: Saying) -> Result<bool, AllocError>
-        ensures { (lines : List Said) → IsKept lines self.old → IfOk result (Adds lines (TraceLine.Tells turn saying) self.new) }
+        ensures { (lines : List Said) → IsKept lines self.old →
+            IfOk result (Adds lines (TraceLine.Tells turn saying) self.new) }
     {
         if self.ended {
             return Ok(false);
@@ -214,7 +221,8 @@ impl Book {
 
     /// Takes the line that ends the turns, if none has come.
     fn end(&mut self) -> bool
-        ensures { (lines : List Said) → IsKept lines self.old → Adds lines TraceLine.Ends self.new result }
+        ensures { (lines : List Said) → IsKept lines self.old →
+            Adds lines TraceLine.Ends self.new result }
     {
         if self.ended {
             return false;
@@ -223,9 +231,11 @@ impl Book {
         true
     }
 
-    /// Whether the line of a task is good: it stands after the end, and the task waits as the lines of the turns say.
+    /// Whether the line of a task is good: it stands after the end, and the task waits as the lines
+    /// of the turns say.
     fn may_wait(&self, task: u64, wait: FinalWait) -> bool
-        ensures { (lines : List Said) → IsKept lines self.now → Adds lines (TraceLine.Waits task wait) self.now result }
+        ensures { (lines : List Said) → IsKept lines self.now →
+            Adds lines (TraceLine.Waits task wait) self.now result }
     {
         if self.ended {
             self.is_waiting(task, wait)
@@ -236,14 +246,16 @@ impl Book {
 
     /// Whether a line that shows something is good: it stands after the end.
     fn may_show(&self) -> bool
-        ensures { (lines : List Said) → IsKept lines self.now → Adds lines TraceLine.Shows self.now result }
+        ensures { (lines : List Said) → IsKept lines self.now →
+            Adds lines TraceLine.Shows self.now result }
     {
         self.ended
     }
 
     /// Takes a line, if it is good after those before.
     pub(crate) fn add(&mut self, line: TraceLine) -> Result<bool, AllocError>
-        ensures { (lines : List Said) → IsKept lines self.old → IfOk result (Adds lines line self.new) }
+        ensures { (lines : List Said) → IsKept lines self.old →
+            IfOk result (Adds lines line self.new) }
     {
         match line {
             TraceLine::Tells(turn, saying) => self.tell(turn, saying),

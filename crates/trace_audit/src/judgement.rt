@@ -12,7 +12,8 @@ pub enum Judgement {
 /// Why a text has no judgement.
 #[derive(Clone, Copy, PartialEq, Eq)]
 pub enum AuditFault {
-    /// A line, from 1 on, has a byte other than 32 to 126 (cause 1) or more than 159 bytes (cause 2).
+    /// A line, from 1 on, has a byte other than 32 to 126 (cause 1) or more than 159 bytes (cause
+    /// 2).
     Refused { cause: u8, line: u64 },
     /// Memory is short.
     Memory,

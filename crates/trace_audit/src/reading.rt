@@ -10,7 +10,8 @@ use crate::forms::{
 };
 use crate::pieces::Words;
 
-/// What a line of a turn says of calls. Calls are numbered from 1 on, and clients are indices of tasks.
+/// What a line of a turn says of calls. Calls are numbered from 1 on, and clients are indices of
+/// tasks.
 #[derive(Clone, Copy)]
 pub enum Saying {
     /// A call, by its number, is offered by a client.
@@ -120,7 +121,8 @@ fn fits(form: &LineForm, words: Words<'_>) -> bool
 
 /// The form of this name, where the words behind it fit.
 fn form_of(forms: &[LineForm], name: &[u8], words: Words<'_>) -> Option<LineForm>
-    ensures { option_map form_in result ≡ form_of (forms_in forms.now) name.now (words_left words.entry) }
+    ensures { option_map form_in result ≡ form_of (forms_in forms.now) name.now
+        (words_left words.entry) }
 {
     match form_named(forms, name) {
         None => None,
@@ -233,7 +235,8 @@ fn last_line(words: Words<'_>) -> Option<TraceLine>
 }
 
 fn end_form(name: &[u8], words: Words<'_>) -> Option<LineForm>
-    ensures { option_map form_in result ≡ form_of (end_form ∷ []) name.now (words_left words.entry) }
+    ensures { option_map form_in result ≡ form_of (end_form ∷ []) name.now
+        (words_left words.entry) }
 {
     form_of(END_FORMS, name, words)
 }

@@ -34,7 +34,8 @@ pub enum NamedFault {
 
 /// A refusal at a place that is a text, where there was memory for it.
 pub fn refused_at(cause: u8, place: Result<String, AllocError>) -> FileFault
-    ensures { (text : List ℕ) → IfOk place (λ p. string_bytes p ≡ text) → IsFaultFor (Some (cause, text)) result }
+    ensures { (text : List ℕ) → IfOk place (λ p. string_bytes p ≡ text) →
+        IsFaultFor (Some (cause, text)) result }
 {
     match place {
         Ok(place) => FileFault::Refused { cause, place },
@@ -62,7 +63,8 @@ pub fn fault_by_plan(alloc: Global, fault: BuildFault) -> FileFault
 
 /// Why the source of a task is refused.
 pub fn fault_by_source(alloc: Global, fault: BuildFault) -> FileFault
-    ensures { (app : AppData) (i : ℕ) (source : List ℕ) → length source ≤ file_limit → RefusesSource app i source fault → IsFaultFor (source_refusal app i source) result }
+    ensures { (app : AppData) (i : ℕ) (source : List ℕ) → length source ≤ file_limit →
+        RefusesSource app i source fault → IsFaultFor (source_refusal app i source) result }
 {
     match fault {
         BuildFault::Source { cause, line, .. } => refused_at_number(alloc, cause, line as u64),
@@ -73,7 +75,8 @@ pub fn fault_by_source(alloc: Global, fault: BuildFault) -> FileFault
 
 /// The same with the name of the file.
 pub fn fault_named(alloc: Global, name: &str, file_fault: FileFault) -> NamedFault
-    ensures { (before after : FilesSeen) (f : File) → f.name ≡ name.now → IsFaultOf before after f file_fault → IsNamedFaultOf before after f result }
+    ensures { (before after : FilesSeen) (f : File) → f.name ≡ name.now →
+        IsFaultOf before after f file_fault → IsNamedFaultOf before after f result }
 {
     match (String::from_str(alloc, name), file_fault) {
         (Ok(name), FileFault::CannotRead) => NamedFault::CannotRead { name },

@@ -12,23 +12,33 @@ ghost use Rattle.trace_cli.specs.Contents.{image_refusal, script_refusal, image_
 ghost use Rattle.trace_cli.specs.Verdict.{Verdict, IsVerdict, line_alone, status_of, level_of, memory_if};
 ghost use Rattle.trace_cli.specs.Answer.{HasPut};
 
-/// Words that ask for `run` of an image with a script, both seen and accepted, have just one verdict. Its text is the trace of
-/// the abstract kernel's run from the start of that image, with the events of that script, of at most so many turns, and
-/// with `--mem` the memory of its last state; its status is 0, or 6 where the run ended because the supervisor faulted.
+/// Words that ask for `run` of an image with a script, both seen and accepted, have just one
+/// verdict. Its text is the trace of the abstract kernel's run from the start of that image, with
+/// the events of that script, of at most so many turns, and with `--mem` the memory of its last
+/// state; its status is 0, or 6 where the run ended because the supervisor faulted.
 pub fn run_tells_the_abstract_run()
-    ensures { (devices : List DeviceData) (words : List (List ℕ)) (seen : List ℕ → Option (List ℕ)) (image_name script_name image script : List ℕ) (n : ℕ) (detail : Detail) (v : Verdict)
-        → job_in words ≡ Some (run_job image_name script_name n detail) → seen image_name ≡ Some image → seen script_name ≡ Some script
+    ensures { (devices : List DeviceData) (words : List (List ℕ)) (seen : List ℕ → Option (List ℕ))
+        (image_name script_name image script : List ℕ) (n : ℕ) (detail : Detail) (v : Verdict)
+        → job_in words ≡ Some (run_job image_name script_name n detail) →
+        seen image_name ≡ Some image → seen script_name ≡ Some script
         → image_refusal image ≡ None → script_refusal script ≡ None
         → let x = scenario_of (image_data_of image) script devices in
         let r = run (level_of detail) x n (start_of x) in
-        IsVerdict devices words seen v ↔ (v ≡ line_alone (status_of r.end) (trace_text r ++ memory_if detail.memory x.setup r.last)) }
+        IsVerdict devices words seen v ↔
+        (v ≡ line_alone (status_of r.end)
+        (trace_text r ++ memory_if detail.memory x.setup r.last)) }
 {}
 
-/// `build` and then `run` write what `go` writes: where an application was built and put under OUT, and no other name
-/// changed, the run of OUT with a script of another name has the verdict of `go`.
+/// `build` and then `run` write what `go` writes: where an application was built and put under OUT,
+/// and no other name changed, the run of OUT with a script of another name has the verdict of `go`.
 pub fn build_then_run_is_go()
-    ensures { (devices : List DeviceData) (build_words go_words run_words : List (List ℕ)) (seen seen' : List ℕ → Option (List ℕ)) (app out script : List ℕ) (n : ℕ) (detail : Detail) (b v w : Verdict)
-        → job_in build_words ≡ Some (build_job app out) → job_in go_words ≡ Some (go_job app script n detail) → job_in run_words ≡ Some (run_job out script n detail)
-        → script ≢ out → IsVerdict devices build_words seen b → b.status ≡ 0 → HasPut seen seen' b.put
+    ensures { (devices : List DeviceData) (build_words go_words run_words : List (List ℕ))
+        (seen seen' : List ℕ → Option (List ℕ)) (app out script : List ℕ) (n : ℕ) (detail : Detail)
+        (b v w : Verdict)
+        → job_in build_words ≡ Some (build_job app out) →
+        job_in go_words ≡ Some (go_job app script n detail) →
+        job_in run_words ≡ Some (run_job out script n detail)
+        → script ≢ out → IsVerdict devices build_words seen b → b.status ≡ 0 →
+        HasPut seen seen' b.put
         → IsVerdict devices go_words seen v → IsVerdict devices run_words seen' w → v ≡ w }
 {}

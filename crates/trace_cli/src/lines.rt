@@ -23,7 +23,8 @@ pub fn status_by(end: End) -> u8
 
 /// A line alone, in one push.
 pub fn tell<S: Sink>(line: &[u8], status: u8, out: &mut S) -> u8
-    ensures { (v : Verdict) → v.status ≡ status → v.text ≡ line.now → Pushed (S.seen out.old) (S.seen out.new) v result }
+    ensures { (v : Verdict) → v.status ≡ status → v.text ≡ line.now →
+        Pushed (S.seen out.old) (S.seen out.new) v result }
 {
     match out.push(line) {
         Ok(()) => status,

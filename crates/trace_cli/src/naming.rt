@@ -42,7 +42,8 @@ fn task_names(alloc: Global, tasks: usize) -> Result<Vec<String>, AllocError>
 
 // The names of tasks of an application.
 fn names_of(alloc: Global, tasks: &[TaskSpec]) -> Result<Vec<String>, AllocError>
-    ensures names { IfOk result (λ v. map string_bytes v.items ≡ map (λ t. t.name) (map task_of tasks.now)) }
+    ensures names { IfOk result (λ v. map string_bytes v.items ≡ map (λ t. t.name)
+        (map task_of tasks.now)) }
     ensures count { IfOk result (λ v. length v.items ≡ length tasks.now) }
 {
     let mut names = Vec::new(alloc);
@@ -81,9 +82,11 @@ fn read_names_in<F: Files>(
     tasks: usize,
     name: &str,
 ) -> Result<Vec<String>, NamedFault>
-    ensures names { IfOk result (λ v. IsNamesFile (F.seen files.old).contents tasks name.now (map string_bytes v.items)) }
+    ensures names { IfOk result (λ v. IsNamesFile (F.seen files.old).contents tasks name.now
+        (map string_bytes v.items)) }
     ensures count { IfOk result (λ v. length v.items ≡ tasks) }
-    ensures named_fault { IfErr result (IsNamedFaultOf (F.seen files.old) (F.seen files.new) (names_file tasks name.now)) }
+    ensures named_fault { IfErr result
+        (IsNamedFaultOf (F.seen files.old) (F.seen files.new) (names_file tasks name.now)) }
     ensures only_reads { OnlyReads (F.seen files.old) (F.seen files.new) }
 {
     let bytes = match read_contents(alloc, files, name, FILE_LIMIT) {
@@ -103,9 +106,12 @@ fn read_names<F: Files>(
     tasks: usize,
     names: Option<&str>,
 ) -> Result<Vec<String>, NamedFault>
-    ensures names { IfOk result (λ v. AreNames (F.seen files.old).contents tasks (option_map (λ n. n.now) names.entry) (map string_bytes v.items)) }
+    ensures names { IfOk result (λ v. AreNames (F.seen files.old).contents tasks
+        (option_map (λ n. n.now) names.entry) (map string_bytes v.items)) }
     ensures count { IfOk result (λ v. length v.items ≡ tasks) }
-    ensures named_fault { IfErr result (IsNamesFault (F.seen files.old) (F.seen files.new) tasks (option_map (λ n. n.now) names.entry)) }
+    ensures named_fault { IfErr result
+        (IsNamesFault (F.seen files.old) (F.seen files.new) tasks
+        (option_map (λ n. n.now) names.entry)) }
     ensures only_reads { OnlyReads (F.seen files.old) (F.seen files.new) }
 {
     match names {
@@ -117,8 +123,9 @@ fn read_names<F: Files>(
     }
 }
 
-/// The board at the start of the run of the image and the script under these names, with devices, and the names of its tasks. It is
-/// the run of each job that takes these two files and names of tasks.
+/// The board at the start of the run of the image and the script under these names, with devices,
+/// and the names of its tasks. It is the run of each job that takes these two files and names of
+/// tasks.
 pub fn prepare_named<F: Files>(
     alloc: Global,
     files: &mut F,
@@ -128,11 +135,17 @@ pub fn prepare_named<F: Files>(
     devices: Vec<Box<dyn Device>>,
 ) -> Result<(Board, Vec<String>), NamedFault>
     requires fresh { AreFresh (map shown devices.items) }
-    ensures ready { (job : Asked) (verdict : List (List ℕ) → Scenario → Verdict) → RunsNamed (map shown devices.items) job image.now script.now (option_map (λ n. n.now) names.entry) verdict
-        → IfOk result (λ p. IsReady shown (map shown devices.items) job (F.seen files.old).contents (verdict (map string_bytes p.1.items)) p.0) }
+    ensures ready { (job : Asked) (verdict : List (List ℕ) → Scenario → Verdict) →
+        RunsNamed (map shown devices.items) job image.now script.now
+        (option_map (λ n. n.now) names.entry) verdict
+        → IfOk result (λ p. IsReady shown (map shown devices.items) job (F.seen files.old).contents
+        (verdict (map string_bytes p.1.items)) p.0) }
     ensures count { IfOk result (λ p. length p.1.items ≡ count_of p.0) }
-    ensures named_fault { (job : Asked) (verdict : List (List ℕ) → Scenario → Verdict) → RunsNamed (map shown devices.items) job image.now script.now (option_map (λ n. n.now) names.entry) verdict
-        → IfErr result (IsNamedFaultIn (map shown devices.items) job (F.seen files.old) (F.seen files.new)) }
+    ensures named_fault { (job : Asked) (verdict : List (List ℕ) → Scenario → Verdict) →
+        RunsNamed (map shown devices.items) job image.now script.now
+        (option_map (λ n. n.now) names.entry) verdict
+        → IfErr result (IsNamedFaultIn (map shown devices.items) job (F.seen files.old)
+        (F.seen files.new)) }
     ensures only_reads { OnlyReads (F.seen files.old) (F.seen files.new) }
 {
     let board = match prepare_run(alloc, files, image, script, devices) {

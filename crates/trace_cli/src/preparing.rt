@@ -26,8 +26,10 @@ use std::alloc::Global;
 
 /// The image under a name.
 pub fn read_image<F: Files>(alloc: Global, files: &mut F, name: &str) -> Result<Image, NamedFault>
-    ensures image { IfOk result (λ i. IsImageFile (F.seen files.old).contents name.now (image_data i)) }
-    ensures named_fault { IfErr result (IsNamedFaultOf (F.seen files.old) (F.seen files.new) (image_file name.now)) }
+    ensures image { IfOk result (λ i. IsImageFile (F.seen files.old).contents name.now
+        (image_data i)) }
+    ensures named_fault { IfErr result
+        (IsNamedFaultOf (F.seen files.old) (F.seen files.new) (image_file name.now)) }
     ensures only_reads { OnlyReads (F.seen files.old) (F.seen files.new) }
 {
     let bytes = match read_contents(alloc, files, name, FILE_LIMIT) {
@@ -42,8 +44,10 @@ pub fn read_image<F: Files>(alloc: Global, files: &mut F, name: &str) -> Result<
 
 /// The script under a name.
 pub fn read_script<F: Files>(alloc: Global, files: &mut F, name: &str) -> Result<Script, NamedFault>
-    ensures script { IfOk result (λ s. IsScriptFile (F.seen files.old).contents name.now (script_data s)) }
-    ensures named_fault { IfErr result (IsNamedFaultOf (F.seen files.old) (F.seen files.new) (script_file name.now)) }
+    ensures script { IfOk result (λ s. IsScriptFile (F.seen files.old).contents name.now
+        (script_data s)) }
+    ensures named_fault { IfErr result
+        (IsNamedFaultOf (F.seen files.old) (F.seen files.new) (script_file name.now)) }
     ensures only_reads { OnlyReads (F.seen files.old) (F.seen files.new) }
 {
     let bytes = match read_contents(alloc, files, name, FILE_LIMIT) {
@@ -65,8 +69,10 @@ fn set_up<F: Files>(
     devices: Vec<Box<dyn Device>>,
 ) -> Result<Board, NamedFault>
     requires fresh { AreFresh (map shown devices.items) }
-    ensures set { IfOk result (IsSet shown (map shown devices.items) (F.seen files.old).contents (picture image.now) script.now) }
-    ensures named_fault { IfErr result (IsNamedFaultOf (F.seen files.old) (F.seen files.new) (script_file script.now)) }
+    ensures set { IfOk result (IsSet shown (map shown devices.items) (F.seen files.old).contents
+        (picture image.now) script.now) }
+    ensures named_fault { IfErr result
+        (IsNamedFaultOf (F.seen files.old) (F.seen files.new) (script_file script.now)) }
     ensures only_reads { OnlyReads (F.seen files.old) (F.seen files.new) }
 {
     let script = match read_script(alloc, files, script) {
@@ -79,8 +85,8 @@ fn set_up<F: Files>(
     }
 }
 
-/// The board at the start of the run of the image and the script under these names, with devices. It is the run of each job that
-/// takes these two files and no more.
+/// The board at the start of the run of the image and the script under these names, with devices.
+/// It is the run of each job that takes these two files and no more.
 pub fn prepare_run<F: Files>(
     alloc: Global,
     files: &mut F,
@@ -89,10 +95,16 @@ pub fn prepare_run<F: Files>(
     devices: Vec<Box<dyn Device>>,
 ) -> Result<Board, NamedFault>
     requires fresh { AreFresh (map shown devices.items) }
-    ensures ready { (job : Asked) (verdict : Scenario → Verdict) → RunsImage (map shown devices.items) job image.now script.now verdict
-        → IfOk result (IsReady shown (map shown devices.items) job (F.seen files.old).contents verdict) }
-    ensures set { IfOk result (IsRunSet shown (map shown devices.items) image.now script.now (F.seen files.old).contents) }
-    ensures named_fault { (job : Asked) → TakesImage (map shown devices.items) job image.now script.now → IfErr result (IsNamedFaultIn (map shown devices.items) job (F.seen files.old) (F.seen files.new)) }
+    ensures ready { (job : Asked) (verdict : Scenario → Verdict) →
+        RunsImage (map shown devices.items) job image.now script.now verdict
+        → IfOk result (IsReady shown (map shown devices.items) job (F.seen files.old).contents
+        verdict) }
+    ensures set { IfOk result (IsRunSet shown (map shown devices.items) image.now script.now
+        (F.seen files.old).contents) }
+    ensures named_fault { (job : Asked) →
+        TakesImage (map shown devices.items) job image.now script.now →
+        IfErr result (IsNamedFaultIn (map shown devices.items) job (F.seen files.old)
+        (F.seen files.new)) }
     ensures only_reads { OnlyReads (F.seen files.old) (F.seen files.new) }
 {
     match read_image(alloc, files, image) {
@@ -101,8 +113,9 @@ pub fn prepare_run<F: Files>(
     }
 }
 
-/// The board at the start of the run of the application and the script under these names, with devices, and the application; and where the
-/// instructions and the labels of its sources lie, if that is wanted. It is the run of each job that takes these files.
+/// The board at the start of the run of the application and the script under these names, with
+/// devices, and the application; and where the instructions and the labels of its sources lie, if
+/// that is wanted. It is the run of each job that takes these files.
 pub fn prepare_app<F: Files>(
     alloc: Global,
     files: &mut F,
@@ -112,10 +125,16 @@ pub fn prepare_app<F: Files>(
     devices: Vec<Box<dyn Device>>,
 ) -> Result<(Board, BuiltApp), NamedFault>
     requires fresh { AreFresh (map shown devices.items) }
-    ensures ready { (job : Asked) (verdict : AppData → List (List ℕ) → Scenario → Verdict) → RunsApp (map shown devices.items) job app.now script.now verdict
-        → IfOk result (λ p. IsAppReady shown (map shown devices.items) job (F.seen files.old).contents verdict wanted p.0 (app_of p.1.app) p.1.lines) }
-    ensures set { IfOk result (λ p. IsAppSet shown (map shown devices.items) app.now script.now (F.seen files.old).contents wanted p.0 (app_of p.1.app) p.1.lines) }
-    ensures named_fault { (job : Asked) → TakesApp (map shown devices.items) job app.now script.now → IfErr result (IsNamedFaultIn (map shown devices.items) job (F.seen files.old) (F.seen files.new)) }
+    ensures ready { (job : Asked) (verdict : AppData → List (List ℕ) → Scenario → Verdict) →
+        RunsApp (map shown devices.items) job app.now script.now verdict
+        → IfOk result (λ p. IsAppReady shown (map shown devices.items) job
+        (F.seen files.old).contents verdict wanted p.0 (app_of p.1.app) p.1.lines) }
+    ensures set { IfOk result (λ p. IsAppSet shown (map shown devices.items) app.now script.now
+        (F.seen files.old).contents wanted p.0 (app_of p.1.app) p.1.lines) }
+    ensures named_fault { (job : Asked) →
+        TakesApp (map shown devices.items) job app.now script.now →
+        IfErr result (IsNamedFaultIn (map shown devices.items) job (F.seen files.old)
+        (F.seen files.new)) }
     ensures only_reads { OnlyReads (F.seen files.old) (F.seen files.new) }
 {
     let built = match built_app(alloc, files, app, wanted) {
@@ -128,7 +147,8 @@ pub fn prepare_app<F: Files>(
     }
 }
 
-/// The board at the start of the run of the application and the script under these names, with devices.
+/// The board at the start of the run of the application and the script under these names, with
+/// devices.
 pub fn prepare_go<F: Files>(
     alloc: Global,
     files: &mut F,
@@ -137,8 +157,12 @@ pub fn prepare_go<F: Files>(
     devices: Vec<Box<dyn Device>>,
 ) -> Result<Board, NamedFault>
     requires fresh { AreFresh (map shown devices.items) }
-    ensures ready { (n : ℕ) (detail : Detail) → IfOk result (IsReady shown (map shown devices.items) (go_job app.now script.now n detail) (F.seen files.old).contents (ran n detail)) }
-    ensures named_fault { (n : ℕ) (detail : Detail) → IfErr result (IsNamedFaultIn (map shown devices.items) (go_job app.now script.now n detail) (F.seen files.old) (F.seen files.new)) }
+    ensures ready { (n : ℕ) (detail : Detail) →
+        IfOk result (IsReady shown (map shown devices.items) (go_job app.now script.now n detail)
+        (F.seen files.old).contents (ran n detail)) }
+    ensures named_fault { (n : ℕ) (detail : Detail) →
+        IfErr result (IsNamedFaultIn (map shown devices.items) (go_job app.now script.now n detail)
+        (F.seen files.old) (F.seen files.new)) }
     ensures only_reads { OnlyReads (F.seen files.old) (F.seen files.new) }
 {
     match prepare_app(alloc, files, app, script, false, devices) {

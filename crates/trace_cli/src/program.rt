@@ -12,19 +12,19 @@ use crate::commands::audit::audit_file;
 use crate::commands::build::build_file;
 use crate::commands::cover::cover_files;
 use crate::commands::debug::debug_files;
-use crate::commands::picture::picture_files;
 use crate::commands::help::help;
+use crate::commands::lcov::lcov_files;
 use crate::commands::list::list_file;
 use crate::commands::live::live_files;
 use crate::commands::migrate::migrate_file;
+use crate::commands::picture::picture_files;
 use crate::commands::resume::resume_files;
 use crate::commands::run::{go_files, run_files};
 use crate::commands::sample::run_sample;
 use crate::commands::save::save_file;
 use crate::commands::sweep::sweep_files;
-use crate::lines::tell_usage;
 use crate::commands::timeline::timeline_files;
-use crate::commands::lcov::lcov_files;
+use crate::lines::tell_usage;
 use command_line::{Job, Refusal, read_words};
 use devices::Device;
 use outside_io::{Files, Sink};
@@ -39,11 +39,15 @@ fn answer<F: Files, S: Sink>(
     devices: Vec<Box<dyn Device>>,
 ) -> u8
     requires fresh { AreFresh (map shown devices.items) }
-    ensures answer { Answers (map shown devices.items) (texts_of words.now) (F.seen files.old) (F.seen files.new) (S.seen out.old) (S.seen out.new) result }
+    ensures answer { Answers (map shown devices.items) (texts_of words.now) (F.seen files.old)
+        (F.seen files.new) (S.seen out.old) (S.seen out.new) result }
     ensures later { (F.seen files.old).read_faults ≤ (F.seen files.new).read_faults }
     ensures puts { (F.seen files.old).put_faults ≤ (F.seen files.new).put_faults }
-    ensures no_put { out_of (job_in (texts_of words.now)) ≡ None → (F.seen files.new).put_faults ≡ (F.seen files.old).put_faults }
-    ensures each { (job : Asked) → job_in (texts_of words.now) ≡ Some job → TellsEach (map shown devices.items) job (F.seen files.old) (F.seen files.new) (S.seen out.old) (S.seen out.new) result }
+    ensures no_put { out_of (job_in (texts_of words.now)) ≡ None →
+        (F.seen files.new).put_faults ≡ (F.seen files.old).put_faults }
+    ensures each { (job : Asked) → job_in (texts_of words.now) ≡ Some job →
+        TellsEach (map shown devices.items) job (F.seen files.old) (F.seen files.new)
+        (S.seen out.old) (S.seen out.new) result }
 {
     match read_words(alloc, words) {
         Ok(Job::Build { app, out: name }) => build_file(alloc, app, name, files, out),
@@ -156,7 +160,8 @@ fn answer<F: Files, S: Sink>(
 
 /// The whole program. `words` are those of the command line, the program's name first; lines go to
 /// `out`, one push each; the answer is the exit status. `devices` are those of the run of every
-/// command but `sample`: at most eight, to which nothing has come as yet, each at a place of its own.
+/// command but `sample`: at most eight, to which nothing has come as yet, each at a place of its
+/// own.
 ///
 /// What each command takes, writes and puts is in docs/FORMATS.md, Command line. The status is
 ///
@@ -165,14 +170,14 @@ fn answer<F: Files, S: Sink>(
 /// - 2: the words are not accepted, and the usage line was written.
 /// - 3: a file cannot be read, and `cannot read <name>` was written; where it is the COMMANDS of
 ///   `live`, behind the answers to the lines that came.
-/// - 4: the output failed: the beginning of the text was written, and what is put is under OUT. Or
-///   the put failed: nothing was written, and under OUT are the old contents or the beginning of the
-///   new ones.
+/// - 4: the output failed: the beginning of the text was written, and what is put is under OUT.
+///   Or the put failed: nothing was written, and under OUT are the old contents or the beginning of
+///   the new ones.
 /// - 5: memory is short, and nothing was written or put.
-/// - 6: as 0, of `run`, `go`, `resume`, `sample`, `cover` or `timeline`, and the run ended because
-///   the supervisor faulted. Other commands have 0 then too.
-/// - 7: of `audit`: the trace does not hold together, and `no <line>` was written: its first line,
-///   from 1 on, that does not follow.
+/// - 6: as 0, of `run`, `go`, `resume`, `sample`, `cover` or `timeline`, and the run ended
+///   because the supervisor faulted. Other commands have 0 then too.
+/// - 7: of `audit`: the trace does not hold together, and `no <line>` was written: its first
+///   line, from 1 on, that does not follow.
 /// - 8: as 0, of a `sweep` in which some arrival time makes a difference.
 pub fn hubris_main_with<F: Files, S: Sink>(
     alloc: Global,
@@ -183,33 +188,55 @@ pub fn hubris_main_with<F: Files, S: Sink>(
 ) -> u8
     requires fresh { AreFresh (map shown devices.items) }
 
-    // Where the words and the seen contents give a verdict, its file was put, and its whole text was
-    // pushed under its status; or the sink's count of faults rose, the status is 4, and a front of the
-    // text was pushed; or the count of failed puts rose, the status is 4, and nothing was pushed; or
-    // memory is short, the status is 5, and nothing was pushed or put; or the count of failed reads
-    // rose, and the same holds of the line of a file that cannot be read, behind what was told before.
-    ensures seen { AnswersEach (map shown devices.items) (texts_of words.now) (F.seen files.old) (F.seen files.new) (S.seen out.old) (S.seen out.new) result }
-    ensures complete { ¬ Rose (F.seen files.old).read_faults (F.seen files.new).read_faults → ¬ Rose (F.seen files.old).put_faults (F.seen files.new).put_faults → ¬ Rose (S.seen out.old).faults (S.seen out.new).faults →
-        (v : Verdict) → IsVerdict (map shown devices.items) (texts_of words.now) (F.seen files.old).contents v → IsComplete (F.seen files.old) (F.seen files.new) (S.seen out.old) (S.seen out.new) v result }
+    // Where the words and the seen contents give a verdict, its file was put, and its whole text
+    // was pushed under its status; or the sink's count of faults rose, the status is 4, and a front
+    // of the text was pushed; or the count of failed puts rose, the status is 4, and nothing was
+    // pushed; or memory is short, the status is 5, and nothing was pushed or put; or the count of
+    // failed reads rose, and the same holds of the line of a file that cannot be read, behind what
+    // was told before.
+    ensures seen { AnswersEach (map shown devices.items) (texts_of words.now) (F.seen files.old)
+        (F.seen files.new) (S.seen out.old) (S.seen out.new) result }
+    ensures complete { ¬ Rose (F.seen files.old).read_faults (F.seen files.new).read_faults →
+        ¬ Rose (F.seen files.old).put_faults (F.seen files.new).put_faults →
+        ¬ Rose (S.seen out.old).faults (S.seen out.new).faults →
+        (v : Verdict) → IsVerdict (map shown devices.items) (texts_of words.now)
+        (F.seen files.old).contents v →
+        IsComplete (F.seen files.old) (F.seen files.new) (S.seen out.old) (S.seen out.new) v
+        result }
 
-    // What `resume` tells: the run from each state that its file spells, and so from what `save` puts what is left of the same run.
-    ensures each { (job : Asked) → job_in (texts_of words.now) ≡ Some job → TellsEach (map shown devices.items) job (F.seen files.old) (F.seen files.new) (S.seen out.old) (S.seen out.new) result }
-    ensures goes_on { GoesOn (map shown devices.items) (texts_of words.now) (F.seen files.old) (F.seen files.new) (S.seen out.old) (S.seen out.new) result }
+    // What `resume` tells: the run from each state that its file spells, and so from what `save`
+    // puts what is left of the same run.
+    ensures each { (job : Asked) → job_in (texts_of words.now) ≡ Some job →
+        TellsEach (map shown devices.items) job (F.seen files.old) (F.seen files.new)
+        (S.seen out.old) (S.seen out.new) result }
+    ensures goes_on { GoesOn (map shown devices.items) (texts_of words.now) (F.seen files.old)
+        (F.seen files.new) (S.seen out.old) (S.seen out.new) result }
 
     // When each status comes, and what was pushed and put with it.
-    ensures done { IsDone result → HasDone (map shown devices.items) (texts_of words.now) (F.seen files.old) (F.seen files.new) (S.seen out.old) (S.seen out.new) result }
-    ensures refused { result ≡ 1 → HasRefused (map shown devices.items) (texts_of words.now) (F.seen files.old).contents (S.seen out.old) (S.seen out.new) }
-    ensures no_command { result ≡ 2 → (is_accepted (texts_of words.now) ≡ false) × Appends (S.seen out.old).written (S.seen out.new).written usage_line }
-    ensures unread { result ≡ 3 → HasUnread (map shown devices.items) (texts_of words.now) (F.seen files.old) (F.seen files.new) (S.seen out.old) (S.seen out.new) }
-    ensures cut { result ≡ 4 → HasFront (map shown devices.items) (texts_of words.now) (F.seen files.old) (F.seen files.new) (S.seen out.old) (S.seen out.new) }
-    ensures short { result ≡ 5 → ((S.seen out.new).written ≡ (S.seen out.old).written) × ((S.seen out.new).faults ≡ (S.seen out.old).faults) × ((F.seen files.new).contents ≡ (F.seen files.old).contents) }
+    ensures done { IsDone result → HasDone (map shown devices.items) (texts_of words.now)
+        (F.seen files.old) (F.seen files.new) (S.seen out.old) (S.seen out.new) result }
+    ensures refused { result ≡ 1 → HasRefused (map shown devices.items) (texts_of words.now)
+        (F.seen files.old).contents (S.seen out.old) (S.seen out.new) }
+    ensures no_command { result ≡ 2 → (is_accepted (texts_of words.now) ≡ false)
+        × Appends (S.seen out.old).written (S.seen out.new).written usage_line }
+    ensures unread { result ≡ 3 → HasUnread (map shown devices.items) (texts_of words.now)
+        (F.seen files.old) (F.seen files.new) (S.seen out.old) (S.seen out.new) }
+    ensures cut { result ≡ 4 → HasFront (map shown devices.items) (texts_of words.now)
+        (F.seen files.old) (F.seen files.new) (S.seen out.old) (S.seen out.new) }
+    ensures short { result ≡ 5 → ((S.seen out.new).written ≡ (S.seen out.old).written)
+        × ((S.seen out.new).faults ≡ (S.seen out.old).faults)
+        × ((F.seen files.new).contents ≡ (F.seen files.old).contents) }
     ensures known { result ≤ 8 }
 
     // Only the file under OUT is changed, and only under the statuses 0 and 4.
-    ensures others { (name : List ℕ) → out_of (job_in (texts_of words.now)) ≢ Some name → (F.seen files.new).contents name ≡ (F.seen files.old).contents name }
-    ensures kept { result ≢ 0 → result ≢ 4 → (F.seen files.new).contents ≡ (F.seen files.old).contents }
-    ensures no_put { out_of (job_in (texts_of words.now)) ≡ None → (F.seen files.new).put_faults ≡ (F.seen files.old).put_faults }
-    ensures later { ((F.seen files.old).read_faults ≤ (F.seen files.new).read_faults) × ((F.seen files.old).put_faults ≤ (F.seen files.new).put_faults) }
+    ensures others { (name : List ℕ) → out_of (job_in (texts_of words.now)) ≢ Some name →
+        (F.seen files.new).contents name ≡ (F.seen files.old).contents name }
+    ensures kept { result ≢ 0 → result ≢ 4 →
+        (F.seen files.new).contents ≡ (F.seen files.old).contents }
+    ensures no_put { out_of (job_in (texts_of words.now)) ≡ None →
+        (F.seen files.new).put_faults ≡ (F.seen files.old).put_faults }
+    ensures later { ((F.seen files.old).read_faults ≤ (F.seen files.new).read_faults)
+        × ((F.seen files.old).put_faults ≤ (F.seen files.new).put_faults) }
 {
     answer(alloc, words, files, out, devices)
 }
@@ -221,25 +248,44 @@ pub fn hubris_main<F: Files, S: Sink>(
     files: &mut F,
     out: &mut S,
 ) -> u8
-    ensures seen { AnswersEach [] (texts_of words.now) (F.seen files.old) (F.seen files.new) (S.seen out.old) (S.seen out.new) result }
-    ensures complete { ¬ Rose (F.seen files.old).read_faults (F.seen files.new).read_faults → ¬ Rose (F.seen files.old).put_faults (F.seen files.new).put_faults → ¬ Rose (S.seen out.old).faults (S.seen out.new).faults →
-        (v : Verdict) → IsVerdict [] (texts_of words.now) (F.seen files.old).contents v → IsComplete (F.seen files.old) (F.seen files.new) (S.seen out.old) (S.seen out.new) v result }
+    ensures seen { AnswersEach [] (texts_of words.now) (F.seen files.old) (F.seen files.new)
+        (S.seen out.old) (S.seen out.new) result }
+    ensures complete { ¬ Rose (F.seen files.old).read_faults (F.seen files.new).read_faults →
+        ¬ Rose (F.seen files.old).put_faults (F.seen files.new).put_faults →
+        ¬ Rose (S.seen out.old).faults (S.seen out.new).faults →
+        (v : Verdict) → IsVerdict [] (texts_of words.now) (F.seen files.old).contents v →
+        IsComplete (F.seen files.old) (F.seen files.new) (S.seen out.old) (S.seen out.new) v
+        result }
 
-    ensures each { (job : Asked) → job_in (texts_of words.now) ≡ Some job → TellsEach [] job (F.seen files.old) (F.seen files.new) (S.seen out.old) (S.seen out.new) result }
-    ensures goes_on { GoesOn [] (texts_of words.now) (F.seen files.old) (F.seen files.new) (S.seen out.old) (S.seen out.new) result }
+    ensures each { (job : Asked) → job_in (texts_of words.now) ≡ Some job →
+        TellsEach [] job (F.seen files.old) (F.seen files.new) (S.seen out.old) (S.seen out.new)
+        result }
+    ensures goes_on { GoesOn [] (texts_of words.now) (F.seen files.old) (F.seen files.new)
+        (S.seen out.old) (S.seen out.new) result }
 
-    ensures done { IsDone result → HasDone [] (texts_of words.now) (F.seen files.old) (F.seen files.new) (S.seen out.old) (S.seen out.new) result }
-    ensures refused { result ≡ 1 → HasRefused [] (texts_of words.now) (F.seen files.old).contents (S.seen out.old) (S.seen out.new) }
-    ensures no_command { result ≡ 2 → (is_accepted (texts_of words.now) ≡ false) × Appends (S.seen out.old).written (S.seen out.new).written usage_line }
-    ensures unread { result ≡ 3 → HasUnread [] (texts_of words.now) (F.seen files.old) (F.seen files.new) (S.seen out.old) (S.seen out.new) }
-    ensures cut { result ≡ 4 → HasFront [] (texts_of words.now) (F.seen files.old) (F.seen files.new) (S.seen out.old) (S.seen out.new) }
-    ensures short { result ≡ 5 → ((S.seen out.new).written ≡ (S.seen out.old).written) × ((S.seen out.new).faults ≡ (S.seen out.old).faults) × ((F.seen files.new).contents ≡ (F.seen files.old).contents) }
+    ensures done { IsDone result → HasDone [] (texts_of words.now) (F.seen files.old)
+        (F.seen files.new) (S.seen out.old) (S.seen out.new) result }
+    ensures refused { result ≡ 1 → HasRefused [] (texts_of words.now) (F.seen files.old).contents
+        (S.seen out.old) (S.seen out.new) }
+    ensures no_command { result ≡ 2 → (is_accepted (texts_of words.now) ≡ false)
+        × Appends (S.seen out.old).written (S.seen out.new).written usage_line }
+    ensures unread { result ≡ 3 → HasUnread [] (texts_of words.now) (F.seen files.old)
+        (F.seen files.new) (S.seen out.old) (S.seen out.new) }
+    ensures cut { result ≡ 4 → HasFront [] (texts_of words.now) (F.seen files.old)
+        (F.seen files.new) (S.seen out.old) (S.seen out.new) }
+    ensures short { result ≡ 5 → ((S.seen out.new).written ≡ (S.seen out.old).written)
+        × ((S.seen out.new).faults ≡ (S.seen out.old).faults)
+        × ((F.seen files.new).contents ≡ (F.seen files.old).contents) }
     ensures known { result ≤ 8 }
 
-    ensures others { (name : List ℕ) → out_of (job_in (texts_of words.now)) ≢ Some name → (F.seen files.new).contents name ≡ (F.seen files.old).contents name }
-    ensures kept { result ≢ 0 → result ≢ 4 → (F.seen files.new).contents ≡ (F.seen files.old).contents }
-    ensures no_put { out_of (job_in (texts_of words.now)) ≡ None → (F.seen files.new).put_faults ≡ (F.seen files.old).put_faults }
-    ensures later { ((F.seen files.old).read_faults ≤ (F.seen files.new).read_faults) × ((F.seen files.old).put_faults ≤ (F.seen files.new).put_faults) }
+    ensures others { (name : List ℕ) → out_of (job_in (texts_of words.now)) ≢ Some name →
+        (F.seen files.new).contents name ≡ (F.seen files.old).contents name }
+    ensures kept { result ≢ 0 → result ≢ 4 →
+        (F.seen files.new).contents ≡ (F.seen files.old).contents }
+    ensures no_put { out_of (job_in (texts_of words.now)) ≡ None →
+        (F.seen files.new).put_faults ≡ (F.seen files.old).put_faults }
+    ensures later { ((F.seen files.old).read_faults ≤ (F.seen files.new).read_faults)
+        × ((F.seen files.old).put_faults ≤ (F.seen files.new).put_faults) }
 {
     hubris_main_with(alloc, words, files, out, Vec::new(alloc))
 }

@@ -14,7 +14,9 @@ pub fn put_told<F: Files, S: Sink>(
     files: &mut F,
     out: &mut S,
 ) -> u8
-    ensures tells { (v : Verdict) → v.status ≡ 0 → v.text ≡ line.now → v.put ≡ Some (name.now, bytes.now) → Tells (F.seen files.old) (F.seen files.new) (S.seen out.old) (S.seen out.new) v result }
+    ensures tells { (v : Verdict) → v.status ≡ 0 → v.text ≡ line.now →
+        v.put ≡ Some (name.now, bytes.now) →
+        Tells (F.seen files.old) (F.seen files.new) (S.seen out.old) (S.seen out.new) v result }
     ensures reads { (F.seen files.new).read_faults ≡ (F.seen files.old).read_faults }
     ensures puts { (F.seen files.old).put_faults ≤ (F.seen files.new).put_faults }
 {

@@ -7,8 +7,8 @@ ghost use Rattle.trace_cli.specs.Building.{HasListed, KeepsNone};
 use std::alloc::{AllocError, Global};
 use thumb_asm::{InsnLine, Label, instruction_lines, label_lines};
 
-/// The lines of each source that are instructions, and the labels of all, with their addresses; none is kept where they are not
-/// wanted.
+/// The lines of each source that are instructions, and the labels of all, with their addresses;
+/// none is kept where they are not wanted.
 #[derive(Drop)]
 pub struct SourceLines {
     pub wanted: bool,
@@ -32,7 +32,8 @@ impl SourceLines {
     /// Adds those of a source whose first line stands at `base`.
     pub fn add(&mut self, alloc: Global, source: &[u8], base: u32) -> Result<(), AllocError>
         requires { base + 1048576 < 2 ^ 32 }
-        ensures { OnOk result (HasListed (insn_lines (placed base (lines_of source.now))) (labels_of (placed base (lines_of source.now))) self.old self.new) }
+        ensures { OnOk result (HasListed (insn_lines (placed base (lines_of source.now)))
+            (labels_of (placed base (lines_of source.now))) self.old self.new) }
     {
         if self.wanted {
             let lines = instruction_lines(alloc, source, base)?;

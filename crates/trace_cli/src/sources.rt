@@ -16,7 +16,8 @@ use outside_io::{Files, ReadAll, read_all};
 use run_script::{Script, ScriptFault};
 use std::alloc::Global;
 
-/// The most bytes of an image, of a script, of an application, of a source, of a saved state or of commands.
+/// The most bytes of an image, of a script, of an application, of a source, of a saved state or of
+/// commands.
 pub const FILE_LIMIT: u32 = 2_097_152;
 
 /// The contents under a name, of at most `limit` bytes.
@@ -28,7 +29,8 @@ pub fn read_contents<F: Files>(
 ) -> Result<Vec<u8>, FileFault>
     ensures held { IfOk result (λ v. MayBe (F.seen files.old).contents name.now v.items) }
     ensures few { IfOk result (λ v. length v.items ≤ limit) }
-    ensures file_fault { IfErr result (CannotTake (F.seen files.old) (F.seen files.new) name.now limit) }
+    ensures file_fault { IfErr result
+        (CannotTake (F.seen files.old) (F.seen files.new) name.now limit) }
     ensures only_reads { OnlyReads (F.seen files.old) (F.seen files.new) }
 {
     match read_all(alloc, files, name, limit as usize) {

@@ -1,5 +1,6 @@
 #![tactic(auto)]
-//! The lines of a trace, one of each note (docs/FORMATS.md, Trace), and the words of which they are made.
+//! The lines of a trace, one of each note (docs/FORMATS.md, Trace), and the words of which they are
+//! made.
 
 mod lines;
 mod turn;

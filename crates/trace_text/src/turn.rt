@@ -9,8 +9,9 @@ use crate::words::{push_decimal, push_two};
 use arrayvec::ArrayString;
 use kernel_abi::Note;
 
-/// The lines of a turn, one after the other in one buffer, which begins with the digits of the turn's number: these
-/// are made once, in the buffer itself, since to move a buffer costs as much as a line, and serve the next turn too.
+/// The lines of a turn, one after the other in one buffer, which begins with the digits of the
+/// turn's number: these are made once, in the buffer itself, since to move a buffer costs as much
+/// as a line, and serve the next turn too.
 #[derive(Drop)]
 pub struct TurnLines {
     pub number: u32,
@@ -59,7 +60,8 @@ impl TurnLines {
         self.number = number;
     }
 
-    /// Goes on to a turn, before its first line. Mostly only the last two digits are others than those of the turn before.
+    /// Goes on to a turn, before its first line. Mostly only the last two digits are others than
+    /// those of the turn before.
     #[inline(always)]
     pub fn go_to(&mut self, number: u32)
         ensures number { self.new.number ≡ number }
@@ -92,7 +94,8 @@ impl TurnLines {
         }
     }
 
-    /// Puts the line of a note, with its LF, in the place of the line before. A code that is no instruction has no text.
+    /// Puts the line of a note, with its LF, in the place of the line before. A code that is no
+    /// instruction has no text.
     #[inline(always)]
     pub fn write(&mut self, note: &Note)
         ensures line { last_line self.new ≡ line_of self.old.number note.now }

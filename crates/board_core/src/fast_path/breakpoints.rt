@@ -5,7 +5,8 @@ ghost use Rattle.board_core.specs.fast.Breakpoints.{stands, hit_of, IsStretch};
 use board_model::Turned;
 use region_check::Region;
 
-/// Bytes of a region of the flash, from an address on, from which a task can fetch with no look at the breakpoints.
+/// Bytes of a region of the flash, from an address on, from which a task can fetch with no look at
+/// the breakpoints.
 #[derive(Clone, Copy)]
 pub struct Stretch {
     pub base: u32,

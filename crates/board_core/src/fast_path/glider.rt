@@ -1,4 +1,5 @@
-//! The processor of the current task, which can have a window, the bytes of four of the task's regions.
+//! The processor of the current task, which can have a window, the bytes of four of the task's
+//! regions.
 ghost use Rattle.std.specs.Prelude.{◌≡◌, ◌≤◌, ◌<◌, true, false, length, replicate, []};
 ghost use Rattle.thumb_step.specs.Windows.{Glides, IsApart, Keeps, IsAtSyscall, is_at_syscall, view_of};
 ghost use Rattle.board_core.specs.fast.Gliding.{HasWorked, IsLast, TellsCall};
@@ -13,8 +14,8 @@ use thumb_exec::lazy_flags::LazyFlags;
 use thumb_step::{Runner, Window};
 use words_core::{Flags, Regs};
 
-/// A processor that makes instructions on end while it has a window, the bytes of a region of flash and of three of RAM. Between
-/// two uses its window has no bytes.
+/// A processor that makes instructions on end while it has a window, the bytes of a region of flash
+/// and of three of RAM. Between two uses its window has no bytes.
 #[derive(Drop)]
 pub struct Glider {
     pub runner: Runner,
@@ -80,7 +81,8 @@ pub fn no_window(alloc: Global) -> Window
     }
 }
 
-/// A window is to have the bytes of these four regions, and instructions are fetched from a stretch of the first.
+/// A window is to have the bytes of these four regions, and instructions are fetched from a stretch
+/// of the first.
 #[inline(always)]
 pub fn aim_window(
     window: &mut Window,
@@ -131,7 +133,8 @@ impl Glider {
         }
     }
 
-    /// It is to make so many instructions at most, within these four regions, each of them fetched from a stretch of the first.
+    /// It is to make so many instructions at most, within these four regions, each of them fetched
+    /// from a stretch of the first.
     pub fn aim(
         &mut self,
         flash: &Region,
@@ -159,12 +162,15 @@ impl Glider {
 
     /// The instructions, where the stretch lies within the flash, and the flash below the RAM.
     fn glide(&mut self) -> u32
-        ensures glides { Glides (view_of self.old.runner.window) self.old.runner.processor result (view_of self.new.runner.window) self.new.runner.processor }
+        ensures glides { Glides (view_of self.old.runner.window) self.old.runner.processor result
+            (view_of self.new.runner.window) self.new.runner.processor }
         ensures within { result ≤ self.old.most }
-        ensures far { IsApart (view_of self.old.runner.window) → result < self.old.most → IsLast (view_of self.new.runner.window) self.new.runner.processor }
+        ensures far { IsApart (view_of self.old.runner.window) → result < self.old.most →
+            IsLast (view_of self.new.runner.window) self.new.runner.processor }
         ensures fixed { Keeps (view_of self.old.runner.window) (view_of self.new.runner.window) }
         ensures most { self.new.most ≡ self.old.most }
-        ensures tells { TellsCall self.old.most result (view_of self.old.runner.window) (view_of self.new.runner.window) self.new.runner.processor self.new.at_syscall }
+        ensures tells { TellsCall self.old.most result (view_of self.old.runner.window)
+            (view_of self.new.runner.window) self.new.runner.processor self.new.at_syscall }
     {
         if !is_apart(&self.runner.window) {
             self.at_syscall = false;
@@ -173,20 +179,26 @@ impl Glider {
         self.run()
     }
 
-    /// The same, where it is known that they do. It is a function of its own, so that LLVM has the runner's loop in it.
+    /// The same, where it is known that they do. It is a function of its own, so that LLVM has the
+    /// runner's loop in it.
     #[inline(never)]
     fn run(&mut self) -> u32
         requires apart { IsApart (view_of self.old.runner.window) }
-        ensures glides { Glides (view_of self.old.runner.window) self.old.runner.processor result (view_of self.new.runner.window) self.new.runner.processor }
+        ensures glides { Glides (view_of self.old.runner.window) self.old.runner.processor result
+            (view_of self.new.runner.window) self.new.runner.processor }
         ensures within { result ≤ self.old.most }
-        ensures far { result < self.old.most → IsLast (view_of self.new.runner.window) self.new.runner.processor }
+        ensures far { result < self.old.most →
+            IsLast (view_of self.new.runner.window) self.new.runner.processor }
         ensures fixed { Keeps (view_of self.old.runner.window) (view_of self.new.runner.window) }
         ensures most { self.new.most ≡ self.old.most }
 
         // It stopped at a system call where it says so, and says so where it did.
         ensures short { self.new.at_syscall ≡ true → result < self.old.most }
-        ensures calls { self.new.at_syscall ≡ true → IsAtSyscall (view_of self.new.runner.window) self.new.runner.processor }
-        ensures told { result < self.old.most → self.new.at_syscall ≡ is_at_syscall (view_of self.new.runner.window) self.new.runner.processor }
+        ensures calls { self.new.at_syscall ≡ true →
+            IsAtSyscall (view_of self.new.runner.window) self.new.runner.processor }
+        ensures told { result < self.old.most →
+            self.new.at_syscall ≡ is_at_syscall (view_of self.new.runner.window)
+            self.new.runner.processor }
     {
         let made = self.runner.glide(self.most);
         self.at_syscall = made < self.most
@@ -194,13 +206,17 @@ impl Glider {
         made
     }
 
-    /// The instructions, where the window has flash and RAM, and these are its areas. Most tasks have none: then the window's own
-    /// are emptied, which is one store each, where two swaps are twelve.
+    /// The instructions, where the window has flash and RAM, and these are its areas. Most tasks
+    /// have none: then the window's own are emptied, which is one store each, where two swaps are
+    /// twelve.
     #[inline(always)]
     fn work_beside(&mut self, area: &mut Vec<u8>, second: &mut Vec<u8>)
-        ensures did { HasWorked self.old self.old.runner.window.flash.items self.old.runner.window.ram.items area.old.items second.old.items self.new self.new.runner.window.ram.items area.new.items second.new.items }
+        ensures did { HasWorked self.old self.old.runner.window.flash.items
+            self.old.runner.window.ram.items area.old.items second.old.items self.new
+            self.new.runner.window.ram.items area.new.items second.new.items }
         ensures flash { self.new.runner.window.flash.items ≡ self.old.runner.window.flash.items }
-        ensures length { length self.new.runner.window.ram.items ≡ length self.old.runner.window.ram.items }
+        ensures length { length self.new.runner.window.ram.items ≡ length
+            self.old.runner.window.ram.items }
         ensures area { length area.new.items ≡ length area.old.items }
         ensures second { length second.new.items ≡ length second.old.items }
     {

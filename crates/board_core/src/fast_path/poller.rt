@@ -1,4 +1,5 @@
-//! The processor of the current task while it has a window and, beside it, the devices of which the task may read some.
+//! The processor of the current task while it has a window and, beside it, the devices of which the
+//! task may read some.
 ghost use Rattle.std.specs.Prelude.{◌≡◌, ◌/◌, ◌≤◌, ◌<◌, Some, MatchOption, true, false, []};
 ghost use Rattle.words_core.specs.Regs.{reg_at, program_counter};
 ghost use Rattle.region_check.specs.declared.Right.TheVariants.{Execute};
@@ -35,8 +36,8 @@ pub struct Seen {
     pub io_regions: Vec<Region>,
 }
 
-/// A processor that makes instructions on end over a window and the devices. Between two uses it sees no device and no
-/// port, and its window has no bytes.
+/// A processor that makes instructions on end over a window and the devices. Between two uses it
+/// sees no device and no port, and its window has no bytes.
 #[derive(Drop)]
 pub struct Poller {
     pub processor: Cpu,
@@ -75,12 +76,14 @@ impl Seen {
         }
     }
 
-    /// The halfword at an address, where it may be executed, by how many places the stretch of the window has for one.
+    /// The halfword at an address, where it may be executed, by how many places the stretch of the
+    /// window has for one.
     #[inline(always)]
     fn code_half(&self, addr: u32, places: u32) -> Option<u16>
         requires apart { IsApart (view_of self.now.window) }
         requires places { places ≡ code_places (view_of self.now.window) }
-        ensures { MatchOption result (refused_at (sight_of shown self.now) addr 2 Execute ≡ Some addr) (λ half. IsFetchedAt (sight_of shown self.now) addr half) }
+        ensures { MatchOption result (refused_at (sight_of shown self.now) addr 2 Execute ≡ Some
+            addr) (λ half. IsFetchedAt (sight_of shown self.now) addr half) }
     {
         if is_device(addr) {
             return None;
@@ -191,13 +194,16 @@ impl Poller {
         }
     }
 
-    /// One instruction over the window and the devices, where it goes on; else nothing changes, and the answer is false.
+    /// One instruction over the window and the devices, where it goes on; else nothing changes, and
+    /// the answer is false.
     #[inline(always)]
     fn step(&mut self, places: u32) -> bool
         requires apart { IsApart (view_of self.old.seen.window) }
         requires places { places ≡ code_places (view_of self.old.seen.window) }
-        ensures goes { result ≡ true → GoesOnBeside (sight_of shown self.old.seen) self.old.processor (sight_of shown self.new.seen) self.new.processor }
-        ensures halts { result ≡ false → IsAtLimit (sight_of shown self.old.seen) self.old.processor }
+        ensures goes { result ≡ true → GoesOnBeside (sight_of shown self.old.seen)
+            self.old.processor (sight_of shown self.new.seen) self.new.processor }
+        ensures halts { result ≡ false →
+            IsAtLimit (sight_of shown self.old.seen) self.old.processor }
         ensures kept { result ≡ false → self.new ≡ self.old }
         ensures fixed { Keeps (view_of self.old.seen.window) (view_of self.new.seen.window) }
         ensures io_regions { self.new.seen.io_regions ≡ self.old.seen.io_regions }
@@ -224,8 +230,10 @@ impl Poller {
         requires here { at ≡ reg_at self.old.processor.regs program_counter }
         requires first { IsFetchedAt (sight_of shown self.old.seen) at first }
         requires wide { 29 ≤ first / 2048 }
-        ensures goes { result ≡ true → GoesOnBeside (sight_of shown self.old.seen) self.old.processor (sight_of shown self.new.seen) self.new.processor }
-        ensures halts { result ≡ false → IsAtLimit (sight_of shown self.old.seen) self.old.processor }
+        ensures goes { result ≡ true → GoesOnBeside (sight_of shown self.old.seen)
+            self.old.processor (sight_of shown self.new.seen) self.new.processor }
+        ensures halts { result ≡ false →
+            IsAtLimit (sight_of shown self.old.seen) self.old.processor }
         ensures kept { result ≡ false → self.new ≡ self.old }
         ensures fixed { Keeps (view_of self.old.seen.window) (view_of self.new.seen.window) }
         ensures io_regions { self.new.seen.io_regions ≡ self.old.seen.io_regions }
@@ -243,7 +251,8 @@ impl Poller {
     #[inline(never)]
     fn run(&mut self, most: u32) -> u32
         requires apart { IsApart (view_of self.old.seen.window) }
-        ensures polls { Polls (sight_of shown self.old.seen) self.old.processor result (sight_of shown self.new.seen) self.new.processor }
+        ensures polls { Polls (sight_of shown self.old.seen) self.old.processor result
+            (sight_of shown self.new.seen) self.new.processor }
         ensures within { result ≤ most }
         ensures far { result < most → IsAtLimit (sight_of shown self.new.seen) self.new.processor }
         ensures fixed { Keeps (view_of self.old.seen.window) (view_of self.new.seen.window) }
@@ -259,12 +268,15 @@ impl Poller {
 
     /// Instructions on end, where the stretch lies within the flash, and the flash below the RAM.
     fn glide(&mut self) -> u32
-        ensures polls { Polls (sight_of shown self.old.seen) self.old.processor result (sight_of shown self.new.seen) self.new.processor }
+        ensures polls { Polls (sight_of shown self.old.seen) self.old.processor result
+            (sight_of shown self.new.seen) self.new.processor }
         ensures within { result ≤ self.old.most }
-        ensures far { IsApart (view_of self.old.seen.window) → result < self.old.most → IsAtLimit (sight_of shown self.new.seen) self.new.processor }
+        ensures far { IsApart (view_of self.old.seen.window) → result < self.old.most →
+            IsAtLimit (sight_of shown self.new.seen) self.new.processor }
         ensures fixed { Keeps (view_of self.old.seen.window) (view_of self.new.seen.window) }
         ensures io_regions { self.new.seen.io_regions ≡ self.old.seen.io_regions }
-        ensures tells { TellsCall self.old.most result (view_of self.old.seen.window) (view_of self.new.seen.window) self.new.processor self.new.at_syscall }
+        ensures tells { TellsCall self.old.most result (view_of self.old.seen.window)
+            (view_of self.new.seen.window) self.new.processor self.new.at_syscall }
     {
         if !is_apart(&self.seen.window) {
             self.at_syscall = false;

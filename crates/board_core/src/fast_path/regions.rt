@@ -1,4 +1,5 @@
-//! Which regions of a task make a window: that of its code, that of its stack, and two further ones.
+//! Which regions of a task make a window: that of its code, that of its stack, and two further
+//! ones.
 ghost use Rattle.std.specs.Prelude.{◌≡◌, ◌&&◌, ◌*◌, ◌<◌, Option, Some, true, false, None, IfSome, MatchOption, Contains};
 ghost use Rattle.std.specs.List.{list_any};
 ghost use Rattle.board_core.specs.fast.Reached.{is_flash_at, is_ram_at, is_area, is_second, IsStackRegion, IsAreaRegion, IsSecondRegion, AreReached, MakeWindow, no_region, unwatched, without_watched};
@@ -69,7 +70,8 @@ fn unwatched(watched: Option<u32>, region: Region) -> Region
     }
 }
 
-/// The regions that make a window: that of the flash which has the instruction at PC, and three of the RAM, which may be empty.
+/// The regions that make a window: that of the flash which has the instruction at PC, and three of
+/// the RAM, which may be empty.
 #[derive(Clone, Copy)]
 pub struct WindowRegions {
     pub flash: Region,
@@ -95,7 +97,8 @@ impl WindowRegions {
 
 /// One of some regions that is of the flash and has the instruction at an address.
 fn flash_at(regions: &[Region], at: u32) -> Option<Region>
-    ensures { MatchOption result (list_any (is_flash_at at) regions.now ≡ false) (λ r. Contains regions.now r × (is_flash_at at r ≡ true)) }
+    ensures { MatchOption result (list_any (is_flash_at at) regions.now ≡ false)
+        (λ r. Contains regions.now r × (is_flash_at at r ≡ true)) }
 {
     for region in regions {
         if is_flash_at(region, at) {
@@ -105,7 +108,8 @@ fn flash_at(regions: &[Region], at: u32) -> Option<Region>
     None
 }
 
-/// One of some regions that is of the RAM and has an address, or ends there; an empty one where none is.
+/// One of some regions that is of the RAM and has an address, or ends there; an empty one where
+/// none is.
 fn ram_at(regions: &[Region], at: u32) -> Region
     ensures { IsStackRegion regions.now at result }
 {
@@ -117,7 +121,8 @@ fn ram_at(regions: &[Region], at: u32) -> Region
     no_region()
 }
 
-/// The first of some regions that is of the RAM, may be read and is not that of the stack; an empty one where none is.
+/// The first of some regions that is of the RAM, may be read and is not that of the stack; an empty
+/// one where none is.
 fn area_of(regions: &[Region], stack: &Region) -> Region
     ensures { IsAreaRegion regions.now stack.now result }
 {
@@ -136,8 +141,9 @@ fn is_second(region: &Region, stack: &Region, area: &Region) -> bool
     is_area(region, stack) && !(region.base == area.base && region.size == area.size)
 }
 
-/// The first of some regions that may be an area and is not the first area; an empty one where none is. Where there is no first area,
-/// there is no second one, so that most tasks are not searched again.
+/// The first of some regions that may be an area and is not the first area; an empty one where none
+/// is. Where there is no first area, there is no second one, so that most tasks are not searched
+/// again.
 fn second_of(regions: &[Region], stack: &Region, area: &Region) -> Region
     requires { IsAreaRegion regions.now stack.now area.now }
     ensures { IsSecondRegion regions.now stack.now area.now result }
@@ -153,8 +159,9 @@ fn second_of(regions: &[Region], stack: &Region, area: &Region) -> Region
     no_region()
 }
 
-/// The region that has the instruction at PC, that of the stack and two further ones, where the first of some has that instruction
-/// and the second one the stack, as those of a task are laid out: then neither is looked for.
+/// The region that has the instruction at PC, that of the stack and two further ones, where the
+/// first of some has that instruction and the second one the stack, as those of a task are laid
+/// out: then neither is looked for.
 #[inline(always)]
 fn laid_out(regions: &[Region], pc: u32, sp: u32) -> Option<WindowRegions>
     ensures { IfSome result (AreReached regions.now pc sp) }
@@ -180,7 +187,8 @@ fn laid_out(regions: &[Region], pc: u32, sp: u32) -> Option<WindowRegions>
 /// The same, wherever among them they are.
 #[inline(never)]
 fn looked_up(regions: &[Region], pc: u32, sp: u32) -> Option<WindowRegions>
-    ensures { MatchOption result (list_any (is_flash_at pc) regions.now ≡ false) (AreReached regions.now pc sp) }
+    ensures { MatchOption result (list_any (is_flash_at pc) regions.now ≡ false)
+        (AreReached regions.now pc sp) }
 {
     let flash = flash_at(regions, pc)?;
     let ram = ram_at(regions, sp);
@@ -195,9 +203,10 @@ fn looked_up(regions: &[Region], pc: u32, sp: u32) -> Option<WindowRegions>
 }
 
 impl AddressSpace {
-    /// The four regions in which a task may make many instructions on end: that of the flash that has its PC, that of the RAM
-    /// that has its stack, and the first two further ones of the RAM that it may read. Each of these three may be an empty one,
-    /// and is where the region has the byte that is watched.
+    /// The four regions in which a task may make many instructions on end: that of the flash that
+    /// has its PC, that of the RAM that has its stack, and the first two further ones of the RAM
+    /// that it may read. Each of these three may be an empty one, and is where the region has the
+    /// byte that is watched.
     #[inline(always)]
     pub fn window(
         &self,
@@ -206,7 +215,9 @@ impl AddressSpace {
         sp: u32,
         watched: Option<u32>,
     ) -> Option<WindowRegions>
-        ensures { let regions = (setup_at (setup_of self.now.kernel) task).regions in MatchOption result (list_any (is_flash_at pc) regions ≡ false) (MakeWindow watched regions pc sp) }
+        ensures { let regions = (setup_at (setup_of self.now.kernel) task).regions in
+            MatchOption result (list_any (is_flash_at pc) regions ≡ false)
+            (MakeWindow watched regions pc sp) }
     {
         let regions = self.kernel.regions(task);
         if let Some(window) = laid_out(regions, pc, sp) {

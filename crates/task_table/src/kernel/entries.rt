@@ -16,12 +16,14 @@ impl Kernel {
     ghost use Rattle.task_table.specs.declared.entry.KeptEntry.{KeptEntry};
     ghost use Rattle.task_table.specs.declared.slot.OpenCall.{OpenCall};
 
-    /// The entry that begins at an address, where it is kept for a task: the task may read it, and it is
-    /// what memory has there.
+    /// The entry that begins at an address, where it is kept for a task: the task may read it, and
+    /// it is what memory has there.
     pub fn kept_entry(&self, task: usize, base: u32) -> Option<LeaseEntry>
         requires { task < task_count self.now }
         ensures kept { IfSome result (λ e. IsKeptFor (entries_of self.now) task base e) }
-        ensures holds { (g : Setup) (t : Turn) → Holds g self.now t → IfSome result (λ e. (bad_byte g task Read record { base = base; len = 12 } ≡ None) × (entry_at t.state.memory base ≡ e)) }
+        ensures holds { (g : Setup) (t : Turn) → Holds g self.now t →
+            IfSome result (λ e. (bad_byte g task Read record { base = base; len = 12 } ≡ None)
+            × (entry_at t.state.memory base ≡ e)) }
     {
         match self.entries[task] {
             Some(kept) => {
@@ -35,11 +37,12 @@ impl Kernel {
         }
     }
 
-    /// Keeps an entry that was read for a task, in the place of another: it is of a lease of the taken call for
-    /// whose end the task waits, and the task may read it.
+    /// Keeps an entry that was read for a task, in the place of another: it is of a lease of the
+    /// taken call for whose end the task waits, and the task may read it.
     pub fn keep_entry(&mut self, task: usize, kept: KeptEntry)
         requires there { task < task_count self.old }
-        requires read { (borrower : ℕ) × (call : OpenCall) × IsRead self.old task borrower call kept }
+        requires read { (borrower : ℕ) × (call : OpenCall)
+            × IsRead self.old task borrower call kept }
         ensures holds { (g : Setup) (t : Turn) → Holds g self.old t → Holds g self.new t }
         ensures kept { IsKeptFor (entries_of self.new) task kept.base kept.entry }
         ensures frame { AddsNotes self.old 0 self.new }
@@ -48,17 +51,20 @@ impl Kernel {
         self.entries[task] = Some(kept);
     }
 
-    /// So many bytes from an address on are about to be written: an entry that has one of them is kept no
-    /// more, and the others are. Nothing else changes.
+    /// So many bytes from an address on are about to be written: an entry that has one of them is
+    /// kept no more, and the others are. Nothing else changes.
     #[inline(always)]
     pub fn touched(&mut self, base: u32, len: usize)
         ensures holds { (g : Setup) (t : Turn) → Holds g self.old t → Holds g self.new t }
         ensures memory { memory_of self.new ≡ memory_of self.old }
         ensures current { current_of self.new ≡ current_of self.old }
         ensures same { kept_of self.new ≡ kept_of self.old }
-        ensures there { (i : ℕ) (x : KeptEntry) → kept_at (entries_of self.new) i ≡ Some x → kept_at (entries_of self.old) i ≡ Some x }
-        ensures apart { (i : ℕ) (x : KeptEntry) → kept_at (entries_of self.new) i ≡ Some x → meets x base len ≡ false }
-        ensures stay { (i : ℕ) (x : KeptEntry) → kept_at (entries_of self.old) i ≡ Some x → meets x base len ≡ false → kept_at (entries_of self.new) i ≡ Some x }
+        ensures there { (i : ℕ) (x : KeptEntry) → kept_at (entries_of self.new) i ≡ Some x →
+            kept_at (entries_of self.old) i ≡ Some x }
+        ensures apart { (i : ℕ) (x : KeptEntry) → kept_at (entries_of self.new) i ≡ Some x →
+            meets x base len ≡ false }
+        ensures stay { (i : ℕ) (x : KeptEntry) → kept_at (entries_of self.old) i ≡ Some x →
+            meets x base len ≡ false → kept_at (entries_of self.new) i ≡ Some x }
         ensures frame { AddsNotes self.old 0 self.new }
     {
         if self.watch.catches(base, len) {
@@ -74,9 +80,12 @@ impl Kernel {
         ensures memory { memory_of self.new ≡ memory_of self.old }
         ensures current { current_of self.new ≡ current_of self.old }
         ensures same { kept_of self.new ≡ kept_of self.old }
-        ensures there { (i : ℕ) (x : KeptEntry) → kept_at (entries_of self.new) i ≡ Some x → kept_at (entries_of self.old) i ≡ Some x }
-        ensures apart { (i : ℕ) (x : KeptEntry) → kept_at (entries_of self.new) i ≡ Some x → meets x base len ≡ false }
-        ensures stay { (i : ℕ) (x : KeptEntry) → kept_at (entries_of self.old) i ≡ Some x → meets x base len ≡ false → kept_at (entries_of self.new) i ≡ Some x }
+        ensures there { (i : ℕ) (x : KeptEntry) → kept_at (entries_of self.new) i ≡ Some x →
+            kept_at (entries_of self.old) i ≡ Some x }
+        ensures apart { (i : ℕ) (x : KeptEntry) → kept_at (entries_of self.new) i ≡ Some x →
+            meets x base len ≡ false }
+        ensures stay { (i : ℕ) (x : KeptEntry) → kept_at (entries_of self.old) i ≡ Some x →
+            meets x base len ≡ false → kept_at (entries_of self.new) i ≡ Some x }
         ensures frame { AddsNotes self.old 0 self.new }
     {
         self.watch = drop_met(&mut self.entries, base, len);

@@ -19,7 +19,8 @@ impl Kernel {
         ensures value { result.now ≡ order_of self.now }
         ensures few { length result.now.keys.items ≤ most_tasks }
         ensures there { length result.now.keys.items ≡ task_count self.now }
-        ensures holds { (g : Setup) (t : Turn) → Holds g self.now t → AreOrdered (priorities_of g.tasks) result.now.keys.items result.now.places.items }
+        ensures holds { (g : Setup) (t : Turn) → Holds g self.now t →
+            AreOrdered (priorities_of g.tasks) result.now.keys.items result.now.places.items }
     {
         &self.order
     }
@@ -28,7 +29,8 @@ impl Kernel {
     #[inline(always)]
     pub fn ready(&self) -> &TaskSet
         ensures there { (p : ℕ) → has result.now.words p ≡ true → p < task_count self.now }
-        ensures holds { (g : Setup) (t : Turn) → Holds g self.now t → AreAtPlaces g.tasks (order_of self.now) result.now.words (is_ready t.state) }
+        ensures holds { (g : Setup) (t : Turn) → Holds g self.now t →
+            AreAtPlaces g.tasks (order_of self.now) result.now.words (is_ready t.state) }
     {
         &self.ready
     }
@@ -38,7 +40,8 @@ impl Kernel {
     pub fn clients(&self, server: usize) -> &TaskSet
         requires { server < task_count self.now }
         ensures there { (p : ℕ) → has result.now.words p ≡ true → p < task_count self.now }
-        ensures stands { (g : Setup) (t : Turn) → Stands g self.now t → AreAtPlaces g.tasks (order_of self.now) result.now.words (offers t.state server) }
+        ensures stands { (g : Setup) (t : Turn) → Stands g self.now t →
+            AreAtPlaces g.tasks (order_of self.now) result.now.words (offers t.state server) }
     {
         &self.offers[server]
     }

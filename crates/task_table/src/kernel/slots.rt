@@ -15,13 +15,16 @@ impl Kernel {
     ghost use Rattle.task_table.specs.kept.Holds.{Holds, IsKept, task_count, entries_of};
     ghost use Rattle.task_table.specs.kept.Frames.{AddsNotes};
 
-    /// Keeps this of a task but for its timer, which stays as it is; the sets of the tasks that are ready
-    /// and that offer a call follow, and no entry is kept for it any more. Only here does its health or its
-    /// wait change. The slot is written first: what stays of it as it was just read costs nothing then.
+    /// Keeps this of a task but for its timer, which stays as it is; the sets of the tasks that are
+    /// ready and that offer a call follow, and no entry is kept for it any more. Only here does its
+    /// health or its wait change. The slot is written first: what stays of it as it was just read
+    /// costs nothing then.
     #[inline(always)]
     pub(crate) fn set_slot(&mut self, task: usize, slot: Slot)
         requires { task < task_count self.old }
-        ensures holds { (g : Setup) (t : Turn) (u : State) → Holds g self.old t → IsKept u task slot → IsSameBut task t.state u → TimersAlike task t.state u → Holds g self.new record t { state = u } }
+        ensures holds { (g : Setup) (t : Turn) (u : State) → Holds g self.old t →
+            IsKept u task slot → IsSameBut task t.state u → TimersAlike task t.state u →
+            Holds g self.new record t { state = u } }
         ensures frame { AddsNotes self.old 0 self.new }
     {
         let before = &self.slots[task];
@@ -46,7 +49,9 @@ impl Kernel {
     #[inline(always)]
     pub(crate) fn set_rest(&mut self, task: usize, rest: &Slot)
         requires { task < task_count self.old }
-        ensures holds { (g : Setup) (t : Turn) (u : State) → Holds g self.old t → IsKept u task rest.now → DiffersInRest task t.state u → Holds g self.new record t { state = u } }
+        ensures holds { (g : Setup) (t : Turn) (u : State) → Holds g self.old t →
+            IsKept u task rest.now → DiffersInRest task t.state u →
+            Holds g self.new record t { state = u } }
         ensures entries { entries_of self.new ≡ entries_of self.old }
         ensures frame { AddsNotes self.old 0 self.new }
     {
@@ -60,7 +65,8 @@ impl Kernel {
     /// A task has these registers and flags from now on.
     pub fn set_processor(&mut self, task: usize, registers: [u32; 16], flags: Flags)
         requires { task < task_count self.old }
-        ensures holds { (g : Setup) (t : Turn) → Holds g self.old t → Holds g self.new (with_processor task registers flags t) }
+        ensures holds { (g : Setup) (t : Turn) → Holds g self.old t →
+            Holds g self.new (with_processor task registers flags t) }
         ensures frame { AddsNotes self.old 0 self.new }
     {
         let mut slot = self.slot(task);
@@ -69,12 +75,13 @@ impl Kernel {
         self.set_rest(task, &slot);
     }
 
-    /// A task is born again: its generation goes up by one, modulo 64, and its registers and flags, its
-    /// posted bits and its timer are as at its first birth. It is well where it is started, else
-    /// stopped, and waits as before (Hubris Reference, on supervision).
+    /// A task is born again: its generation goes up by one, modulo 64, and its registers and flags,
+    /// its posted bits and its timer are as at its first birth. It is well where it is started,
+    /// else stopped, and waits as before (Hubris Reference, on supervision).
     pub fn reset_task(&mut self, task: usize, start: bool)
         requires there { task < task_count self.old }
-        ensures holds { (g : Setup) (t : Turn) → Holds g self.old t → Holds g self.new (changed (reborn g task start) t) }
+        ensures holds { (g : Setup) (t : Turn) → Holds g self.old t →
+            Holds g self.new (changed (reborn g task start) t) }
         ensures frame { AddsNotes self.old 0 self.new }
     {
         let before = self.slot(task);

@@ -15,11 +15,12 @@ impl Kernel {
     ghost use Rattle.task_table.specs.kept.Holds.{Holds, task_count};
     ghost use Rattle.task_table.specs.kept.Frames.{AddsNotes};
 
-    /// The timer of a task is set from now on, or off; the sets of the tasks by their deadlines follow. Only here does it
-    /// change.
+    /// The timer of a task is set from now on, or off; the sets of the tasks by their deadlines
+    /// follow. Only here does it change.
     pub fn set_timer(&mut self, task: usize, timer: Option<Timer>)
         requires { task < task_count self.old }
-        ensures holds { (g : Setup) (t : Turn) → Holds g self.old t → Holds g self.new (with_timer task timer t) }
+        ensures holds { (g : Setup) (t : Turn) → Holds g self.old t →
+            Holds g self.new (with_timer task timer t) }
         ensures frame { AddsNotes self.old 0 self.new }
     {
         let before = self.slots[task].timer;
@@ -27,12 +28,13 @@ impl Kernel {
         self.slots[task].timer = timer;
     }
 
-    /// Tasks, by index, among them each whose timer is due at just this time. Others have a deadline that is a multiple
-    /// of `WHEEL` ticks away.
+    /// Tasks, by index, among them each whose timer is due at just this time. Others have a
+    /// deadline that is a multiple of `WHEEL` ticks away.
     #[inline(always)]
     pub fn due(&self) -> &TaskSet
         ensures there { (i : ℕ) → has result.now.words i ≡ true → i < task_count self.now }
-        ensures holds { (g : Setup) (t : Turn) → Holds g self.now t → HasDue t.state result.now.words }
+        ensures holds { (g : Setup) (t : Turn) → Holds g self.now t →
+            HasDue t.state result.now.words }
     {
         &self.wheel[(self.clock % WHEEL as u64) as usize]
     }

@@ -15,15 +15,17 @@ impl Kernel {
     ghost use Rattle.task_table.specs.kept.Openable.{AreUsable};
     ghost use Rattle.task_table.specs.kept.Window.{IsWindowOpened};
 
-    /// As `touched`, of bytes of which there may be none. Most tasks have no area, and an entry may be kept where its empty
-    /// region begins.
+    /// As `touched`, of bytes of which there may be none. Most tasks have no area, and an entry may
+    /// be kept where its empty region begins.
     #[inline(always)]
     fn area_touched(&mut self, base: u32, len: usize)
         ensures holds { (g : Setup) (t : Turn) → Holds g self.old t → Holds g self.new t }
         ensures memory { memory_of self.new ≡ memory_of self.old }
         ensures current { current_of self.new ≡ current_of self.old }
-        ensures there { (i : ℕ) (x : KeptEntry) → kept_at (entries_of self.new) i ≡ Some x → kept_at (entries_of self.old) i ≡ Some x }
-        ensures apart { 0 < len → (i : ℕ) (x : KeptEntry) → kept_at (entries_of self.new) i ≡ Some x → meets x base len ≡ false }
+        ensures there { (i : ℕ) (x : KeptEntry) → kept_at (entries_of self.new) i ≡ Some x →
+            kept_at (entries_of self.old) i ≡ Some x }
+        ensures apart { 0 < len → (i : ℕ) (x : KeptEntry) →
+            kept_at (entries_of self.new) i ≡ Some x → meets x base len ≡ false }
         ensures frame { AddsNotes self.old 0 self.new }
     {
         if len > 0 {
@@ -31,10 +33,10 @@ impl Kernel {
         }
     }
 
-    /// Opens the bytes of a region of code and of three of the RAM, where each has a bank of its own; each of
-    /// those may be empty, and begin where the RAM does. Else the answer is false. Those of a task that lie
-    /// so are opened. An entry of a lease table that has one of the bytes in the RAM is kept no more, since
-    /// the user may write over it.
+    /// Opens the bytes of a region of code and of three of the RAM, where each has a bank of its
+    /// own; each of those may be empty, and begin where the RAM does. Else the answer is false.
+    /// Those of a task that lie so are opened. An entry of a lease table that has one of the bytes
+    /// in the RAM is kept no more, since the user may write over it.
     #[inline(always)]
     pub fn open_window<B: WindowUser>(
         &mut self,
@@ -44,10 +46,14 @@ impl Kernel {
         second: &Region,
         user: &mut B,
     ) -> bool
-        ensures opened { result ≡ true → IsWindowOpened B.did self.old flash.now ram.now area.now second.now user.old user.new self.new }
-        ensures given { (task : ℕ) → AreUsable (setup_at (setup_of self.old) task).regions flash.now ram.now area.now second.now → result ≡ true }
+        ensures opened { result ≡ true →
+            IsWindowOpened B.did self.old flash.now ram.now area.now second.now user.old user.new
+            self.new }
+        ensures given { (task : ℕ) → AreUsable (setup_at (setup_of self.old) task).regions flash.now
+            ram.now area.now second.now → result ≡ true }
         ensures memory { result ≡ false → memory_of self.new ≡ memory_of self.old }
-        ensures holds { result ≡ false → (g : Setup) (t : Turn) → Holds g self.old t → Holds g self.new t }
+        ensures holds { result ≡ false → (g : Setup) (t : Turn) → Holds g self.old t →
+            Holds g self.new t }
         ensures left { result ≡ false → user.new ≡ user.old }
         ensures current { current_of self.new ≡ current_of self.old }
         ensures frame { AddsNotes self.old 0 self.new }

@@ -13,8 +13,8 @@ ghost use Rattle.trace_cli.specs.Verdict.{audited, yes_line, no_line};
 ghost use Rattle.trace_cli.specs.Answer.{AnswersJob};
 
 use crate::file_faults::{FileFault, NamedFault, fault_named, refused_at_number};
-use crate::sources::read_contents;
 use crate::lines::{tell, tell_named_fault};
+use crate::sources::read_contents;
 use outside_io::{Files, Sink};
 use std::alloc::{AllocError, Global};
 use trace_audit::{AuditFault, Judgement, audit};
@@ -39,7 +39,8 @@ fn audit_in(alloc: Global, bytes: &[u8]) -> Result<Judgement, FileFault>
 // The verdict on the trace under a name.
 fn audit_under<F: Files>(alloc: Global, files: &mut F, name: &str) -> Result<Judgement, NamedFault>
     ensures audit { IfOk result (IsAuditOf (F.seen files.old).contents name.now) }
-    ensures named_fault { IfErr result (IsNamedFaultOf (F.seen files.old) (F.seen files.new) (trace_file name.now)) }
+    ensures named_fault { IfErr result
+        (IsNamedFaultOf (F.seen files.old) (F.seen files.new) (trace_file name.now)) }
     ensures only_reads { OnlyReads (F.seen files.old) (F.seen files.new) }
 {
     let bytes = match read_contents(alloc, files, name, TRACE_LIMIT) {
@@ -100,7 +101,9 @@ fn tell_audit<S: Sink>(alloc: Global, verdict: Judgement, out: &mut S) -> u8
 
 /// `audit TRACE`.
 pub fn audit_file<F: Files, S: Sink>(alloc: Global, trace: &str, files: &mut F, out: &mut S) -> u8
-    ensures answer { (devices : List DeviceData) → AnswersJob devices (audit_job trace.now) (F.seen files.old) (F.seen files.new) (S.seen out.old) (S.seen out.new) result }
+    ensures answer { (devices : List DeviceData) →
+        AnswersJob devices (audit_job trace.now) (F.seen files.old) (F.seen files.new)
+        (S.seen out.old) (S.seen out.new) result }
     ensures only_reads { OnlyReads (F.seen files.old) (F.seen files.new) }
 {
     match audit_under(alloc, files, trace) {

@@ -13,10 +13,10 @@ ghost use Rattle.trace_cli.specs.Verdict.{built};
 ghost use Rattle.trace_cli.specs.Answer.{Tells, AnswersJob};
 
 use crate::file_faults::{FileFault, NamedFault, fault_by_plan, fault_by_source, fault_named};
+use crate::lines::{line_of_built, tell_named_fault};
 use crate::putting::put_told;
 use crate::source_lines::SourceLines;
 use crate::sources::{FILE_LIMIT, app_in, read_contents};
-use crate::lines::{line_of_built, tell_named_fault};
 use app_toml::App;
 use image_build::Builder;
 use image_format::Image;
@@ -41,9 +41,13 @@ fn take_bytes(alloc: Global, builder: &mut Builder<'_>, bytes: &[u8]) -> Result<
     requires next { next_task builder.old < length (described builder.old).tasks }
     requires few { length bytes.now ≤ file_limit }
     ensures described { described builder.new ≡ described builder.old }
-    ensures accepted_sources { (sources : List (List ℕ)) → HasAccepted sources builder.old → OnOk result (HasAccepted (sources ++ bytes.now ∷ []) builder.new) }
-    ensures accepted { (sources : List (List ℕ)) → HasAccepted sources builder.old → OnOk result (source_refusal (described builder.old) (next_task builder.old) bytes.now ≡ None) }
-    ensures file_fault { IfErr result (IsFaultFor (source_refusal (described builder.old) (next_task builder.old) bytes.now)) }
+    ensures accepted_sources { (sources : List (List ℕ)) → HasAccepted sources builder.old →
+        OnOk result (HasAccepted (sources ++ bytes.now ∷ []) builder.new) }
+    ensures accepted { (sources : List (List ℕ)) → HasAccepted sources builder.old →
+        OnOk result (source_refusal (described builder.old) (next_task builder.old) bytes.now ≡
+        None) }
+    ensures file_fault { IfErr result
+        (IsFaultFor (source_refusal (described builder.old) (next_task builder.old) bytes.now)) }
 {
     match builder.source(bytes) {
         Ok(()) => Ok(()),
@@ -61,8 +65,16 @@ fn take_source<F: Files>(
 ) -> Result<(), NamedFault>
     requires next { next_task builder.old < length (described builder.old).tasks }
     ensures described { described builder.new ≡ described builder.old }
-    ensures accepted_sources { (sources : List (List ℕ)) → HasAccepted sources builder.old → OnOk result (HasNext (F.seen files.old).contents name.now sources builder.old builder.new lines.old lines.new) }
-    ensures named_fault { IfErr result (IsNamedFaultOf (F.seen files.old) (F.seen files.new) record { name = name.now; limit = file_limit; refusal = source_refusal (described builder.old) (next_task builder.old) }) }
+    ensures accepted_sources { (sources : List (List ℕ)) → HasAccepted sources builder.old →
+        OnOk result (HasNext (F.seen files.old).contents name.now sources builder.old builder.new
+        lines.old lines.new) }
+    ensures named_fault { IfErr result
+        (IsNamedFaultOf (F.seen files.old) (F.seen files.new) record {
+          name = name.now;
+          limit = file_limit;
+          refusal = source_refusal (described builder.old)
+              (next_task builder.old);
+        }) }
     ensures only_reads { OnlyReads (F.seen files.old) (F.seen files.new) }
 {
     let bytes = match read_contents(alloc, files, name, FILE_LIMIT) {
@@ -93,8 +105,10 @@ fn take_sources<F: Files>(
     requires unlisted { KeepsNone lines.old }
     ensures described { described builder.new ≡ described builder.old }
     ensures wanted { OnOk result (lines.new.wanted ≡ lines.old.wanted) }
-    ensures accepted_sources { OnOk result (HasAll (F.seen files.old).contents (app_of app.now) builder.new lines.new) }
-    ensures named_fault { IfErr result (IsNamedFaultInSources (F.seen files.old) (F.seen files.new) (app_of app.now)) }
+    ensures accepted_sources { OnOk result
+        (HasAll (F.seen files.old).contents (app_of app.now) builder.new lines.new) }
+    ensures named_fault { IfErr result
+        (IsNamedFaultInSources (F.seen files.old) (F.seen files.new) (app_of app.now)) }
     ensures only_reads { OnlyReads (F.seen files.old) (F.seen files.new) }
 {
     for task in app.tasks() {
@@ -118,8 +132,11 @@ fn image_of<F: Files>(
     requires none { HasAccepted [] builder }
     requires unlisted { KeepsNone lines.old }
     ensures wanted { IfOk result (λ _. lines.new.wanted ≡ lines.old.wanted) }
-    ensures image { IfOk result (λ i. IsImageOf (F.seen files.old).contents (app_of app.now) (image_data i) lines.new) }
-    ensures named_fault { IfErr result (λ h. (h ≡ NamedFault.Memory) ⊎ IsNamedFaultInSources (F.seen files.old) (F.seen files.new) (app_of app.now) h) }
+    ensures image { IfOk result (λ i. IsImageOf (F.seen files.old).contents (app_of app.now)
+        (image_data i) lines.new) }
+    ensures named_fault { IfErr result
+        (λ h. (h ≡ NamedFault.Memory) ⊎ IsNamedFaultInSources (F.seen files.old) (F.seen files.new)
+        (app_of app.now) h) }
     ensures only_reads { OnlyReads (F.seen files.old) (F.seen files.new) }
 {
     let mut builder = builder;
@@ -141,15 +158,18 @@ pub struct BuiltApp {
     pub lines: SourceLines,
 }
 
-/// The application under a name, and its image; and where the instructions and the labels of its sources lie, if that is wanted.
+/// The application under a name, and its image; and where the instructions and the labels of its
+/// sources lie, if that is wanted.
 pub fn built_app<F: Files>(
     alloc: Global,
     files: &mut F,
     name: &str,
     wanted: bool,
 ) -> Result<BuiltApp, NamedFault>
-    ensures built { IfOk result (λ b. IsBuiltApp (F.seen files.old).contents name.now wanted (app_of b.app) (image_data b.image) b.lines) }
-    ensures named_fault { IfErr result (IsNamedFaultInApp (F.seen files.old) (F.seen files.new) name.now) }
+    ensures built { IfOk result (λ b. IsBuiltApp (F.seen files.old).contents name.now wanted
+        (app_of b.app) (image_data b.image) b.lines) }
+    ensures named_fault { IfErr result
+        (IsNamedFaultInApp (F.seen files.old) (F.seen files.new) name.now) }
     ensures only_reads { OnlyReads (F.seen files.old) (F.seen files.new) }
 {
     let bytes = match read_contents(alloc, files, name, FILE_LIMIT) {
@@ -174,7 +194,8 @@ pub fn built_app<F: Files>(
 /// The image of the application under a name.
 pub fn built_image<F: Files>(alloc: Global, files: &mut F, name: &str) -> Result<Image, NamedFault>
     ensures image { IfOk result (λ i. IsImage (F.seen files.old).contents name.now (image_data i)) }
-    ensures named_fault { IfErr result (IsNamedFaultInApp (F.seen files.old) (F.seen files.new) name.now) }
+    ensures named_fault { IfErr result
+        (IsNamedFaultInApp (F.seen files.old) (F.seen files.new) name.now) }
     ensures only_reads { OnlyReads (F.seen files.old) (F.seen files.new) }
 {
     match built_app(alloc, files, name, false) {
@@ -191,7 +212,8 @@ pub fn put_image<F: Files, S: Sink>(
     files: &mut F,
     out: &mut S,
 ) -> u8
-    ensures tells { Tells (F.seen files.old) (F.seen files.new) (S.seen out.old) (S.seen out.new) (built name.now (picture image.now)) result }
+    ensures tells { Tells (F.seen files.old) (F.seen files.new) (S.seen out.old) (S.seen out.new)
+        (built name.now (picture image.now)) result }
     ensures reads { (F.seen files.new).read_faults ≡ (F.seen files.old).read_faults }
     ensures puts { (F.seen files.old).put_faults ≤ (F.seen files.new).put_faults }
 {
@@ -214,7 +236,9 @@ pub fn build_file<F: Files, S: Sink>(
     files: &mut F,
     out: &mut S,
 ) -> u8
-    ensures answer { (devices : List DeviceData) → AnswersJob devices (build_job app.now name.now) (F.seen files.old) (F.seen files.new) (S.seen out.old) (S.seen out.new) result }
+    ensures answer { (devices : List DeviceData) →
+        AnswersJob devices (build_job app.now name.now) (F.seen files.old) (F.seen files.new)
+        (S.seen out.old) (S.seen out.new) result }
     ensures later { (F.seen files.old).read_faults ≤ (F.seen files.new).read_faults }
     ensures puts { (F.seen files.old).put_faults ≤ (F.seen files.new).put_faults }
 {

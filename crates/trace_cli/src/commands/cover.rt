@@ -10,8 +10,8 @@ ghost use Rattle.outside_io.specs.Seen.{OnlyReads};
 ghost use Rattle.trace_cli.specs.Pushed.{SaysCovered};
 ghost use Rattle.trace_cli.specs.Answer.{AnswersJob};
 
-use crate::preparing::{prepare_app, prepare_run};
 use crate::lines::{status_by, tell_named_fault};
+use crate::preparing::{prepare_app, prepare_run};
 use board_core::Board;
 use devices::Device;
 use outside_io::{Files, Sink};
@@ -30,7 +30,8 @@ fn cover_board<S: Sink>(
     requires stood { StandsForSome (boxed shown) board.old }
     requires fresh { turns_of board.old ≡ 0 }
     requires few { steps ≤ 1000000000 }
-    ensures { (x : Scenario) → Stands (boxed shown) x board.old (start_of x) → SaysCovered steps x (labels_in labels.now) (S.seen out.old) (S.seen out.new) result }
+    ensures { (x : Scenario) → Stands (boxed shown) x board.old (start_of x) →
+        SaysCovered steps x (labels_in labels.now) (S.seen out.old) (S.seen out.new) result }
 {
     let mut cover = match Cover::open(alloc) {
         Ok(cover) => cover,
@@ -54,7 +55,9 @@ fn cover_image<F: Files, S: Sink>(
 ) -> u8
     requires fresh { AreFresh (map shown devices.items) }
     requires few { steps ≤ 1000000000 }
-    ensures answer { AnswersJob (map shown devices.items) (cover_job image.now script.now steps false) (F.seen files.old) (F.seen files.new) (S.seen out.old) (S.seen out.new) result }
+    ensures answer { AnswersJob (map shown devices.items)
+        (cover_job image.now script.now steps false) (F.seen files.old) (F.seen files.new)
+        (S.seen out.old) (S.seen out.new) result }
     ensures only_reads { OnlyReads (F.seen files.old) (F.seen files.new) }
 {
     match prepare_run(alloc, files, image, script, devices) {
@@ -78,7 +81,8 @@ fn cover_app<F: Files, S: Sink>(
 ) -> u8
     requires fresh { AreFresh (map shown devices.items) }
     requires few { steps ≤ 1000000000 }
-    ensures answer { AnswersJob (map shown devices.items) (cover_job app.now script.now steps true) (F.seen files.old) (F.seen files.new) (S.seen out.old) (S.seen out.new) result }
+    ensures answer { AnswersJob (map shown devices.items) (cover_job app.now script.now steps true)
+        (F.seen files.old) (F.seen files.new) (S.seen out.old) (S.seen out.new) result }
     ensures only_reads { OnlyReads (F.seen files.old) (F.seen files.new) }
 {
     match prepare_app(alloc, files, app, script, true, devices) {
@@ -103,7 +107,9 @@ pub fn cover_files<F: Files, S: Sink>(
 ) -> u8
     requires fresh { AreFresh (map shown devices.items) }
     requires few { steps ≤ 1000000000 }
-    ensures answer { AnswersJob (map shown devices.items) (cover_job image.now script.now steps labels) (F.seen files.old) (F.seen files.new) (S.seen out.old) (S.seen out.new) result }
+    ensures answer { AnswersJob (map shown devices.items)
+        (cover_job image.now script.now steps labels) (F.seen files.old) (F.seen files.new)
+        (S.seen out.old) (S.seen out.new) result }
     ensures only_reads { OnlyReads (F.seen files.old) (F.seen files.new) }
 {
     if labels {

@@ -17,9 +17,9 @@ ghost use Rattle.trace_cli.specs.Verdict.{debugged};
 ghost use Rattle.trace_cli.specs.Answer.{AnswersJob};
 
 use crate::file_faults::{FileFault, NamedFault, fault_named, refused_at_number};
+use crate::lines::tell_named_fault;
 use crate::preparing::{read_image, read_script};
 use crate::sources::{FILE_LIMIT, read_contents};
-use crate::lines::tell_named_fault;
 use board_core::Board;
 use debug_core::{CommandFault, Commands, Debugger};
 use devices::Device;
@@ -44,8 +44,10 @@ fn commands_in(alloc: Global, bytes: &[u8]) -> Result<Commands, FileFault>
 
 // The commands under a name.
 fn read_commands<F: Files>(alloc: Global, files: &mut F, name: &str) -> Result<Commands, NamedFault>
-    ensures commands { IfOk result (λ c. IsCommandsFile (F.seen files.old).contents name.now (listed c)) }
-    ensures named_fault { IfErr result (IsNamedFaultOf (F.seen files.old) (F.seen files.new) (commands_file name.now)) }
+    ensures commands { IfOk result (λ c. IsCommandsFile (F.seen files.old).contents name.now
+        (listed c)) }
+    ensures named_fault { IfErr result
+        (IsNamedFaultOf (F.seen files.old) (F.seen files.new) (commands_file name.now)) }
     ensures only_reads { OnlyReads (F.seen files.old) (F.seen files.new) }
 {
     let bytes = match read_contents(alloc, files, name, FILE_LIMIT) {
@@ -58,7 +60,8 @@ fn read_commands<F: Files>(alloc: Global, files: &mut F, name: &str) -> Result<C
     }
 }
 
-// The board at the start of the run of the image and the script under these names, with devices, and the commands under the third.
+// The board at the start of the run of the image and the script under these names, with devices,
+// and the commands under the third.
 fn prepare_debug<F: Files>(
     alloc: Global,
     files: &mut F,
@@ -68,8 +71,12 @@ fn prepare_debug<F: Files>(
     devices: Vec<Box<dyn Device>>,
 ) -> Result<(Board, Commands), NamedFault>
     requires fresh { AreFresh (map shown devices.items) }
-    ensures ready { IfOk result (λ p. IsDebugReady shown (map shown devices.items) (debug_job image.now script.now commands.now) (F.seen files.old).contents (listed p.1) p.0) }
-    ensures named_fault { IfErr result (IsNamedFaultIn (map shown devices.items) (debug_job image.now script.now commands.now) (F.seen files.old) (F.seen files.new)) }
+    ensures ready { IfOk result (λ p. IsDebugReady shown (map shown devices.items)
+        (debug_job image.now script.now commands.now) (F.seen files.old).contents (listed p.1)
+        p.0) }
+    ensures named_fault { IfErr result
+        (IsNamedFaultIn (map shown devices.items) (debug_job image.now script.now commands.now)
+        (F.seen files.old) (F.seen files.new)) }
     ensures only_reads { OnlyReads (F.seen files.old) (F.seen files.new) }
 {
     let image_data = match read_image(alloc, files, image) {
@@ -93,7 +100,8 @@ fn prepare_debug<F: Files>(
 // Commands carried out over the run of a board from its start.
 fn carry_out<S: Sink>(alloc: Global, board: Board, commands: &Commands, out: &mut S) -> u8
     requires started { (x : Scenario) × Stands (boxed shown) x board (start_of x) }
-    ensures { (x : Scenario) → Stands (boxed shown) x board (start_of x) → Says (S.seen out.old) (S.seen out.new) (debugged x (listed commands.now)) result }
+    ensures { (x : Scenario) → Stands (boxed shown) x board (start_of x) →
+        Says (S.seen out.old) (S.seen out.new) (debugged x (listed commands.now)) result }
 {
     let mut debugger = match Debugger::open(alloc, board) {
         Ok(debugger) => debugger,
@@ -116,7 +124,9 @@ pub fn debug_files<F: Files, S: Sink>(
     devices: Vec<Box<dyn Device>>,
 ) -> u8
     requires fresh { AreFresh (map shown devices.items) }
-    ensures answer { AnswersJob (map shown devices.items) (debug_job image.now script.now commands.now) (F.seen files.old) (F.seen files.new) (S.seen out.old) (S.seen out.new) result }
+    ensures answer { AnswersJob (map shown devices.items)
+        (debug_job image.now script.now commands.now) (F.seen files.old) (F.seen files.new)
+        (S.seen out.old) (S.seen out.new) result }
     ensures only_reads { OnlyReads (F.seen files.old) (F.seen files.new) }
 {
     match prepare_debug(alloc, files, image, script, commands, devices) {

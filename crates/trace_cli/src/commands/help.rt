@@ -22,8 +22,10 @@ fn tell_help<S: Sink>(about: Option<CommandName>, out: &mut S) -> u8
 
 /// `help [COMMAND]`. No file is read.
 pub fn help<S: Sink>(about: Option<CommandName>, out: &mut S) -> u8
-    ensures { (devices : List DeviceData) (before after : FilesSeen) → after.contents ≡ before.contents
-        → AnswersJob devices (help_job about) before after (S.seen out.old) (S.seen out.new) result }
+    ensures { (devices : List DeviceData) (before after : FilesSeen) →
+        after.contents ≡ before.contents
+        → AnswersJob devices (help_job about) before after (S.seen out.old) (S.seen out.new)
+        result }
 {
     tell_help(about, out)
 }

@@ -12,10 +12,10 @@ ghost use Rattle.trace_cli.specs.Building.{kept_lines};
 ghost use Rattle.trace_cli.specs.Tracing.{sections_by};
 ghost use Rattle.trace_cli.specs.Verdict.{traced};
 
+use crate::lines::{line_of_traced, tell_named_fault};
 use crate::preparing::prepare_app;
 use crate::putting::put_told;
 use crate::source_lines::SourceLines;
-use crate::lines::{line_of_traced, tell_named_fault};
 use app_toml::App;
 use board_core::Board;
 use devices::Device;
@@ -40,7 +40,8 @@ fn sources_of<'a>(
     app: &'a App,
     lines: &'a SourceLines,
 ) -> Result<Vec<Source<'a>>, AllocError>
-    ensures { IfOk result (λ v. map section_of v.items ≡ sections_by (app_of app.now) (kept_lines lines.now)) }
+    ensures { IfOk result (λ v. map section_of v.items ≡ sections_by (app_of app.now)
+        (kept_lines lines.now)) }
 {
     let tasks = app.tasks();
     let mut sources = Vec::new(alloc);
@@ -67,7 +68,8 @@ fn trace_board<F: Files, S: Sink>(
     requires fresh { turns_of board.old ≡ 0 }
     requires few { steps ≤ 1000000000 }
     ensures tells { (x : Scenario) → Stands (boxed shown) x board.old (start_of x)
-        → Tells (F.seen files.old) (F.seen files.new) (S.seen out.old) (S.seen out.new) (traced name.now steps (map section_of sources.now) x) result }
+        → Tells (F.seen files.old) (F.seen files.new) (S.seen out.old) (S.seen out.new)
+        (traced name.now steps (map section_of sources.now) x) result }
     ensures reads { (F.seen files.new).read_faults ≡ (F.seen files.old).read_faults }
     ensures puts { (F.seen files.old).put_faults ≤ (F.seen files.new).put_faults }
 {
@@ -102,7 +104,8 @@ fn trace_app<F: Files, S: Sink>(
     requires fresh { turns_of board.old ≡ 0 }
     requires few { steps ≤ 1000000000 }
     ensures tells { (x : Scenario) → Stands (boxed shown) x board.old (start_of x) →
-        Tells (F.seen files.old) (F.seen files.new) (S.seen out.old) (S.seen out.new) (traced name.now steps (sections_by (app_of app.now) (kept_lines lines.now)) x) result }
+        Tells (F.seen files.old) (F.seen files.new) (S.seen out.old) (S.seen out.new)
+        (traced name.now steps (sections_by (app_of app.now) (kept_lines lines.now)) x) result }
     ensures reads { (F.seen files.new).read_faults ≡ (F.seen files.old).read_faults }
     ensures puts { (F.seen files.old).put_faults ≤ (F.seen files.new).put_faults }
 {
@@ -125,7 +128,9 @@ pub fn lcov_files<F: Files, S: Sink>(
 ) -> u8
     requires fresh { AreFresh (map shown devices.items) }
     requires few { steps ≤ 1000000000 }
-    ensures answer { AnswersJob (map shown devices.items) (lcov_job app.now script.now name.now steps) (F.seen files.old) (F.seen files.new) (S.seen out.old) (S.seen out.new) result }
+    ensures answer { AnswersJob (map shown devices.items)
+        (lcov_job app.now script.now name.now steps) (F.seen files.old) (F.seen files.new)
+        (S.seen out.old) (S.seen out.new) result }
     ensures later { (F.seen files.old).read_faults ≤ (F.seen files.new).read_faults }
     ensures puts { (F.seen files.old).put_faults ≤ (F.seen files.new).put_faults }
 {

@@ -5,14 +5,16 @@ ghost use Rattle.command_line.specs.CommandLine.{list as list_job};
 ghost use Rattle.outside_io.specs.Seen.{OnlyReads};
 ghost use Rattle.trace_cli.specs.Answer.{AnswersJob};
 
-use crate::preparing::read_image;
 use crate::lines::{tell_listing, tell_named_fault};
+use crate::preparing::read_image;
 use outside_io::{Files, Sink};
 use std::alloc::Global;
 
 /// `list IMAGE`.
 pub fn list_file<F: Files, S: Sink>(alloc: Global, image: &str, files: &mut F, out: &mut S) -> u8
-    ensures answer { (devices : List DeviceData) → AnswersJob devices (list_job image.now) (F.seen files.old) (F.seen files.new) (S.seen out.old) (S.seen out.new) result }
+    ensures answer { (devices : List DeviceData) →
+        AnswersJob devices (list_job image.now) (F.seen files.old) (F.seen files.new)
+        (S.seen out.old) (S.seen out.new) result }
     ensures only_reads { OnlyReads (F.seen files.old) (F.seen files.new) }
 {
     match read_image(alloc, files, image) {

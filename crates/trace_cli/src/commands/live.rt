@@ -9,16 +9,17 @@ ghost use Rattle.outside_io.specs.Seen.{OnlyReads};
 ghost use Rattle.trace_cli.specs.Pushed.{SaysLive};
 ghost use Rattle.trace_cli.specs.Answer.{AnswersJob};
 
-use crate::preparing::prepare_run;
 use crate::lines::{line_of_unread, tell, tell_named_fault};
+use crate::preparing::prepare_run;
 use board_core::Board;
 use debug_core::{Debugger, LiveFault};
 use devices::Device;
 use outside_io::{Files, Sink};
 use std::alloc::Global;
 
-// Lines under a name carried out over the run of a board from its start as they come. The line that says that they cannot be read
-// is made before the first of them, since memory may be short then and not later.
+// Lines under a name carried out over the run of a board from its start as they come. The line that
+// says that they cannot be read is made before the first of them, since memory may be short then
+// and not later.
 fn carry_out<F: Files, S: Sink>(
     alloc: Global,
     board: Board,
@@ -27,7 +28,9 @@ fn carry_out<F: Files, S: Sink>(
     out: &mut S,
 ) -> u8
     requires started { (x : Scenario) × Stands (boxed shown) x board (start_of x) }
-    ensures says { (x : Scenario) → Stands (boxed shown) x board (start_of x) → SaysLive x commands.now (F.seen files.old) (F.seen files.new) (S.seen out.old) (S.seen out.new) result }
+    ensures says { (x : Scenario) → Stands (boxed shown) x board (start_of x) →
+        SaysLive x commands.now (F.seen files.old) (F.seen files.new) (S.seen out.old)
+        (S.seen out.new) result }
     ensures only_reads { OnlyReads (F.seen files.old) (F.seen files.new) }
 {
     let unread = match line_of_unread(alloc, commands) {
@@ -56,7 +59,9 @@ pub fn live_files<F: Files, S: Sink>(
     devices: Vec<Box<dyn Device>>,
 ) -> u8
     requires fresh { AreFresh (map shown devices.items) }
-    ensures answer { AnswersJob (map shown devices.items) (live_job image.now script.now commands.now) (F.seen files.old) (F.seen files.new) (S.seen out.old) (S.seen out.new) result }
+    ensures answer { AnswersJob (map shown devices.items)
+        (live_job image.now script.now commands.now) (F.seen files.old) (F.seen files.new)
+        (S.seen out.old) (S.seen out.new) result }
     ensures only_reads { OnlyReads (F.seen files.old) (F.seen files.new) }
 {
     match prepare_run(alloc, files, image, script, devices) {

@@ -8,9 +8,9 @@ ghost use Rattle.command_line.specs.CommandLine.{picture as picture_job};
 ghost use Rattle.trace_cli.specs.Answer.{AnswersJob, Tells};
 ghost use Rattle.trace_cli.specs.Verdict.{drawn};
 
+use crate::lines::{line_of_drawn, tell_named_fault};
 use crate::naming::prepare_named;
 use crate::putting::put_told;
-use crate::lines::{line_of_drawn, tell_named_fault};
 use board_core::Board;
 use devices::Device;
 use outside_io::{Files, Sink};
@@ -33,7 +33,8 @@ fn draw_board<F: Files, S: Sink>(
     requires few { steps ≤ 1000000000 }
     requires named { length names.now ≡ count_of board.old }
     ensures tells { (x : Scenario) → Stands (boxed shown) x board.old (start_of x)
-        → Tells (F.seen files.old) (F.seen files.new) (S.seen out.old) (S.seen out.new) (drawn name.now steps title.now (map string_bytes names.now) x) result }
+        → Tells (F.seen files.old) (F.seen files.new) (S.seen out.old) (S.seen out.new)
+        (drawn name.now steps title.now (map string_bytes names.now) x) result }
     ensures reads { (F.seen files.new).read_faults ≡ (F.seen files.old).read_faults }
     ensures puts { (F.seen files.old).put_faults ≤ (F.seen files.new).put_faults }
 {
@@ -62,7 +63,8 @@ pub fn picture_files<F: Files, S: Sink>(
 ) -> u8
     requires fresh { AreFresh (map shown devices.items) }
     requires few { steps ≤ 1000000000 }
-    ensures answer { AnswersJob (map shown devices.items) (picture_job image.now script.now name.now steps (option_map (λ n. n.now) names.entry))
+    ensures answer { AnswersJob (map shown devices.items)
+        (picture_job image.now script.now name.now steps (option_map (λ n. n.now) names.entry))
         (F.seen files.old) (F.seen files.new) (S.seen out.old) (S.seen out.new) result }
     ensures later { (F.seen files.old).read_faults ≤ (F.seen files.new).read_faults }
     ensures puts { (F.seen files.old).put_faults ≤ (F.seen files.new).put_faults }

@@ -19,11 +19,11 @@ ghost use Rattle.trace_cli.specs.FileFaults.{IsFaultFor, IsNamedFaultOf};
 ghost use Rattle.trace_cli.specs.Ready.{StartsWell, StartsSeen, StartsUnless, IsLoaded, IsStateSet, IsResumable, IsNamedFaultIn};
 ghost use Rattle.trace_cli.specs.Answer.{AnswersJob, TellsEach};
 
-use crate::file_faults::{FileFault, NamedFault, fault_named, refused_at_number};
-use crate::preparing::{read_image, read_script};
 use crate::commands::run::tell_run;
-use crate::sources::{FILE_LIMIT, read_contents};
+use crate::file_faults::{FileFault, NamedFault, fault_named, refused_at_number};
 use crate::lines::tell_named_fault;
+use crate::preparing::{read_image, read_script};
+use crate::sources::{FILE_LIMIT, read_contents};
 use board_core::Board;
 use command_line::Detail;
 use devices::Device;
@@ -35,8 +35,10 @@ use std::alloc::Global;
 
 // Why bytes are refused as a state.
 fn fault_by_state(alloc: Global, fault: StateFault) -> FileFault
-    ensures { (devices : List DeviceData) (image : ImageData) (bound : ℕ) (bytes : List ℕ) → length bytes ≤ file_limit
-        → IsStateFault (state_fault (expected_of (setup_of_image image) devices) bytes) fault → IsFaultFor (state_refusal devices image bound bytes) result }
+    ensures { (devices : List DeviceData) (image : ImageData) (bound : ℕ) (bytes : List ℕ) →
+        length bytes ≤ file_limit
+        → IsStateFault (state_fault (expected_of (setup_of_image image) devices) bytes) fault →
+        IsFaultFor (state_refusal devices image bound bytes) result }
 {
     match fault {
         StateFault::Refused { cause, place } => refused_at_number(alloc, cause, place as u64),
@@ -51,9 +53,11 @@ fn are_bytes(bytes: &[u8])
     let _len = bytes.len();
 }
 
-// The run of an image that was read, with a script that was read and with devices as they are handed in, starts well.
+// The run of an image that was read, with a script that was read and with devices as they are
+// handed in, starts well.
 fn starts_well(image: &Image, script: &Script)
-    ensures { (devices : List DeviceData) → AreFresh devices → StartsWell (scenario_of (picture image.now) (script_data script.now) devices) }
+    ensures { (devices : List DeviceData) → AreFresh devices →
+        StartsWell (scenario_of (picture image.now) (script_data script.now) devices) }
 {
     image.facts();
     script.facts();
@@ -71,10 +75,14 @@ fn board_in(
 ) -> Result<Board, FileFault>
     requires fresh { AreFresh (map shown devices.items) }
     requires few { length bytes.now ≤ file_limit }
-    ensures accepted { IfOk result (λ b. state_refusal (map shown devices.items) (picture image.now) bound bytes.now ≡ None) }
-    ensures loaded { IfOk result (IsLoaded shown (scenario_of (picture image.now) (script_data script.now) (map shown devices.items)) bytes.now) }
+    ensures accepted { IfOk result (λ b. state_refusal (map shown devices.items) (picture image.now)
+        bound bytes.now ≡ None) }
+    ensures loaded { IfOk result (IsLoaded shown
+        (scenario_of (picture image.now) (script_data script.now) (map shown devices.items))
+        bytes.now) }
     ensures turns { IfOk result (λ b. turns_of b ≤ bound) }
-    ensures file_fault { IfErr result (IsFaultFor (state_refusal (map shown devices.items) (picture image.now) bound bytes.now)) }
+    ensures file_fault { IfErr result
+        (IsFaultFor (state_refusal (map shown devices.items) (picture image.now) bound bytes.now)) }
 {
     let board = match load(alloc, image, script, bytes, devices) {
         Ok(board) => board,
@@ -97,9 +105,13 @@ fn set_state<F: Files>(
     devices: Vec<Box<dyn Device>>,
 ) -> Result<Board, NamedFault>
     requires fresh { AreFresh (map shown devices.items) }
-    ensures set { IfOk result (IsStateSet shown (map shown devices.items) (F.seen files.old).contents (picture image.now) (script_data script.now) state.now bound) }
-    ensures named_fault { IfErr result (IsNamedFaultOf (F.seen files.old) (F.seen files.new) (state_file (map shown devices.items) (picture image.now) bound state.now)) }
-    ensures starts { StartsWell (scenario_of (picture image.now) (script_data script.now) (map shown devices.items)) }
+    ensures set { IfOk result (IsStateSet shown (map shown devices.items)
+        (F.seen files.old).contents (picture image.now) (script_data script.now) state.now bound) }
+    ensures named_fault { IfErr result
+        (IsNamedFaultOf (F.seen files.old) (F.seen files.new)
+        (state_file (map shown devices.items) (picture image.now) bound state.now)) }
+    ensures starts { StartsWell (scenario_of (picture image.now) (script_data script.now)
+        (map shown devices.items)) }
     ensures only_reads { OnlyReads (F.seen files.old) (F.seen files.new) }
 {
     starts_well(image, script);
@@ -113,7 +125,8 @@ fn set_state<F: Files>(
     }
 }
 
-// The board in the state from which the run of the image and the script under these names goes on, with devices.
+// The board in the state from which the run of the image and the script under these names goes on,
+// with devices.
 fn prepare_resume<F: Files>(
     alloc: Global,
     files: &mut F,
@@ -124,10 +137,18 @@ fn prepare_resume<F: Files>(
     devices: Vec<Box<dyn Device>>,
 ) -> Result<Board, NamedFault>
     requires fresh { AreFresh (map shown devices.items) }
-    ensures ready { (detail : Details) → IfOk result (IsResumable shown (map shown devices.items) (resume_job image.now script.now state.now bound detail) (F.seen files.old).contents bound detail) }
-    ensures named_fault { (detail : Details) → IfErr result (IsNamedFaultIn (map shown devices.items) (resume_job image.now script.now state.now bound detail) (F.seen files.old) (F.seen files.new)) }
-    ensures starts { IfOk result (λ b. StartsSeen (map shown devices.items) (F.seen files.old).contents image.now script.now) }
-    ensures unless { IfErr result (StartsUnless (map shown devices.items) (F.seen files.old) (F.seen files.new) image.now script.now) }
+    ensures ready { (detail : Details) →
+        IfOk result (IsResumable shown (map shown devices.items)
+        (resume_job image.now script.now state.now bound detail) (F.seen files.old).contents bound
+        detail) }
+    ensures named_fault { (detail : Details) →
+        IfErr result (IsNamedFaultIn (map shown devices.items)
+        (resume_job image.now script.now state.now bound detail) (F.seen files.old)
+        (F.seen files.new)) }
+    ensures starts { IfOk result (λ b. StartsSeen (map shown devices.items)
+        (F.seen files.old).contents image.now script.now) }
+    ensures unless { IfErr result (StartsUnless (map shown devices.items) (F.seen files.old)
+        (F.seen files.new) image.now script.now) }
     ensures only_reads { OnlyReads (F.seen files.old) (F.seen files.new) }
 {
     let image_data = match read_image(alloc, files, image) {
@@ -155,8 +176,12 @@ pub fn resume_files<F: Files, S: Sink>(
 ) -> u8
     requires fresh { AreFresh (map shown devices.items) }
     requires few { steps ≤ 1000000000 }
-    ensures answer { AnswersJob (map shown devices.items) (resume_job image.now script.now state.now steps detail) (F.seen files.old) (F.seen files.new) (S.seen out.old) (S.seen out.new) result }
-    ensures each { TellsEach (map shown devices.items) (resume_job image.now script.now state.now steps detail) (F.seen files.old) (F.seen files.new) (S.seen out.old) (S.seen out.new) result }
+    ensures answer { AnswersJob (map shown devices.items)
+        (resume_job image.now script.now state.now steps detail) (F.seen files.old)
+        (F.seen files.new) (S.seen out.old) (S.seen out.new) result }
+    ensures each { TellsEach (map shown devices.items)
+        (resume_job image.now script.now state.now steps detail) (F.seen files.old)
+        (F.seen files.new) (S.seen out.old) (S.seen out.new) result }
     ensures only_reads { OnlyReads (F.seen files.old) (F.seen files.new) }
 {
     match prepare_resume(alloc, files, image, script, state, steps, devices) {

@@ -15,8 +15,8 @@ ghost use Rattle.trace_cli.specs.Pushed.{Pushed};
 ghost use Rattle.trace_cli.specs.Answer.{AnswersJob, IsOfRun};
 
 use crate::file_faults::NamedFault;
-use crate::preparing::{prepare_go, prepare_run};
 use crate::lines::{status_by, tell_named_fault};
+use crate::preparing::{prepare_go, prepare_run};
 use audit_runs::{memories_are_shown, texts_of_runs_are_good};
 use board_core::{Board, End, Level};
 use board_run::{run, write_memory};
@@ -35,7 +35,8 @@ fn level_of(detail: Detail) -> Level
     }
 }
 
-// A run's trace, and then maybe its memory. From the start of a run an audit finds the whole text good.
+// A run's trace, and then maybe its memory. From the start of a run an audit finds the whole text
+// good.
 fn push_run<S: Sink>(
     board: &mut Board,
     steps: u32,
@@ -45,9 +46,13 @@ fn push_run<S: Sink>(
     requires stood { StandsForSome (boxed shown) board.old }
     requires from { turns_of board.old ≤ steps }
     requires few { steps ≤ 1000000000 }
-    ensures text { (x : Scenario) (s : State) → Stands (boxed shown) x board.old s → Pushes (S.seen out.old).written (S.seen out.new).written (resumed steps detail x s).text result }
-    ensures end { (x : Scenario) (s : State) → Stands (boxed shown) x board.old s → IfOk result (λ e. e ≡ (run_from (level_of detail) steps x s).end) }
-    ensures good { (x : Scenario) → Stands (boxed shown) x board.old (start_of x) → IfOk result (λ _. IsGoodText (resumed steps detail x (start_of x)).text) }
+    ensures text { (x : Scenario) (s : State) → Stands (boxed shown) x board.old s →
+        Pushes (S.seen out.old).written (S.seen out.new).written (resumed steps detail x s).text
+        result }
+    ensures end { (x : Scenario) (s : State) → Stands (boxed shown) x board.old s →
+        IfOk result (λ e. e ≡ (run_from (level_of detail) steps x s).end) }
+    ensures good { (x : Scenario) → Stands (boxed shown) x board.old (start_of x) →
+        IfOk result (λ _. IsGoodText (resumed steps detail x (start_of x)).text) }
     ensures cause { HasCause (S.seen out.old).faults (S.seen out.new).faults result }
 {
     texts_of_runs_are_good();
@@ -64,8 +69,10 @@ pub fn tell_run<S: Sink>(board: &mut Board, steps: u32, detail: Detail, out: &mu
     requires stood { StandsForSome (boxed shown) board.old }
     requires from { turns_of board.old ≤ steps }
     requires few { steps ≤ 1000000000 }
-    ensures pushed { (x : Scenario) (s : State) → Stands (boxed shown) x board.old s → Pushed (S.seen out.old) (S.seen out.new) (resumed steps detail x s) result }
-    ensures good { (x : Scenario) → Stands (boxed shown) x board.old (start_of x) → IsOfRun result → IsGoodText (resumed steps detail x (start_of x)).text }
+    ensures pushed { (x : Scenario) (s : State) → Stands (boxed shown) x board.old s →
+        Pushed (S.seen out.old) (S.seen out.new) (resumed steps detail x s) result }
+    ensures good { (x : Scenario) → Stands (boxed shown) x board.old (start_of x) → IsOfRun result →
+        IsGoodText (resumed steps detail x (start_of x)).text }
 {
     match push_run(board, steps, detail, out) {
         Ok(end) => status_by(end),
@@ -83,8 +90,10 @@ fn run_prepared<S: Sink>(
 ) -> u8
     requires few { steps ≤ 1000000000 }
     requires ready { IfOk prepared (λ b. StandsForSome (boxed shown) b × (turns_of b ≡ 0)) }
-    ensures { (devices : List DeviceData) (job : Asked) (before after : FilesSeen) → after.contents ≡ before.contents
-        → IfOk prepared (IsReady (boxed shown) devices job before.contents (ran steps detail)) → IfErr prepared (IsNamedFaultIn devices job before after)
+    ensures { (devices : List DeviceData) (job : Asked) (before after : FilesSeen) →
+        after.contents ≡ before.contents
+        → IfOk prepared (IsReady (boxed shown) devices job before.contents (ran steps detail)) →
+        IfErr prepared (IsNamedFaultIn devices job before after)
         → AnswersJob devices job before after (S.seen out.old) (S.seen out.new) result }
 {
     match prepared {
@@ -109,7 +118,9 @@ pub fn run_files<F: Files, S: Sink>(
 ) -> u8
     requires fresh { AreFresh (map shown devices.items) }
     requires few { steps ≤ 1000000000 }
-    ensures answer { AnswersJob (map shown devices.items) (run_job image.now script.now steps detail) (F.seen files.old) (F.seen files.new) (S.seen out.old) (S.seen out.new) result }
+    ensures answer { AnswersJob (map shown devices.items)
+        (run_job image.now script.now steps detail) (F.seen files.old) (F.seen files.new)
+        (S.seen out.old) (S.seen out.new) result }
     ensures only_reads { OnlyReads (F.seen files.old) (F.seen files.new) }
 {
     let prepared = prepare_run(alloc, files, image, script, devices);
@@ -129,7 +140,8 @@ pub fn go_files<F: Files, S: Sink>(
 ) -> u8
     requires fresh { AreFresh (map shown devices.items) }
     requires few { steps ≤ 1000000000 }
-    ensures answer { AnswersJob (map shown devices.items) (go_job app.now script.now steps detail) (F.seen files.old) (F.seen files.new) (S.seen out.old) (S.seen out.new) result }
+    ensures answer { AnswersJob (map shown devices.items) (go_job app.now script.now steps detail)
+        (F.seen files.old) (F.seen files.new) (S.seen out.old) (S.seen out.new) result }
     ensures only_reads { OnlyReads (F.seen files.old) (F.seen files.new) }
 {
     let prepared = prepare_go(alloc, files, app, script, devices);

@@ -29,7 +29,8 @@ use std::alloc::Global;
 // The image of an application and of the sources of its tasks.
 fn image_by(alloc: Global, app: &App, sources: &[String]) -> Result<Image, BuildFault>
     requires { length sources.now ≡ length (app_of app.now).tasks }
-    ensures built { IfOk result (λ i. Built (app_of app.now) (map string_bytes sources.now) (image_data i)) }
+    ensures built { IfOk result (λ i. Built (app_of app.now) (map string_bytes sources.now)
+        (image_data i)) }
     ensures refused { IfErr result (Refuses (app_of app.now) (map string_bytes sources.now)) }
 {
     let mut builder = Builder::open(alloc, app)?;
@@ -39,7 +40,8 @@ fn image_by(alloc: Global, app: &App, sources: &[String]) -> Result<Image, Build
     builder.finish()
 }
 
-// The board at the start of the run of the sample of a seed, which has no device: only for want of memory there is none.
+// The board at the start of the run of the sample of a seed, which has no device: only for want of
+// memory there is none.
 fn prepare_sample(alloc: Global, seed: u32) -> Result<Board, BuildFault>
     ensures ready { IfOk result (IsSampleReady (boxed shown) seed) }
     ensures memory { IfErr result (λ e. e ≡ BuildFault.Memory) }
@@ -61,7 +63,8 @@ fn tell_sample<S: Sink>(board: &mut Board, steps: u32, out: &mut S) -> u8
     requires stood { StandsForSome (boxed shown) board.old }
     requires fresh { turns_of board.old ≡ 0 }
     requires few { steps ≤ 1000000000 }
-    ensures { (x : Scenario) → Stands (boxed shown) x board.old (start_of x) → Pushed (S.seen out.old) (S.seen out.new) (sampled steps x) result }
+    ensures { (x : Scenario) → Stands (boxed shown) x board.old (start_of x) →
+        Pushed (S.seen out.old) (S.seen out.new) (sampled steps x) result }
 {
     match summarize(board, steps, out) {
         Ok(end) => status_by(end),
@@ -72,8 +75,10 @@ fn tell_sample<S: Sink>(board: &mut Board, steps: u32, out: &mut S) -> u8
 /// `sample SEED STEPS`. No device is handed in, whatever there is for another job.
 pub fn run_sample<S: Sink>(alloc: Global, seed: u32, steps: u32, out: &mut S) -> u8
     requires few { steps ≤ 1000000000 }
-    ensures { (devices : List DeviceData) (before after : FilesSeen) → after.contents ≡ before.contents
-        → AnswersJob devices (sample_job seed steps) before after (S.seen out.old) (S.seen out.new) result }
+    ensures { (devices : List DeviceData) (before after : FilesSeen) →
+        after.contents ≡ before.contents
+        → AnswersJob devices (sample_job seed steps) before after (S.seen out.old) (S.seen out.new)
+        result }
 {
     match prepare_sample(alloc, seed) {
         Ok(board) => {

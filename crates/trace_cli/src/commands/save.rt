@@ -8,9 +8,9 @@ ghost use Rattle.command_line.specs.CommandLine.{save as save_job};
 ghost use Rattle.trace_cli.specs.Answer.{Tells, AnswersJob};
 ghost use Rattle.trace_cli.specs.Verdict.{saved, saved_bytes};
 
+use crate::lines::{line_of_saved, tell_named_fault};
 use crate::preparing::prepare_run;
 use crate::putting::put_told;
-use crate::lines::{line_of_saved, tell_named_fault};
 use board_core::{Board, Level};
 use board_run::{Nobody, play};
 use devices::Device;
@@ -23,7 +23,8 @@ fn last_bytes(alloc: Global, board: &mut Board, steps: u32) -> Result<Vec<u8>, A
     requires stood { StandsForSome (boxed shown) board.old }
     requires fresh { turns_of board.old ≡ 0 }
     requires few { steps ≤ 1000000000 }
-    ensures { (x : Scenario) → Stands (boxed shown) x board.old (start_of x) → IfOk result (λ v. v.items ≡ saved_bytes steps x) }
+    ensures { (x : Scenario) → Stands (boxed shown) x board.old (start_of x) →
+        IfOk result (λ v. v.items ≡ saved_bytes steps x) }
 {
     match play(board, steps, Level::Calls, &mut Nobody) {
         Ok(_) => save(alloc, board),
@@ -39,7 +40,9 @@ fn put_state<F: Files, S: Sink>(
     files: &mut F,
     out: &mut S,
 ) -> u8
-    ensures tells { (n : ℕ) (x : Scenario) → bytes.now ≡ saved_bytes n x → Tells (F.seen files.old) (F.seen files.new) (S.seen out.old) (S.seen out.new) (saved name.now n x) result }
+    ensures tells { (n : ℕ) (x : Scenario) → bytes.now ≡ saved_bytes n x →
+        Tells (F.seen files.old) (F.seen files.new) (S.seen out.old) (S.seen out.new)
+        (saved name.now n x) result }
     ensures reads { (F.seen files.new).read_faults ≡ (F.seen files.old).read_faults }
     ensures puts { (F.seen files.old).put_faults ≤ (F.seen files.new).put_faults }
 {
@@ -62,7 +65,9 @@ fn save_board<F: Files, S: Sink>(
     requires stood { StandsForSome (boxed shown) board.old }
     requires fresh { turns_of board.old ≡ 0 }
     requires few { steps ≤ 1000000000 }
-    ensures tells { (x : Scenario) → Stands (boxed shown) x board.old (start_of x) → Tells (F.seen files.old) (F.seen files.new) (S.seen out.old) (S.seen out.new) (saved name.now steps x) result }
+    ensures tells { (x : Scenario) → Stands (boxed shown) x board.old (start_of x) →
+        Tells (F.seen files.old) (F.seen files.new) (S.seen out.old) (S.seen out.new)
+        (saved name.now steps x) result }
     ensures reads { (F.seen files.new).read_faults ≡ (F.seen files.old).read_faults }
     ensures puts { (F.seen files.old).put_faults ≤ (F.seen files.new).put_faults }
 {
@@ -85,7 +90,9 @@ pub fn save_file<F: Files, S: Sink>(
 ) -> u8
     requires fresh { AreFresh (map shown devices.items) }
     requires few { steps ≤ 1000000000 }
-    ensures answer { AnswersJob (map shown devices.items) (save_job image.now script.now name.now steps) (F.seen files.old) (F.seen files.new) (S.seen out.old) (S.seen out.new) result }
+    ensures answer { AnswersJob (map shown devices.items)
+        (save_job image.now script.now name.now steps) (F.seen files.old) (F.seen files.new)
+        (S.seen out.old) (S.seen out.new) result }
     ensures later { (F.seen files.old).read_faults ≤ (F.seen files.new).read_faults }
     ensures puts { (F.seen files.old).put_faults ≤ (F.seen files.new).put_faults }
 {

@@ -17,9 +17,9 @@ ghost use Rattle.trace_cli.specs.Verdict.{swept};
 ghost use Rattle.trace_cli.specs.Answer.{AnswersJob};
 
 use crate::file_faults::{FileFault, NamedFault, fault_named, refused_at_number};
+use crate::lines::tell_named_fault;
 use crate::preparing::{read_image, read_script};
 use crate::sources::{FILE_LIMIT, read_contents, script_in};
-use crate::lines::tell_named_fault;
 use board_core::Board;
 use devices::Device;
 use outside_io::{Files, Sink};
@@ -52,8 +52,10 @@ fn arrival_in(alloc: Global, bytes: &[u8]) -> Result<Script, FileFault>
 
 // The arrival under a name.
 fn read_arrival<F: Files>(alloc: Global, files: &mut F, name: &str) -> Result<Script, NamedFault>
-    ensures arrival { IfOk result (λ s. IsArrivalFile (F.seen files.old).contents name.now (script_data s)) }
-    ensures named_fault { IfErr result (IsNamedFaultOf (F.seen files.old) (F.seen files.new) (arrival_file name.now)) }
+    ensures arrival { IfOk result (λ s. IsArrivalFile (F.seen files.old).contents name.now
+        (script_data s)) }
+    ensures named_fault { IfErr result
+        (IsNamedFaultOf (F.seen files.old) (F.seen files.new) (arrival_file name.now)) }
     ensures only_reads { OnlyReads (F.seen files.old) (F.seen files.new) }
 {
     let bytes = match read_contents(alloc, files, name, FILE_LIMIT) {
@@ -66,7 +68,8 @@ fn read_arrival<F: Files>(alloc: Global, files: &mut F, name: &str) -> Result<Sc
     }
 }
 
-// The sweeper at the start of the run of the image and the script under these names, with devices, and the arrival under the third.
+// The sweeper at the start of the run of the image and the script under these names, with devices,
+// and the arrival under the third.
 fn prepare_sweep<F: Files>(
     alloc: Global,
     files: &mut F,
@@ -77,8 +80,13 @@ fn prepare_sweep<F: Files>(
 ) -> Result<Sweeper, NamedFault>
     requires fresh { AreFresh (map shown devices.items) }
     ensures ready { (from to limit : ℕ) (mem : Bool)
-        → IfOk result (IsSweepReady shown (map shown devices.items) (sweep_job image.now script.now arrival.now from to limit mem) (F.seen files.old).contents from to limit mem) }
-    ensures named_fault { (from to limit : ℕ) (mem : Bool) → IfErr result (IsNamedFaultIn (map shown devices.items) (sweep_job image.now script.now arrival.now from to limit mem) (F.seen files.old) (F.seen files.new)) }
+        → IfOk result (IsSweepReady shown (map shown devices.items)
+        (sweep_job image.now script.now arrival.now from to limit mem) (F.seen files.old).contents
+        from to limit mem) }
+    ensures named_fault { (from to limit : ℕ) (mem : Bool) →
+        IfErr result (IsNamedFaultIn (map shown devices.items)
+        (sweep_job image.now script.now arrival.now from to limit mem) (F.seen files.old)
+        (F.seen files.new)) }
     ensures only_reads { OnlyReads (F.seen files.old) (F.seen files.new) }
 {
     let image_data = match read_image(alloc, files, image) {
@@ -112,11 +120,14 @@ fn tell_sweep<S: Sink>(
     memory: bool,
     out: &mut S,
 ) -> u8
-    requires ready { (x : Scenario) × (arrival : List Listed) × IsReadyToSweep (boxed shown) x arrival sweeper.old }
+    requires ready { (x : Scenario) × (arrival : List Listed)
+        × IsReadyToSweep (boxed shown) x arrival sweeper.old }
     requires range { to ≤ 1000000000 }
     requires few { steps ≤ 1000000000 }
-    ensures { (x : Scenario) (arrival : List Listed) → IsReadyToSweep (boxed shown) x arrival sweeper.old
-        → Pushed (S.seen out.old) (S.seen out.new) (swept x (asked arrival from to steps memory)) result }
+    ensures { (x : Scenario) (arrival : List Listed) →
+        IsReadyToSweep (boxed shown) x arrival sweeper.old
+        → Pushed (S.seen out.old) (S.seen out.new) (swept x (asked arrival from to steps memory))
+        result }
 {
     match sweeper.sweep(from, to, steps, memory, out) {
         Ok(true) => 8,
@@ -142,7 +153,9 @@ pub fn sweep_files<F: Files, S: Sink>(
     requires fresh { AreFresh (map shown devices.items) }
     requires range { to ≤ 1000000000 }
     requires few { steps ≤ 1000000000 }
-    ensures answer { AnswersJob (map shown devices.items) (sweep_job image.now script.now arrival.now from to steps memory) (F.seen files.old) (F.seen files.new) (S.seen out.old) (S.seen out.new) result }
+    ensures answer { AnswersJob (map shown devices.items)
+        (sweep_job image.now script.now arrival.now from to steps memory) (F.seen files.old)
+        (F.seen files.new) (S.seen out.old) (S.seen out.new) result }
     ensures only_reads { OnlyReads (F.seen files.old) (F.seen files.new) }
 {
     match prepare_sweep(alloc, files, image, script, arrival, devices) {

@@ -10,8 +10,8 @@ ghost use Rattle.trace_cli.specs.Pushed.{Says};
 ghost use Rattle.trace_cli.specs.Verdict.{timed};
 ghost use Rattle.trace_cli.specs.Answer.{AnswersJob};
 
-use crate::naming::prepare_named;
 use crate::lines::{status_by, tell_named_fault};
+use crate::naming::prepare_named;
 use board_core::Board;
 use devices::Device;
 use outside_io::{Files, Sink};
@@ -30,7 +30,8 @@ fn time_board<S: Sink>(
     requires fresh { turns_of board.old ≡ 0 }
     requires few { steps ≤ 1000000000 }
     requires named { length names.now ≡ count_of board.old }
-    ensures { (x : Scenario) → Stands (boxed shown) x board.old (start_of x) → Says (S.seen out.old) (S.seen out.new) (timed steps (map string_bytes names.now) x) result }
+    ensures { (x : Scenario) → Stands (boxed shown) x board.old (start_of x) →
+        Says (S.seen out.old) (S.seen out.new) (timed steps (map string_bytes names.now) x) result }
 {
     match write_timeline(alloc, board, steps, names, out) {
         Ok(end) => status_by(end),
@@ -52,7 +53,9 @@ pub fn timeline_files<F: Files, S: Sink>(
 ) -> u8
     requires fresh { AreFresh (map shown devices.items) }
     requires few { steps ≤ 1000000000 }
-    ensures answer { AnswersJob (map shown devices.items) (timeline_job image.now script.now steps (option_map (λ n. n.now) names.entry)) (F.seen files.old) (F.seen files.new) (S.seen out.old) (S.seen out.new) result }
+    ensures answer { AnswersJob (map shown devices.items)
+        (timeline_job image.now script.now steps (option_map (λ n. n.now) names.entry))
+        (F.seen files.old) (F.seen files.new) (S.seen out.old) (S.seen out.new) result }
     ensures only_reads { OnlyReads (F.seen files.old) (F.seen files.new) }
 {
     match prepare_named(alloc, files, image, script, names, devices) {

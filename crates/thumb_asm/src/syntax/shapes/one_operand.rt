@@ -92,7 +92,8 @@ fn list(mnemonic: Mnemonic, text: &[u8]) -> Option<Shape<'_>>
 
 #[tactic(auto, unfolding(crate::specs::Syntax::shaped, crate::specs::Syntax::expressions))]
 fn quoted(mnemonic: Mnemonic, text: &[u8]) -> Option<Shape<'_>>
-    ensures { option_map shape_of result ≡ shaped mnemonic (Quoted (good_text false text.now) ∷ []) }
+    ensures { option_map shape_of result ≡ shaped mnemonic
+        (Quoted (good_text false text.now) ∷ []) }
 {
     match mnemonic {
         Mnemonic::Ascii => Some(Shape::Text(text)),

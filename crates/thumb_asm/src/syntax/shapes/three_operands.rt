@@ -20,7 +20,8 @@ pub(in crate::syntax) fn three<'a>(
     c: Operand<'a>,
 ) -> Option<Shape<'a>>
     requires { IsPlain mnemonic }
-    ensures { option_map shape_of result ≡ shaped mnemonic (operand_of a.entry ∷ operand_of b.entry ∷ operand_of c.entry ∷ []) }
+    ensures { option_map shape_of result ≡ shaped mnemonic
+        (operand_of a.entry ∷ operand_of b.entry ∷ operand_of c.entry ∷ []) }
 {
     match (a, b, c) {
         (Operand::Register(d), Operand::Register(n), Operand::Register(m)) => registers(
@@ -35,7 +36,8 @@ pub(in crate::syntax) fn three<'a>(
 
 #[tactic(auto, unfolding(crate::specs::Syntax::shaped, crate::specs::Syntax::expressions))]
 fn registers<'a>(mnemonic: Mnemonic, d: Reg, n: Reg, m: Reg) -> Option<Shape<'a>>
-    ensures { option_map shape_of result ≡ shaped mnemonic (Register d ∷ Register n ∷ Register m ∷ []) }
+    ensures { option_map shape_of result ≡ shaped mnemonic
+        (Register d ∷ Register n ∷ Register m ∷ []) }
 {
     let insn = match mnemonic {
         Mnemonic::Adds => Insn::AddsReg { d, n, m },
@@ -56,7 +58,8 @@ fn top_shift(shift: Shift) -> u32
 
 #[tactic(auto, unfolding(crate::specs::Syntax::shaped, crate::specs::Syntax::expressions))]
 fn immediate(mnemonic: Mnemonic, d: Reg, n: Reg, e: &[u8]) -> Option<Shape<'_>>
-    ensures { option_map shape_of result ≡ shaped mnemonic (Register d ∷ Register n ∷ Immediate e.now ∷ []) }
+    ensures { option_map shape_of result ≡ shaped mnemonic
+        (Register d ∷ Register n ∷ Immediate e.now ∷ []) }
 {
     let shape = match mnemonic {
         Mnemonic::Adds => Shape::Filled(e, Insn::AddsImm3 { d, n, value: 0 }),

@@ -19,7 +19,8 @@ pub(in crate::syntax) fn two<'a>(
     b: Operand<'a>,
 ) -> Option<Shape<'a>>
     requires { IsPlain mnemonic }
-    ensures { option_map shape_of result ≡ shaped mnemonic (operand_of a.entry ∷ operand_of b.entry ∷ []) }
+    ensures { option_map shape_of result ≡ shaped mnemonic
+        (operand_of a.entry ∷ operand_of b.entry ∷ []) }
 {
     match (a, b) {
         (Operand::Register(r), _) => register_and(mnemonic, r, b),
@@ -32,7 +33,8 @@ pub(in crate::syntax) fn two<'a>(
 /// The same where the first is a register.
 fn register_and(mnemonic: Mnemonic, r: Reg, operand: Operand<'_>) -> Option<Shape<'_>>
     requires { IsPlain mnemonic }
-    ensures { option_map shape_of result ≡ shaped mnemonic (Register r ∷ operand_of operand.entry ∷ []) }
+    ensures { option_map shape_of result ≡ shaped mnemonic
+        (Register r ∷ operand_of operand.entry ∷ []) }
 {
     match operand {
         Operand::Register(m) => registers(mnemonic, r, m),
@@ -214,7 +216,8 @@ fn memory_register<'a>(mnemonic: Mnemonic, t: Reg, n: Reg, m: Reg) -> Option<Sha
 
 #[tactic(auto, unfolding(crate::specs::Syntax::shaped, crate::specs::Syntax::expressions))]
 fn memory_immediate(mnemonic: Mnemonic, t: Reg, n: Reg, e: &[u8]) -> Option<Shape<'_>>
-    ensures { option_map shape_of result ≡ shaped mnemonic (Register t ∷ MemoryImmediate n e.now ∷ []) }
+    ensures { option_map shape_of result ≡ shaped mnemonic
+        (Register t ∷ MemoryImmediate n e.now ∷ []) }
 {
     let insn = match mnemonic {
         Mnemonic::Load(Load::Whole(size)) => loaded(size, t, n),
@@ -226,7 +229,8 @@ fn memory_immediate(mnemonic: Mnemonic, t: Reg, n: Reg, e: &[u8]) -> Option<Shap
 
 #[tactic(auto, unfolding(crate::specs::Syntax::shaped, crate::specs::Syntax::expressions))]
 fn list(mnemonic: Mnemonic, n: Reg, text: &[u8]) -> Option<Shape<'_>>
-    ensures { option_map shape_of result ≡ shaped mnemonic (Register n ∷ Registers (ranges_in text.now) ∷ []) }
+    ensures { option_map shape_of result ≡ shaped mnemonic
+        (Register n ∷ Registers (ranges_in text.now) ∷ []) }
 {
     match mnemonic {
         Mnemonic::Stm => Some(Shape::Block(n, false, false, text)),
@@ -237,7 +241,8 @@ fn list(mnemonic: Mnemonic, n: Reg, text: &[u8]) -> Option<Shape<'_>>
 
 #[tactic(auto, unfolding(crate::specs::Syntax::shaped, crate::specs::Syntax::expressions))]
 fn raised_list(mnemonic: Mnemonic, n: Reg, text: &[u8]) -> Option<Shape<'_>>
-    ensures { option_map shape_of result ≡ shaped mnemonic (Raised n ∷ Registers (ranges_in text.now) ∷ []) }
+    ensures { option_map shape_of result ≡ shaped mnemonic
+        (Raised n ∷ Registers (ranges_in text.now) ∷ []) }
 {
     match mnemonic {
         Mnemonic::Stm => Some(Shape::Block(n, true, false, text)),
