@@ -134,7 +134,7 @@ fn answer<F: Files, S: Sink>(
             },
         ) => live_files(alloc, image, script, commands, files, out, devices),
         Ok(
-            Job::ImageData {
+            Job::Picture {
                 image,
                 script,
                 out: name,

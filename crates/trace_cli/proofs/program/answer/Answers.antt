@@ -191,18 +191,18 @@ go_files-requires g c = record { fresh = c.requires.fresh; few = rw c.in-Ok-Go.f
 pub returns-in-Err-NotAccepted-clause-answer : goal.returns-in-Err-NotAccepted-clause-answer
 returns-in-Err-NotAccepted-clause-answer g c = answers_usage _ _ _ _ _ (c.in-Err-NotAccepted.ensures.refused c.in-Err-NotAccepted.field-0-is) c.tell_usage.ensures
 
-pub returns-in-Ok-ImageData-clause-answer : goal.returns-in-Ok-ImageData-clause-answer
-returns-in-Ok-ImageData-clause-answer g c =
-    let job = rw c.in-Ok-ImageData.field-0-is at c.in-Ok-ImageData.ensures.job in
-    by_job _ _ _ _ _ _ _ c.in-Ok-ImageData.ensures.accepted job c.picture_files.ensures.answer
+pub returns-in-Ok-Picture-clause-answer : goal.returns-in-Ok-Picture-clause-answer
+returns-in-Ok-Picture-clause-answer g c =
+    let job = rw c.in-Ok-Picture.field-0-is at c.in-Ok-Picture.ensures.job in
+    by_job _ _ _ _ _ _ _ c.in-Ok-Picture.ensures.accepted job c.picture_files.ensures.answer
 
-pub returns-in-Ok-ImageData-clause-each : goal.returns-in-Ok-ImageData-clause-each
-returns-in-Ok-ImageData-clause-each g c =
-    let job = rw c.in-Ok-ImageData.field-0-is at c.in-Ok-ImageData.ensures.job in
-    each_of_words _ (texts_of c.args.words.now) _ _ _ _ _ _ c.in-Ok-ImageData.ensures.accepted job tt
+pub returns-in-Ok-Picture-clause-each : goal.returns-in-Ok-Picture-clause-each
+returns-in-Ok-Picture-clause-each g c =
+    let job = rw c.in-Ok-Picture.field-0-is at c.in-Ok-Picture.ensures.job in
+    each_of_words _ (texts_of c.args.words.now) _ _ _ _ _ _ c.in-Ok-Picture.ensures.accepted job tt
 
 pub picture_files-requires : goal.picture_files-requires
-picture_files-requires g c = record { fresh = c.requires.fresh; few = rw c.in-Ok-ImageData.field-0-is at c.in-Ok-ImageData.ensures.few }
+picture_files-requires g c = record { fresh = c.requires.fresh; few = rw c.in-Ok-Picture.field-0-is at c.in-Ok-Picture.ensures.few }
 
 pub returns-in-Ok-Lcov-clause-answer : goal.returns-in-Ok-Lcov-clause-answer
 returns-in-Ok-Lcov-clause-answer g c =
