@@ -168,7 +168,7 @@ fn find_fault(k: &mut Kernel, args: &SendArgs, index: usize)
     });
 }
 
-/// What a request does to a task.
+/// The table of operations: what a request does to a task.
 fn carry_out(k: &mut Kernel, args: &SendArgs, request: Request, task: usize)
     requires there { task < task_count k.old }
     requires room { note_count k.old + restart_notes ≤ turn_notes }
@@ -192,7 +192,7 @@ fn carry_out(k: &mut Kernel, args: &SendArgs, request: Request, task: usize)
     }
 }
 
-/// A request of the caller, whose message and room for an answer are good.
+/// The lengths, then the index in the first word, are checked; then the request is carried out.
 fn serve(k: &mut Kernel, caller: usize, args: &SendArgs, request: Request)
     requires there { caller < task_count k.old }
     requires room { note_count k.old + syscall_notes ≤ turn_notes }
@@ -218,7 +218,7 @@ fn serve(k: &mut Kernel, caller: usize, args: &SendArgs, request: Request)
     k.answer(caller, &[0, request.reply_length()]);
 }
 
-/// A request of the supervisor, whose ranges are looked at first.
+/// The supervisor's request: its ranges are checked, then the request itself.
 #[inline(always)]
 fn hear_request(k: &mut Kernel, caller: usize, args: &SendArgs)
     requires there { caller < task_count k.old }
@@ -251,7 +251,7 @@ fn hear_request(k: &mut Kernel, caller: usize, args: &SendArgs)
     }
 }
 
-/// A kernel message to a kernel that stands.
+/// A kernel message from its first condition on: the caller is the supervisor.
 fn kernel_message_rows(k: &mut Kernel, caller: usize)
     requires there { caller < task_count k.old }
     requires room { note_count k.old + syscall_notes ≤ turn_notes }

@@ -1,4 +1,4 @@
-//! The system call RECV (Hubris Reference, on RECV).
+//! The system call RECV (Hubris Reference, on RECV). Rows are those of docs/FORMATS.md.
 
 ghost use Rattle.std.specs.Prelude.{◌≡◌, ◌+◌, ◌<◌, ◌≤◌, true, Some, None, Option, IfSome};
 ghost use Rattle.task_table.specs.model.State.{Setup, Turn};
@@ -29,7 +29,8 @@ enum Sender {
     One(usize),
 }
 
-/// Whom the caller's receive names; None where that is no other task.
+/// Row 2, and which of rows 4 to 7 it is: whom the caller's receive names; None where that is no
+/// other task.
 fn sender_of(k: &Kernel, caller: usize, args: &RecvArgs) -> Option<Sender>
     ensures named { (g : Setup) (t : Turn) → Holds g k.now t →
         IsNamed t.state caller args.now result }
@@ -51,7 +52,8 @@ fn sender_of(k: &Kernel, caller: usize, args: &RecvArgs) -> Option<Sender>
     }
 }
 
-/// The caller takes the call that a client offers to it; where it offers none, the caller listens.
+/// Rows 6 and 7: the caller takes the call that a client offers to it; where there is none, it
+/// listens.
 fn receive_or_listen(k: &mut Kernel, caller: usize, client: usize, from: FromIndex)
     requires there { caller < task_count k.old }
     requires client { client < task_count k.old }
@@ -69,7 +71,7 @@ fn receive_or_listen(k: &mut Kernel, caller: usize, client: usize, from: FromInd
     }
 }
 
-/// A message of a caller that no posted bit wakes.
+/// Rows 4 to 7: a message, where no posted bit is under the mask.
 fn receive_message(k: &mut Kernel, caller: usize, sender: Sender, best: Option<usize>)
     requires there { caller < task_count k.old }
     requires sender { IsInside (task_count k.old) sender }
@@ -93,7 +95,7 @@ fn receive_message(k: &mut Kernel, caller: usize, sender: Sender, best: Option<u
     }
 }
 
-/// The posted bits of the caller under its mask, where there are any, else a message.
+/// Rows 3 to 7: the posted bits of the caller under its mask, where there are any, else a message.
 fn receive_input(k: &mut Kernel, caller: usize, mask: u32, sender: Sender, best: Option<usize>)
     requires there { caller < task_count k.old }
     requires sender { IsInside (task_count k.old) sender }
@@ -112,7 +114,7 @@ fn receive_input(k: &mut Kernel, caller: usize, mask: u32, sender: Sender, best:
     }
 }
 
-/// RECV of a caller that waits for nothing.
+/// RECV of a caller that waits for nothing, from row 1 on.
 fn recv_rows(k: &mut Kernel, caller: usize, best: Option<usize>)
     requires there { caller < task_count k.old }
     requires best { IfSome best (λ i. i < task_count k.old) }

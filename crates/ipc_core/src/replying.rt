@@ -1,4 +1,5 @@
-//! The system calls REPLY and REPLY_FAULT (Hubris Reference, on REPLY and REPLY_FAULT).
+//! The system calls REPLY and REPLY_FAULT (Hubris Reference, on REPLY and REPLY_FAULT). Rows are
+//! those of docs/FORMATS.md.
 
 ghost use Rattle.std.specs.Prelude.{◌≡◌, ◌+◌, ◌<◌, ◌≤◌, Some};
 ghost use Rattle.kernel_abi.specs.Faults.{reason_number};
@@ -16,7 +17,7 @@ use kernel_abi::{Access, Reason, ReplyArgs, Usage};
 use region_check::Right;
 use task_table::{Found, Kernel, OpenCall};
 
-/// The caller answers a call that it has taken, once the reply is looked at.
+/// REPLY, rows 3 and 4: the caller answers a call that it has taken, once the reply is checked.
 fn reply_checked(k: &mut Kernel, caller: usize, client: usize, call: &OpenCall, args: &ReplyArgs)
     requires there { caller < task_count k.old }
     requires client { client < task_count k.old }
@@ -39,7 +40,7 @@ fn reply_checked(k: &mut Kernel, caller: usize, client: usize, call: &OpenCall, 
     k.hand_reply(caller, client, call, args);
 }
 
-/// The caller answers a client that may await its reply.
+/// REPLY, rows 2 to 4: the caller answers a client that may await its reply.
 fn reply_to_client(k: &mut Kernel, caller: usize, client: usize, args: &ReplyArgs)
     requires there { caller < task_count k.old }
     requires client { client < task_count k.old }
@@ -55,7 +56,7 @@ fn reply_to_client(k: &mut Kernel, caller: usize, client: usize, args: &ReplyArg
     }
 }
 
-/// REPLY, of any caller, to whom its id names.
+/// REPLY, of any caller, from row 1 on.
 fn reply_rows(k: &mut Kernel, caller: usize)
     requires there { caller < task_count k.old }
     requires room { note_count k.old + syscall_notes ≤ turn_notes }

@@ -1,4 +1,4 @@
-//! The system call SEND (Hubris Reference, on SEND).
+//! The system call SEND (Hubris Reference, on SEND). Rows are those of docs/FORMATS.md, SEND.
 
 ghost use Rattle.std.specs.Prelude.{◌≡◌, ◌+◌, ◌*◌, ◌<◌, ◌≤◌, ◌^◌, ◌||◌, not, Option, IfSome};
 ghost use Rattle.task_table.specs.model.State.{Setup, Turn};
@@ -24,7 +24,7 @@ enum Recipient {
     Live(usize),
 }
 
-/// Which other task an id names; None where it names none.
+/// Row 1: which other task an id names; None where it names none.
 fn recipient_of(k: &Kernel, caller: usize, id: TaskId) -> Option<Recipient>
     ensures named { (g : Setup) (t : Turn) → Holds g k.now t →
         IsRecipientOf t.state caller id.number result }
@@ -47,8 +47,8 @@ fn is_valid_table(base: u32, leases: u32) -> bool
     Range::of(base, 12 * u64::from(leases)).is_some()
 }
 
-/// Whether the message, the reply buffer or the lease table of a send reaches beyond the address
-/// space.
+/// Row 2: whether the message, the reply buffer or the lease table of a send reaches beyond the
+/// address space.
 fn reaches_out(args: &SendArgs) -> bool
     ensures { result ≡ (not (is_valid (message_of args.now)) ||
         (not (is_valid (reply_room args.now)) || not (is_valid (table_of args.now)))) }
@@ -58,7 +58,7 @@ fn reaches_out(args: &SendArgs) -> bool
         || !is_valid_table(args.table, args.leases)
 }
 
-/// A caller that waits for nothing sends to another task, once its ranges are looked at.
+/// Rows 2 to 5: a caller that waits for nothing sends to another task, once its ranges are checked.
 fn send_checked(k: &mut Kernel, caller: usize, recipient: Recipient, args: &SendArgs)
     requires there { caller < task_count k.old }
     requires recipient { IsAmong (task_count k.old) recipient }
@@ -85,7 +85,7 @@ fn send_checked(k: &mut Kernel, caller: usize, recipient: Recipient, args: &Send
     }
 }
 
-/// SEND of a caller that waits for nothing.
+/// SEND of a caller that waits for nothing, from row 1 on.
 fn send_rows(k: &mut Kernel, caller: usize)
     requires there { caller < task_count k.old }
     requires room { note_count k.old + syscall_notes ≤ turn_notes }

@@ -1,4 +1,5 @@
-//! The system calls BORROW_READ and BORROW_WRITE (Hubris Reference, on leases).
+//! The system calls BORROW_READ and BORROW_WRITE (Hubris Reference, on leases). Rows are those of
+//! docs/FORMATS.md, Leases.
 ghost use Rattle.std.specs.Prelude.{◌≡◌, ◌+◌, ◌*◌, ◌<◌, ◌≤◌, ◌^◌, ℕ, true, None, Some};
 ghost use Rattle.kernel_abi.specs.declared.Note.TheVariants as note;
 ghost use Rattle.task_table.specs.model.State.{Setup, Turn, Call};
@@ -39,8 +40,7 @@ fn refuse(k: &mut Kernel, borrower: usize, code: u32)
     k.answer(borrower, &[code, 0]);
 }
 
-/// The bytes of a loan move: so many, at least one, of which those of the lease begin at an
-/// address.
+/// Row 8: `count` bytes of a loan, at least one, move. Those of the lease begin at `leased`.
 fn move_bytes(k: &mut Kernel, loan: &Loan, leased: u32, count: u32)
     requires some { 0 < count }
     requires leased { IsLeased loan.now.way (memory_of k.old) leased count }
@@ -58,7 +58,7 @@ fn move_bytes(k: &mut Kernel, loan: &Loan, leased: u32, count: u32)
     }
 }
 
-/// The borrow is noted, and the borrower gets how many bytes moved.
+/// Row 8, the end: the borrow is noted, and the borrower gets how many bytes moved.
 fn answer_lent(k: &mut Kernel, loan: &Loan, count: u32)
     requires there { loan.now.borrower < task_count k.old }
     requires room { note_count k.old + 2 ≤ turn_notes }
@@ -77,8 +77,8 @@ fn answer_lent(k: &mut Kernel, loan: &Loan, count: u32)
     k.answer(loan.borrower, &[0, count]);
 }
 
-/// The bytes of the lease from an address on, so many, at least one, which the lender may lend by
-/// its regions.
+/// Rows 7 and 8: `count` bytes of the lease from `leased` on, at least one, where the lender may
+/// lend them by its regions.
 fn lend_bytes(k: &mut Kernel, loan: &Loan, leased: u32, count: u32)
     requires borrower { loan.now.borrower < task_count k.old }
     requires lender { loan.now.lender < task_count k.old }
@@ -102,7 +102,8 @@ fn lend_bytes(k: &mut Kernel, loan: &Loan, leased: u32, count: u32)
     answer_lent(k, loan, count);
 }
 
-/// As many bytes from the offset on as buffer and lease have; the borrower's buffer is good.
+/// Rows 7 and 8: as many bytes from the offset on as buffer and lease have, into or from a good
+/// buffer.
 fn lend(k: &mut Kernel, loan: &Loan, entry: &LeaseEntry)
     requires borrower { loan.now.borrower < task_count k.old }
     requires lender { loan.now.lender < task_count k.old }
@@ -129,7 +130,8 @@ fn lend(k: &mut Kernel, loan: &Loan, entry: &LeaseEntry)
     }
 }
 
-/// A lease that allows the borrow and has the offset: the borrower's buffer is looked at.
+/// Rows 6 to 8: a lease that allows the borrow and has the offset; the borrower's buffer is
+/// checked.
 fn borrow_into(k: &mut Kernel, loan: &Loan, entry: &LeaseEntry)
     requires borrower { loan.now.borrower < task_count k.old }
     requires lender { loan.now.lender < task_count k.old }
@@ -157,7 +159,7 @@ fn borrow_into(k: &mut Kernel, loan: &Loan, entry: &LeaseEntry)
     lend(k, loan, entry);
 }
 
-/// The borrow of a lease whose entry was read.
+/// Row 3, second half, to row 8: the borrow of a lease whose entry was read.
 fn borrow_entry(k: &mut Kernel, loan: &Loan, entry: &LeaseEntry)
     requires borrower { loan.now.borrower < task_count k.old }
     requires lender { loan.now.lender < task_count k.old }
@@ -183,7 +185,7 @@ fn borrow_entry(k: &mut Kernel, loan: &Loan, entry: &LeaseEntry)
     borrow_into(k, loan, entry);
 }
 
-/// A borrow from a lender whose call the borrower has taken.
+/// Rows 2 to 8: a borrow from a lender whose call the borrower has taken.
 fn borrow_from(k: &mut Kernel, loan: &Loan, call: &OpenCall)
     requires borrower { loan.now.borrower < task_count k.old }
     requires lender { loan.now.lender < task_count k.old }
@@ -211,7 +213,7 @@ fn borrow_from(k: &mut Kernel, loan: &Loan, call: &OpenCall)
     }
 }
 
-/// A borrow, which way it may be.
+/// A borrow in either direction, from row 1 on.
 fn borrow(k: &mut Kernel, caller: usize, way: Way)
     requires there { caller < task_count k.old }
     requires room { note_count k.old + syscall_notes ≤ turn_notes }

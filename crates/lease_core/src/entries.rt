@@ -1,4 +1,4 @@
-//! Entries of lease tables.
+//! Entries of lease tables. Rows are those of docs/FORMATS.md, Leases.
 ghost use Rattle.std.specs.Prelude.{◌≡◌, ◌+◌, ◌*◌, ◌<◌, ◌≤◌, ◌^◌, ℕ, None, Some, IfOk};
 ghost use Rattle.task_table.specs.model.State.{Setup, Turn, Call};
 ghost use Rattle.task_table.specs.model.Reading.{is_valid};
@@ -13,7 +13,7 @@ use kernel_abi::LeaseEntry;
 use region_check::Right;
 use task_table::{KeptEntry, Kernel, OpenCall};
 
-/// Whether the range of a lease ends inside the address space.
+/// Row 3, second half: whether the range of a lease ends inside the address space.
 pub(crate) fn is_lease_valid(entry: &LeaseEntry) -> bool
     ensures { result ≡ is_valid (lease_range entry.now) }
 {
@@ -47,8 +47,8 @@ fn read_entry(k: &mut Kernel, lender: usize, call: &OpenCall, lease: u32) -> Res
     Ok(entry)
 }
 
-/// The entry of a lease of a call, or the first byte of it that the lender may not read. It is kept
-/// from then on, or was before.
+/// Row 3, first half: the entry of a lease of a call, or the first byte of it that the lender may
+/// not read. It is kept from then on, or was before.
 pub(crate) fn entry_of(
     k: &mut Kernel,
     lender: usize,

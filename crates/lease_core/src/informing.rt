@@ -1,4 +1,5 @@
-//! The system call BORROW_INFO (Hubris Reference, on leases).
+//! The system call BORROW_INFO (Hubris Reference, on leases). Rows are those of docs/FORMATS.md,
+//! Leases.
 ghost use Rattle.std.specs.Prelude.{◌≡◌, ◌+◌, ◌*◌, ◌<◌, ◌≤◌, ◌^◌, ℕ, true, None, Some};
 ghost use Rattle.kernel_abi.specs.declared.Note.TheVariants as note;
 ghost use Rattle.task_table.specs.model.State.{Setup, Turn, Call};
@@ -27,7 +28,7 @@ fn answer_nothing(k: &mut Kernel, caller: usize, code: u32)
     k.answer(caller, &[code, 0, 0]);
 }
 
-/// What a caller gets for a lease whose entry was read.
+/// Rows 3 and 4: what a caller gets for a lease whose entry was read.
 fn inform_entry(
     k: &mut Kernel,
     caller: usize,
@@ -59,7 +60,7 @@ fn inform_entry(
     k.answer(caller, &[0, entry.attributes & 3, entry.len]);
 }
 
-/// What a caller gets for a lease of a call that it has taken.
+/// Rows 2 to 4: what a caller gets for a lease of a call that it has taken.
 fn inform_of(k: &mut Kernel, caller: usize, lender: usize, call: &OpenCall, lease: u32)
     requires there { caller < task_count k.old }
     requires lender { lender < task_count k.old }
@@ -85,7 +86,7 @@ fn inform_of(k: &mut Kernel, caller: usize, lender: usize, call: &OpenCall, leas
     }
 }
 
-/// BORROW_INFO of a kernel that stands.
+/// BORROW_INFO, of any caller, from row 1 on.
 fn borrow_info_rows(k: &mut Kernel, caller: usize)
     requires there { caller < task_count k.old }
     requires room { note_count k.old + syscall_notes ≤ turn_notes }
