@@ -25,7 +25,7 @@ ENDINGS = ("", ".rt", ".antt")
 
 
 def known_words():
-    """Every word of the sources, and of the names of files and folders. What a build leaves behind does not count."""
+    """Every word of the sources, comments aside, and of the names of files and folders. What a build makes does not count."""
     found = set()
     for folder, below, files in os.walk("."):
         below[:] = [name for name in below if name not in (".git", "out", "__pycache__")]
@@ -34,7 +34,8 @@ def known_words():
         for name in files:
             path = os.path.join(folder, name)
             if name.endswith((".rt", ".antt", ".edit")):
-                for word in re.findall(r"[A-Za-z_][\w'-]*", open(path, encoding="utf-8").read()):
+                text = re.sub(r"(?m)//.*$|(?<!\S)--+ .*$", "", open(path, encoding="utf-8").read())
+                for word in re.findall(r"[A-Za-z_][\w'-]*", text):
                     found.add(word)
                     found.update(word.split("-"))
             elif folder.startswith(("./tools", "./bench", "./.ci", "./examples")) and not name.endswith((".md", ".svg")):
