@@ -1,6 +1,7 @@
 #!/usr/bin/env bash
 # Builds each example and compares what is built, listed and run, and what the programs of tools/ say of it, with what stands beside it.
 # It needs the built program (crates/hubris/out/hubris, made by `rt ci` or `rt run`; or HUBRIS names another), bash and any awk.
+# Where there is no python3 of 3.8 or later, it leaves out what needs one, and says so.
 set -eu
 program=${HUBRIS:+$(realpath "$HUBRIS")}
 cd "$(dirname "$0")/.."
@@ -9,6 +10,10 @@ export HUBRIS=$program
 [ -x "$program" ] || { echo "build the program first: (cd crates/hubris && rt run)"; exit 1; }
 made=$(mktemp -d)
 trap 'rm -r "$made"' EXIT
+python=$(command -v python3 || true)
+if [ -n "$python" ] && ! "$python" -c 'import sys; sys.exit(sys.version_info < (3, 8))'; then python=; fi
+[ -n "$python" ] || echo "left out, there is no python3 of 3.8 or later: whether timelines and pictures have gaps, and tools/gdb"
+with_python() { [ -z "$python" ] || "$python" "$@"; }
 same() { cmp -s "$1" "$2" || { echo "$3: differs from $2"; exit 1; }; echo "$3: as expected"; }
 for example in one-task client-server blinker driver restart timers watch uart debugger lost-byte from-c gdb; do
     "$program" build "examples/$example/app.toml" "$made/$example.img"
@@ -85,7 +90,7 @@ for example in one-task client-server blinker driver restart timers watch uart d
     script=$example/script.txt
     [ -e "examples/$script" ] || script=$example/empty.txt
     "$program" timeline "$made/$example.img" "examples/$script" --steps 500 > "$made/timeline.json" || [ $? = 6 ]
-    python3 -c '
+    with_python -c '
 import json, sys
 lanes = {}
 for event in json.load(open(sys.argv[1]))["traceEvents"]:
@@ -105,7 +110,7 @@ for example in one-task client-server blinker driver restart timers watch uart d
     [ -e "examples/$script" ] || script=$example/empty.txt
     "$program" picture "$made/$example.img" "examples/$script" "$made/picture.svg" --steps 500 --names "examples/$example/app.toml" > "$made/drawn.txt"
     [ "$(cat "$made/drawn.txt")" = "drawn $(wc -c < "$made/picture.svg") bytes" ] || { echo "$example, picture: $(cat "$made/drawn.txt")"; exit 1; }
-    python3 -c '
+    with_python -c '
 import re, sys, xml.etree.ElementTree as tree
 lanes = []
 for part in tree.parse(sys.argv[1]).getroot().iter():
@@ -215,27 +220,62 @@ done <<'END'
 1|since $at/app.toml $at/empty.txt 5 30000000 1|since: no 1 bytes of flash or RAM at 30000000
 2|session $at/app.toml|usage: session APP SCRIPT [STEPS]
 1|session $made/missing.toml $at/empty.txt|session: cannot read $at/nowhere.s
-2|gdb $at/app.toml|usage: gdb [--pipe or --port N] APP SCRIPT [GDB WORDS ..]
-2|gdb --port x $at/app.toml $at/empty.txt|usage: gdb [--pipe or --port N] APP SCRIPT [GDB WORDS ..]
-1|gdb --pipe $at/app.toml nowhere.txt|gdb: cannot read nowhere.txt
-1|gdb --pipe $made/missing.toml $at/empty.txt|gdb: cannot read $at/nowhere.s, the source of upper: sources are named from where go was called
 2|refusal $at/app.toml|usage: refusal < WHAT HUBRIS WROTE
 END
 echo "what the tools refuse: as expected"
-# what tools/gdb answers to packets, and whole sessions of gdb, where there is the one that they were written with
-python3 examples/gdb/packets.py examples/restart/app.toml examples/restart/empty.txt < examples/gdb/packets.txt > "$made/told.txt"
-same "$made/told.txt" examples/gdb/answers.txt "tools/gdb, packets"
-debugger=${GDB:-gdb-multiarch}
-for session in "gdb script.txt" "from-c empty.txt"; do
-    read -r example script <<< "$session"
-    at=examples/$example
-    if [ "$("$debugger" --version 2> "$made/said.txt" | sed -n 's/^GNU gdb .* \([0-9]*\)\..*/\1/p')" != 13 ]; then
-        echo "$example, in gdb: left out, there is no $debugger of version 13"
-        continue
-    fi
-    tools/gdb "$at/app.toml" "$at/$script" -nx -batch -ex "set width 0" -ex "set trace-commands on" -x "$at/session.gdb" 2>&1 | sed 's#/[^ ]*/\([a-z]*\.elf\)#\1#' > "$made/told.txt"
-    same "$made/told.txt" "$at/session.txt" "$example, in gdb"
-done
+# tools/gdb: its parts by themselves, what it answers to packets, and what it refuses. They need no gdb
+check_gdb() {
+    local words said status at=examples/from-c
+    "$python" -B -m unittest discover -s tools/lib/tests -t tools/lib > "$made/told.txt" 2>&1 || { cat "$made/told.txt"; exit 1; }
+    echo "tools/gdb, tests of its parts: as expected"
+    "$python" examples/gdb/packets.py examples/restart/app.toml examples/restart/empty.txt < examples/gdb/packets.txt > "$made/told.txt"
+    same "$made/told.txt" examples/gdb/answers.txt "tools/gdb, packets"
+    # an ELF that is not of its source, and a port that another has
+    cp examples/gdb/echo.s "$made/echo.s"
+    cp examples/from-c/upper.elf "$made/echo.elf"
+    sed "s#examples/gdb/echo.s#$made/echo.s#" examples/gdb/app.toml > "$made/stale.toml"
+    coproc holder { exec "$python" -c 'import socket, sys
+listening = socket.create_server(("127.0.0.1", 0))
+print(listening.getsockname()[1], flush=True)
+sys.stdin.read()'; }
+    local holding=$holder_PID port
+    read -r port <&"${holder[0]}"
+    while IFS='|' read -r status words said; do
+        eval "env $words" > "$made/told.txt" 2> "$made/said.txt" < /dev/null && told=0 || told=$?
+        eval "said=\"$said\""
+        [ "$told $(cat "$made/said.txt")" = "$status $said" ] && [ ! -s "$made/told.txt" ] ||
+            { echo "$words: status $told"; cat "$made/said.txt" "$made/told.txt"; exit 1; }
+    done <<'END'
+2|tools/gdb $at/app.toml|usage: gdb [--pipe or --port N] APP SCRIPT [GDB WORDS ..]
+2|tools/gdb --port x $at/app.toml $at/empty.txt|usage: gdb [--pipe or --port N] APP SCRIPT [GDB WORDS ..]
+2|tools/gdb --pipe $at/app.toml $at/empty.txt -tui|usage: gdb [--pipe or --port N] APP SCRIPT [GDB WORDS ..]
+1|tools/gdb --pipe $at/app.toml nowhere.txt|gdb: cannot read nowhere.txt
+1|tools/gdb --pipe $made/missing.toml $at/empty.txt|gdb: cannot read $at/nowhere.s, the source of upper: sources are named from where go was called
+1|tools/gdb --pipe $made/stale.toml $at/empty.txt|gdb: $made/echo.elf is not of $made/echo.s: make both anew by to-source.sh
+1|tools/gdb --port $port $at/app.toml $at/empty.txt|gdb: cannot listen at port $port: Address already in use
+1|HUBRIS=nowhere tools/gdb $at/app.toml $at/empty.txt|gdb: no program at nowhere: build it first, or set HUBRIS
+1|GDB=nowhere tools/gdb $at/app.toml $at/empty.txt|gdb: there is no nowhere: install it, or set GDB
+1|GDB=false tools/gdb $at/app.toml $at/empty.txt|gdb: false is no gdb that knows Arm: install gdb-multiarch, or set GDB
+END
+    eval "exec ${holder[1]}>&-"
+    wait "$holding"
+    echo "tools/gdb, what it refuses: as expected"
+}
+# whole sessions, where there is the gdb that they were recorded with
+check_sessions() {
+    local session example script at debugger=${GDB:-gdb-multiarch}
+    for session in "gdb script.txt" "from-c empty.txt"; do
+        read -r example script <<< "$session"
+        at=examples/$example
+        if [ "$("$debugger" --version 2> "$made/said.txt" | sed -n 's/^GNU gdb .* \([0-9]*\)\..*/\1/p')" != 13 ]; then
+            echo "$example, in gdb: left out, there is no $debugger of version 13"
+            continue
+        fi
+        tools/gdb "$at/app.toml" "$at/$script" -nx -batch -ex "set width 0" -ex "set trace-commands on" -x "$at/session.gdb" 2>&1 | sed 's#/[^ ]*/\([a-z]*\.elf\)#\1#' > "$made/told.txt"
+        same "$made/told.txt" "$at/session.txt" "$example, in gdb"
+    done
+}
+[ -z "$python" ] || { check_gdb; check_sessions; }
 # a file may be a pipe, and need not be one that can be sought
 at=examples/timers
 cat "$made/timers.img" | "$program" run /dev/stdin "$at/script.txt" --steps 500 > "$made/run.txt"
