@@ -183,6 +183,43 @@ for report, answers in zip(sys.argv[1::2], sys.argv[2::2]):
     assert [case.get("name") for case in cases] == [line.split(" - ", 1)[1] for line in told if " - " in line], report
     assert "\n".join(whys).split("\n") == [line[2:] for line in told if line.startswith("# ")] or not whys, report
 ' "$made/node.xml" examples/node/check.txt "$made/race.xml" examples/node/race.txt || { echo "node, the answers for a build server are not those of the cases"; exit 1; }
+# each way in which a case may not hold, and what is told of it
+printf '%s\n' 'app examples/node/race.toml' 'script examples/node/script.txt' 'steps 60000' 'case many lines' 'faults 2' 'ends still' \
+    'calls 600' 'out 0 "01 up\n02 TEMP"' 'tells restart {client}' 'within 9 tick' 'never restart {client}' 'times 2 fault {client} 3' \
+    'within 90 fault' 'tells fault' 'covers 74 50' 'together 75 49' 'case arrivals' 'faults 1' 'sweep examples/node/irq.txt 7000 7532' \
+    'unharmed examples/node/irq.txt 7000 7531' 'unharmed examples/node/irq.txt 7000 7532' 'case events' 'at 9 tick' 'repeat 1 1 6 irq 5' \
+    'repeat 1 1 6 irq 4' 'feed 5 1 0 01 02 03 04 05 06 07' 'case what comes after what' 'steps 9000' 'after 5 out 0 30 | irq 5' \
+    'after 1 out 0 zz | irq 5 | tick' 'case a text # with \ signs' 'every 7 tick' > "$made/fails.cases"
+tools/check "$made/fails.cases" > "$made/told.txt" && { echo "tools/check: all cases hold"; exit 1; }
+sed "s#$made/##g" "$made/told.txt" > "$made/fails.txt"
+cmp - "$made/fails.txt" <<'END' || { cat "$made/fails.txt"; exit 1; }
+not ok 1 - many lines
+# fails.cases:5: 1 fault, not 2, the first: 25584 fault 5 3 00000000 00000001
+# fails.cases:6: it ends as bound in turn 60000, not as still
+# fails.cases:7: call 3 of client to sensor is open from turn 3051 on, until turn 6469: 3418 turns, more than 600
+# fails.cases:8: device 0 gave out "01 up\n02 temp 21.5\n03 text hello\n04 bad sum\n05 up\n06 temp 9...", which differs from byte 10 on
+# fails.cases:10: it took 79 turns, more than 9, from turn 25921 to turn 26000: tick
+# fails.cases:11: 1 line, not 0, the first: 25921 restart 5 1
+# fails.cases:12: 1 line, not 2, the first: 25584 fault 5 3 00000000 00000001
+# fails.cases:13: nothing tells this behind turn 26000: fault
+# fails.cases:15: reached are 1412 of 1900 instructions, 140 of 284 ways, less than 74 and 50 of a hundred
+# fails.cases:16: reached are 1412 of 1900 instructions, 140 of 284 ways, less than 75 and 49 of a hundred
+not ok 2 - arrivals
+# fails.cases:19: the time of examples/node/irq.txt makes a difference
+#     without bound 1 5:3:00000000:00000001 1 62 e6508797 wwwwwT
+#     7531 7531 bound 2 4:9:00000000:00000000 2 14 1baf78b5 wwwwOT
+# fails.cases:21: the time of examples/node/irq.txt makes a difference
+#     without bound 1 5:3:00000000:00000001 1 62 e6508797 wwwwwT
+#     7531 7531 bound 2 4:9:00000000:00000000 2 14 1baf78b5 wwwwOT
+not ok 3 - events
+# fails.cases:26: more than 65,536 events, or nine of one turn
+not ok 4 - what comes after what
+# fails.cases:30: nothing tells out 0 zz from turn 2691 on, up to 9000
+not ok 5 - a text \# with \\ signs
+# fails.cases:32: a turn below that of an earlier line, or an `every` behind
+1..5
+END
+echo "tools/check, cases that do not hold: as expected"
 # one arrival time of the race, walked back to the turn that loses the interrupt
 tools/lay examples/node/script.txt examples/node/irq.txt 8176 > "$made/laid.txt"
 # stored traces are renewed where the case holds else, and only there
