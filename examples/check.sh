@@ -136,6 +136,9 @@ for example in one-task client-server blinker driver restart timers watch uart d
     "$program" run "$made/$example.img" "examples/$script" --steps 500 --all > "$made/all.txt" || [ $? = 6 ]
     counted=$(awk -F '[:,]' '$1 == "DA" { n += $3 } END { print n }' "$made/lcov.info")
     [ "$counted" = "$(grep -c '^[0-9]* insn ' "$made/all.txt")" ] || { echo "$example: lcov counts $counted"; exit 1; }
+    "$program" cover "examples/$example/app.toml" "examples/$script" --steps 500 --labels > "$made/cover.txt" || [ $? = 6 ]
+    tools/c-lines "examples/$example/app.toml" "$made/cover.txt" > "$made/c-lines.info"
+    cmp -s "$made/c-lines.info" "$made/lcov.info" || { echo "$example: tools/c-lines says otherwise than lcov"; exit 1; }
 done
 # each run holds together, its memory behind it too; a borrow of a call that nobody took does not
 for example in one-task client-server blinker driver restart timers watch uart debugger lost-byte from-c gdb; do
@@ -148,6 +151,116 @@ done
 grep -v ' take 1 ' "$loan/expected.txt" > "$made/untaken.txt"
 "$program" audit "$made/untaken.txt" > "$made/audit.txt" && status=0 || status=$?
 [ "$status $(cat "$made/audit.txt")" = "7 no 9" ] || { echo "an audit of a call that was not taken: $status $(cat "$made/audit.txt")"; exit 1; }
+# six tasks in C and three in Rust: what is built, listed and run, and the answers to their cases
+for run in "node script.txt 60000 node.cases" "from-rust script.txt 20000 rust.cases"; do
+    read -r example script steps cases <<< "$run"
+    at=examples/$example
+    "$program" build "$at/app.toml" "$made/$example.img"
+    "$program" list "$made/$example.img" > "$made/listing.txt"
+    same "$made/listing.txt" "$at/listing.txt" "$example, listing"
+    "$program" go "$at/app.toml" "$at/$script" --steps "$steps" > "$made/go.txt"
+    same "$made/go.txt" "$at/expected.txt" "$example, go"
+    "$program" audit "$at/expected.txt" > "$made/audit.txt"
+    grep -q '^yes ' "$made/audit.txt" || { echo "$example, audit: $(cat "$made/audit.txt")"; exit 1; }
+    "$program" go "$at/app.toml" "$at/$script" --steps "$steps" --all > "$made/$example-all.txt"
+    "$program" cover "$at/app.toml" "$at/$script" --steps "$steps" --labels > "$made/$example-cover.txt"
+    tools/check --junit "$made/$example.xml" --info "$made/$example.info" "$at/$cases" > "$made/told.txt"
+    same "$made/told.txt" "$at/check.txt" "$example, its cases"
+done
+"$program" go examples/from-rust/app.toml examples/from-rust/script.txt --steps 20000 --mem > "$made/mem.txt"
+same "$made/mem.txt" examples/from-rust/expected-mem.txt "from-rust, go with its memory"
+same "$made/node.info" examples/node/node.info "node, the lines of C that its cases reached"
+sed 's/time="[0-9.]*"/time="0"/' "$made/node.xml" > "$made/junit.xml"
+same "$made/junit.xml" examples/node/junit.xml "node, the answers for a build server"
+# the driver that has the race: the case fails, and its answer for a build server says why
+tools/check --junit "$made/race.xml" examples/node/race.cases > "$made/told.txt" && { echo "node, the race is not found"; exit 1; }
+same "$made/told.txt" examples/node/race.txt "node, the race that a sweep finds"
+python3 -c '
+import sys, xml.etree.ElementTree as tree
+for report, answers in zip(sys.argv[1::2], sys.argv[2::2]):
+    suites = tree.parse(report).getroot()
+    cases = suites.findall("testsuite/testcase")
+    whys = [why.text for why in suites.findall("testsuite/testcase/failure")]
+    for head in suites, suites[0]:
+        assert int(head.get("tests")) == len(cases) and int(head.get("failures")) == len(whys), report
+        assert abs(float(head.get("time")) - sum(float(case.get("time")) for case in cases)) < 0.01, report
+    told = [line.rstrip("\n") for line in open(answers)]
+    assert [case.get("name") for case in cases] == [line.split(" - ", 1)[1] for line in told if " - " in line], report
+    assert "\n".join(whys).split("\n") == [line[2:] for line in told if line.startswith("# ")] or not whys, report
+' "$made/node.xml" examples/node/check.txt "$made/race.xml" examples/node/race.txt || { echo "node, the answers for a build server are not those of the cases"; exit 1; }
+# each way in which a case may not hold, and what is told of it
+printf '%s\n' 'app examples/node/race.toml' 'script examples/node/script.txt' 'steps 60000' 'case many lines' 'faults 2' 'ends still' \
+    'calls 600' 'out 0 "01 up\n02 TEMP"' 'tells restart {client}' 'within 9 tick' 'never restart {client}' 'times 2 fault {client} 3' \
+    'within 90 fault' 'tells fault' 'covers 74 50' 'together 75 49' 'case arrivals' 'faults 1' 'sweep examples/node/irq.txt 7000 7532' \
+    'unharmed examples/node/irq.txt 7000 7531' 'unharmed examples/node/irq.txt 7000 7532' 'case events' 'at 9 tick' 'repeat 1 1 6 irq 5' \
+    'repeat 1 1 6 irq 4' 'feed 5 1 0 01 02 03 04 05 06 07' 'case what comes after what' 'steps 9000' 'after 5 out 0 30 | irq 5' \
+    'after 1 out 0 zz | irq 5 | tick' 'case a text # with \ signs' 'every 7 tick' > "$made/fails.cases"
+tools/check "$made/fails.cases" > "$made/told.txt" && { echo "tools/check: all cases hold"; exit 1; }
+sed "s#$made/##g" "$made/told.txt" > "$made/fails.txt"
+cmp - "$made/fails.txt" <<'END' || { cat "$made/fails.txt"; exit 1; }
+not ok 1 - many lines
+# fails.cases:5: 1 fault, not 2, the first: 25584 fault 5 3 00000000 00000001
+# fails.cases:6: it ends as bound in turn 60000, not as still
+# fails.cases:7: call 3 of client to sensor is open from turn 3051 on, until turn 6469: 3418 turns, more than 600
+# fails.cases:8: device 0 gave out "01 up\n02 temp 21.5\n03 text hello\n04 bad sum\n05 up\n06 temp 9...", which differs from byte 10 on
+# fails.cases:10: it took 79 turns, more than 9, from turn 25921 to turn 26000: tick
+# fails.cases:11: 1 line, not 0, the first: 25921 restart 5 1
+# fails.cases:12: 1 line, not 2, the first: 25584 fault 5 3 00000000 00000001
+# fails.cases:13: nothing tells this behind turn 26000: fault
+# fails.cases:15: reached are 1412 of 1900 instructions, 140 of 284 ways, less than 74 and 50 of a hundred
+# fails.cases:16: reached are 1412 of 1900 instructions, 140 of 284 ways, less than 75 and 49 of a hundred
+not ok 2 - arrivals
+# fails.cases:19: the time of examples/node/irq.txt makes a difference
+#     without bound 1 5:3:00000000:00000001 1 62 e6508797 wwwwwT
+#     7531 7531 bound 2 4:9:00000000:00000000 2 14 1baf78b5 wwwwOT
+# fails.cases:21: the time of examples/node/irq.txt makes a difference
+#     without bound 1 5:3:00000000:00000001 1 62 e6508797 wwwwwT
+#     7531 7531 bound 2 4:9:00000000:00000000 2 14 1baf78b5 wwwwOT
+not ok 3 - events
+# fails.cases:26: more than 65,536 events, or nine of one turn
+not ok 4 - what comes after what
+# fails.cases:30: nothing tells out 0 zz from turn 2691 on, up to 9000
+not ok 5 - a text \# with \\ signs
+# fails.cases:32: a turn below that of an earlier line, or an `every` behind
+1..5
+END
+echo "tools/check, cases that do not hold: as expected"
+# one arrival time of the race, walked back to the turn that loses the interrupt
+tools/lay examples/node/script.txt examples/node/irq.txt 8176 > "$made/laid.txt"
+# stored traces are renewed where the case holds else, and only there
+folder="$made/a folder"
+mkdir "$folder"
+sed 's/^57 out 0 48/57 out 0 49/' examples/uart/expected.txt > "$folder/old.txt"
+cp "$folder/old.txt" "$folder/kept.txt"
+cp examples/uart/app.toml "$folder/no trace.txt"
+printf '%s\n' 'app examples/uart/app.toml' 'script examples/uart/script.txt' 'steps 500' 'case a new trace' "same $folder/new.txt" \
+    'case another trace' "like $folder/old.txt" 'case the same trace' 'same examples/uart/expected.txt' \
+    'case another fault' 'faults 1' "same $folder/kept.txt" 'case no trace' "like $folder/no trace.txt" \
+    'case another run' 'steps 400' "same $folder/new.txt" > "$folder/some.cases"
+tools/check --bless "$folder/some.cases" > "$made/told.txt" && { echo "tools/check --bless: all cases hold"; exit 1; }
+sed "s#$folder/##g" "$made/told.txt" > "$made/blessed.txt"
+cmp - "$made/blessed.txt" <<'END' || { cat "$made/blessed.txt"; exit 1; }
+ok 1 - a new trace
+# new.txt: renewed, since there is none
+ok 2 - another trace
+# old.txt: renewed, since device 0: the first 0 are the same first line 17: out 49 second line 17: out 48
+ok 3 - the same trace
+not ok 4 - another fault
+# some.cases:11: 0 faults, not 1
+# some.cases:12: kept.txt: line 17 is "57 out 0 49", and the run tells "57 out 0 48"
+not ok 5 - no trace
+# some.cases:14: no trace.txt is no trace, so it is not renewed
+not ok 6 - another run
+# some.cases:17: new.txt is right for case 1, so it is not renewed
+1..6
+END
+same "$folder/new.txt" examples/uart/expected.txt "tools/check --bless, a new trace"
+same "$folder/old.txt" examples/uart/expected.txt "tools/check --bless, another trace"
+same "$folder/no trace.txt" examples/uart/app.toml "tools/check --bless, no trace"
+[ "$(grep -c '^57 out 0 49' "$folder/kept.txt")" = 1 ] || { echo "tools/check --bless renews the trace of a case that does not hold"; exit 1; }
+touch -d '2001-01-01' "$folder/new.txt" "$folder/old.txt"
+tools/check --bless "$folder/some.cases" > "$made/told.txt" || true
+[ -z "$(find "$folder" -name '???.txt' -newermt '2001-01-02')" ] || { echo "tools/check --bless writes what is right already"; exit 1; }
 # each program of tools/: its status, its words, and the text beside the example that it writes. $made has what is made here
 at=examples/from-c
 "$program" go "$at/app.toml" "$at/empty.txt" --steps 1000 --all > "$made/all.txt"
@@ -164,6 +277,10 @@ done <<'END'
 0|labels $at/app.toml|examples/from-c/labels.txt
 1|compare $at/expected.txt "$made/other.txt"|examples/from-c/compare.txt
 0|calls examples/restart/app.toml examples/restart/expected.txt|examples/restart/calls.txt
+0|stack examples/node/app.toml "$made/node-all.txt"|examples/node/stack.txt
+0|profile examples/node/app.toml "$made/node-cover.txt"|examples/node/profile.txt
+0|c-lines examples/from-rust/app.toml "$made/from-rust-cover.txt"|examples/from-rust/lines.info
+0|session examples/node/race.toml "$made/laid.txt" 60000 < examples/node/session.txt|examples/node/session-answers.txt
 0|waves examples/driver/app.toml examples/driver/expected.txt|examples/driver/timeline.vcd
 0|state examples/driver/app.toml "$made/state"|examples/driver/state.txt
 0|expect examples/uart/app.toml examples/uart/dialogue.txt 500|examples/uart/dialogue-script.txt
@@ -178,10 +295,35 @@ tools/names "$light/app.toml" "$made/light.txt" | grep ' insn ' > "$made/named.t
 grep -v -e ' (line [0-9]*)$' "$made/named.txt" && { echo "blinker, an instruction without its line"; exit 1; }
 tools/compare "$at/expected.txt" "$at/expected-mem.txt" > "$made/told.txt" || { echo "from-c differs from itself"; cat "$made/told.txt"; exit 1; }
 # what they refuse: the words, and what is said
+newline=$'\n'
 printf 'hello\n' > "$made/hello.txt"
 sed 's/upper\.s/nowhere.s/' "$at/app.toml" > "$made/missing.toml"
 sed '/^ram = 256/d' "$at/app.toml" > "$made/keyless.toml"
 printf 'every 50 tick\nafter 3 listen 1 | in 1 300\nafter 1 out | in 1 3\n' > "$made/dialogue.txt"
+# files of cases with one thing wrong each; the first line is the application, and `|` stands for the end of a line
+mkdir "$made/cases"
+while read -r name lines; do tr '|' '\n' <<< "app examples/uart/app.toml|steps 500|$lines" > "$made/cases/$name"; done <<'END'
+none script examples/uart/script.txt
+twice case one|case two|case one
+word case one|fualts 1
+form case one|within listen 1
+kind case one|never fualt
+text case one|out 0 HELLO
+repeat repeat 0 0 500 tick|case one
+feed case one|feed 10 1 1 7e 7
+name case one|tells fault {nobody}
+script case one|script nowhere.txt
+arrival case one|sweep no where.txt 0 9
+nowhere case one|app nowhere.toml
+folder case one|app examples|tells fault {uart}
+END
+printf 'app examples/uart/app.toml\ncase one\n' > "$made/cases/steps"
+printf 'steps 5\ncase one\n' > "$made/cases/app"
+printf 'steps 5\ncase one\001\n' > "$made/cases/byte"
+printf 'app %s/bad.toml\nsteps 5\ncase one\n' "$made" > "$made/cases/refused"
+sed "s#examples/uart/uart.s#$made/bad.s#" examples/uart/app.toml > "$made/bad.toml"
+echo 'movq r1' > "$made/bad.s"
+: > "$made/cases/empty"
 while IFS='|' read -r status words said; do
     eval "tools/$words" > "$made/told.txt" 2> "$made/said.txt" && told=0 || told=$?
     eval "said=\"$said\""
@@ -208,6 +350,37 @@ done <<'END'
 1|compare $at/expected.txt $at/empty.txt|compare: $at/empty.txt is no trace: it is empty
 2|calls $at/app.toml|usage: calls APP TRACE
 1|calls $at $at/expected.txt|calls: cannot read $at
+2|stack $at/app.toml|usage: stack APP TRACE
+1|stack $at/app.toml $at/expected.txt|stack: $at/expected.txt has no instructions: it is to be of a run with --all
+2|profile|usage: profile APP COVER
+1|profile $at/app.toml $at/expected.txt|profile: $at/expected.txt: line 1 is no line of what cover wrote
+2|c-lines $at/app.toml|usage: c-lines APP COVER
+1|c-lines $at/app.toml $at/empty.txt|c-lines: $at/empty.txt is not what cover wrote: it is empty
+1|c-lines $at/app.toml $made/node-cover.txt|c-lines: $made/node-cover.txt is of another application: no task of $at/app.toml has its code at 08000800
+2|check|usage: check [--bless] [--junit FILE] [--info FILE] CASES
+2|check --junit|usage: check [--bless] [--junit FILE] [--info FILE] CASES
+2|check --blessed $made/cases/none|usage: check [--bless] [--junit FILE] [--info FILE] CASES
+1|check nowhere.cases|check: cannot read nowhere.cases
+1|check --junit $made/nowhere/x.xml $made/cases/none|check: cannot write $made/nowhere/x.xml
+1|check --info $made/cases/none $made/cases/none|check: $made/cases/none would be written over the cases
+1|check $made/cases/empty|check: $made/cases/empty has no case
+1|check $made/cases/none|check: $made/cases/none has no case
+1|check $made/cases/twice|check: $made/cases/twice:5: the case in line 3 has this name
+1|check $made/cases/word|check: $made/cases/word:4: no line of a case begins with fualts
+1|check $made/cases/form|check: $made/cases/form:4: it is to be: within N WORDS, WORDS as a trace without --all tells them
+1|check $made/cases/kind|check: $made/cases/kind:4: it is to be: never WORDS, WORDS as a trace without --all tells them
+1|check $made/cases/text|check: $made/cases/text:4: it is to be: out D \"TEXT\"
+1|check $made/cases/repeat|check: $made/cases/repeat:3: it is to be: repeat FROM STEP TO EVENT
+1|check $made/cases/feed|check: $made/cases/feed:4: it is to be: feed T D GAP HEX ..
+1|check $made/cases/name|check: $made/cases/name:4: examples/uart/app.toml has no task nobody
+1|check $made/cases/script|check: $made/cases/script:4: cannot read nowhere.txt
+1|check $made/cases/arrival|check: $made/cases/arrival:4: cannot read no where.txt
+1|check $made/cases/nowhere|check: $made/cases/nowhere:4: cannot read nowhere.toml
+1|check $made/cases/folder|check: $made/cases/folder:4: cannot read examples
+1|check $made/cases/steps|check: $made/cases/steps:2: this case has no steps
+1|check $made/cases/app|check: $made/cases/app:2: this case has no app
+1|check $made/cases/byte|check: $made/cases/byte:2: a byte that is not allowed
+1|check $made/cases/refused|check: $made/bad.s:1: unknown mnemonic$newline$(cat $made/bad.s)
 2|waves $at/expected.txt|usage: waves APP TRACE
 1|waves $at/app.toml $at/app.toml|waves: $at/app.toml: line 1 is no line of a trace
 2|state $made/state|usage: state APP STATE

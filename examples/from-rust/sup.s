@@ -14,18 +14,18 @@ start:
         .half 0xd310      ; bcc.n 38 <start+0x38>
         .half 0xf000      ; bl 80 <task>                     start.c:17
         .half 0xf833
-        .half 0x2108      ; movs r1, #8                      hubris.h:148
+        .half 0x2108      ; movs r1, #8                      start.c:18
         .half 0xa801      ; add r0, sp, #4
-        .half 0x9401      ; str r4, [sp, #4]                 hubris.h:147
+        .half 0x9401      ; str r4, [sp, #4]                 start.c:18
         .half 0x9402      ; str r4, [sp, #8]
         .half 0x9403      ; str r4, [sp, #12]
         .half 0x9404      ; str r4, [sp, #16]
         .half 0x9405      ; str r4, [sp, #20]
         .half 0x9406      ; str r4, [sp, #24]
         .half 0x9407      ; str r4, [sp, #28]
-        .half 0xf000      ; bl 4c <svc>                      hubris.h:148
+        .half 0xf000      ; bl 4c <svc>                      start.c:18
         .half 0xf80e
-        .half 0xe7fe      ; b.n 30 <start+0x30>              hubris.h:149
+        .half 0xe7fe      ; b.n 30 <start+0x30>              start.c:18
         .half 0xca01      ; ldmia r2!, {r0}                  start.c:14
         .half 0xc301      ; stmia r3!, {r0}
         .half 0xe7e8      ; b.n a <start+0xa>

@@ -36,4 +36,6 @@ for source; do
     "$here/../from-c/to-source.sh" "$made/$name.a" 2> "$made/said" || { cat "$made/said" >&2; exit 1; }
     sed "1s/.*/; Made of $name.rs by to-source.sh, $("$rustc" --version | cut -d' ' -f1-2), and from-c: not to be changed by hand./" \
         "$made/$name.s" > "${source%.rs}.s"
+    # its lines and variables, for tools/gdb
+    cp "$made/$name.elf" "${source%.rs}.elf"
 done

@@ -1,7 +1,7 @@
 # Reads the description APP of an application (docs/FORMATS.md, Application), as those of examples/ are written: a key a line, and each
 # task under its own [[task]]. Of task t it knows name[t], source[t], flash_size[t], ram_size[t], stack[t], stopped[t]; of the k-th
 # shared region region_size[k].
-BEGIN { read_app(ENVIRON["APP"]) }
+BEGIN { if (ENVIRON["APP"] != "") read_app(ENVIRON["APP"]) }
 function read_app(file,    line, got, table, key, value, t) {
     tasks = regions = 0
     while ((got = (getline line < file)) > 0) {
