@@ -226,7 +226,7 @@ impl Board {
     }
 
     /// Makes as many turns as it can on the fast path, and then a whole one if fewer than `limit`
-    /// turns are made by then. If the task of that last turn had its PC at a breakpoint, the answer
+    /// turns are made by then. If the task of that last turn had its PC at a breakpoint, the result
     /// is that task and its PC. No earlier turn was at one.
     ///
     /// It is inlined, so each caller has its own copy of the fast path. The copy of a caller
@@ -267,7 +267,7 @@ impl Board {
     }
 
     /// Makes as many turns as it can on the fast path, with no window that has the byte at an
-    /// address, and then a whole one if fewer than `limit` turns are made by then. The answer is
+    /// address, and then a whole one if fewer than `limit` turns are made by then. The result is
     /// what that last turn changed of the byte. No earlier turn changed it.
     #[inline(always)]
     pub fn advance_watching(&mut self, at: u32, limit: u32) -> Option<Change>
@@ -297,7 +297,7 @@ impl Board {
         self.turn_watching(at)
     }
 
-    /// Makes one whole turn, and answers what it changed of the byte at an address.
+    /// Makes one whole turn, and returns what it changed of the byte at an address.
     fn turn_watching(&mut self, at: u32) -> Option<Change>
         requires few { turns_of self.old < 1000000000 }
         requires stood { StandsForSome shown self.old }

@@ -207,7 +207,7 @@ impl Devices {
         }
     }
 
-    /// Stores a value to the device behind an address, and answers what the device gives out.
+    /// Stores a value to the device behind an address, and returns what the device gives out.
     pub fn store(&mut self, addr: u32, value: u32) -> Option<Given>
         ensures stored { data_of shown self.new ≡ devices_stored (data_of shown self.old) addr }
         ensures out { result ≡ device_out (data_of shown self.old) addr value }

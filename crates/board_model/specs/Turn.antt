@@ -106,7 +106,7 @@ stepped level g c t =
 abbrev pub happened : Setup → Turn → Event → Turn
 happened g t Tick = ticked t
 happened g t (Irq line) = interrupted g line t
-happened g t (Feed device byte) = fed device (byte % 256) t  -- a byte: of any number its low eight bits
+happened g t (Feed device byte) = fed device (byte % 256) t  -- the byte: the low eight bits of the number
 
 -- the next event, if there is one
 abbrev pub happened_next : Setup → Option Event → Turn → Turn

@@ -9,7 +9,7 @@ use kernel_abi::Note;
 use outside_io::{Failed, Sink};
 use trace_text::TurnLines;
 
-/// What hears of the turns of a run.
+/// An observer of the turns of a run.
 ///
 /// An implementation has two relations: how it changes as notes are told, and how it may change if
 /// that fails.

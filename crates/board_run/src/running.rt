@@ -64,7 +64,7 @@ fn due_after(turns: u32, limit: u32) -> u32
     turns.saturating_add(TURNS_HELD_BACK).min(limit)
 }
 
-// Tells the notes of the last turn, and passes on what is held back if that is due. Answers when it
+// Tells the notes of the last turn, and passes on what is held back if that is due. Returns when it
 // is next due: at `limit` while nothing is held back.
 fn tell_last<T: Observer>(
     board: &Board,

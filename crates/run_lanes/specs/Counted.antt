@@ -12,7 +12,7 @@ use Rattle.run_lanes.specs.Words.{TurnSight, word_number}
 abbrev pub column_by : ℕ → List TurnSight → ℕ → List TurnSight
 column_by width turns k = take width (drop (k * width) turns)
 
--- the sum of two counts, as far as a number of 32 bits can say it
+-- the sum of two counts, at most 2^32 - 1
 abbrev pub both : ℕ → ℕ → ℕ
 both a b = min (a + b) (2 ^ 32 - 1)
 

@@ -1,7 +1,7 @@
 -- The first of several values that come one after another, and how many came.
 use Rattle.std.specs.Prelude.{◌≡◌, ℕ, ◌-◌, ◌^◌, List, length, min, take}
 
--- how many there are, as far as a number of 64 bits can say it
+-- how many there are, at most 2^64 - 1
 abbrev pub counted : {T : Type 0} → List T → ℕ
 counted xs = min (length xs) (2 ^ 64 - 1)
 

@@ -5,7 +5,7 @@ ghost use Rattle.run_lanes.specs.First.{IsFirst};
 
 use std::alloc::{AllocError, Global};
 
-/// The first values, and how many came, as far as a number of 64 bits can say it.
+/// The first values, and how many came, counted up to 2^64 - 1.
 #[derive(Drop)]
 pub struct First<T> {
     pub kept: Vec<T>,

@@ -73,7 +73,7 @@ pub fn word_at(words: &[Activity], i: usize) -> Activity
     }
 }
 
-/// What the tasks have been doing, after a turn in which they did this.
+/// Brings what the tasks have been doing up to date with a turn in which they did this.
 pub fn renew_all(turn: u32, words: &[Activity], stretches: &mut [LaneStretch])
     ensures { stretches.new ≡ all_renewed turn stretches.old words.now }
 {
@@ -82,7 +82,7 @@ pub fn renew_all(turn: u32, words: &[Activity], stretches: &mut [LaneStretch])
     }
 }
 
-/// The call that each task offered last, after a note.
+/// Brings the calls that the tasks offered last up to date with a note.
 pub fn hear(note: &Note, offers: &mut [Option<Offer>])
     ensures { offers.new ≡ offers_after offers.old note.now }
 {

@@ -80,7 +80,7 @@ fn paint(
     draw(alloc, &picture)
 }
 
-/// Makes the turns up to the end of the run, and answers its picture as the bytes of an SVG file
+/// Makes the turns up to the end of the run, and returns its picture as the bytes of an SVG file
 /// (docs/FORMATS.md, Picture), with this title and these names of tasks. Memory is allocated before
 /// the first turn, in proportion to the number of tasks, and after the last turn.
 ///

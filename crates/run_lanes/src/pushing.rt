@@ -93,7 +93,8 @@ fn push_note<S: Sink>(
     out.push(line.as_str().as_bytes())
 }
 
-/// Pushes what is written of the notes of a turn, and takes in each of them.
+/// Pushes what is written of the notes of a turn, and brings the calls that the tasks offered last
+/// up to date with each note.
 pub fn push_notes<S: Sink>(
     turn: u32,
     notes: &[Note],

@@ -32,7 +32,7 @@ struct Counts {
 }
 
 impl Counts {
-    /// Adds the ending that the status and the line together mean, and answers whether they mean
+    /// Adds the ending that the status and the line together mean, and returns whether they mean
     /// one.
     fn add_ending(&mut self, status: u8, line: &str) -> bool {
         match (status, line) {
@@ -53,7 +53,7 @@ impl Counts {
     }
 
     /// Adds the text of a run: the instruction of turn 0, and the ending, which is the first line
-    /// after the notes of that turn. Answers whether the ending is one that is counted.
+    /// after the notes of that turn. Returns whether the ending is one that is counted.
     fn add_run(&mut self, status: u8, text: &str) -> bool {
         for line in text.lines() {
             if line.starts_with("0 insn ") {
@@ -66,7 +66,7 @@ impl Counts {
     }
 }
 
-/// Adds the run of the halfword's image, and answers whether its ending is one that is counted.
+/// Adds the run of the halfword's image, and returns whether its ending is one that is counted.
 fn run(alloc: Global, halfword: u16, counts: &mut Counts) -> Result<bool, AllocError> {
     let line = "run a.img e.txt --steps 1 --all";
     let mut out = MemSink::open(alloc, 1000, &[])?;

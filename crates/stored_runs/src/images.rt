@@ -1,6 +1,6 @@
 //! Runs of two images with the empty script. gcc compiled them from C (data/crc32.c,
-//! data/bytecode.c). They run for as many turns as another emulator of the processor, which had the
-//! same registers and the same memory then.
+//! data/bytecode.c). Each run has a number of turns after which another emulator of the processor
+//! had the same registers and the same memory.
 use crate::{hold, push_line};
 use outside_io::{MemFiles, MemSink};
 use std::alloc::{AllocError, Global};

@@ -104,7 +104,7 @@ app_in (Err why) = no_app
 unfoldable pub application_of : List ℕ → AppData
 application_of bytes = app_in (read_app bytes)
 
--- how many bytes are needed, as a number of 64 bits can say it
+-- how many bytes are needed, at most 2^64 - 1
 abbrev pub need_text : ℕ → List ℕ
 need_text needed = decimal (min needed (2 ^ 64 - 1))
 

@@ -21,7 +21,7 @@ pub fn status_by(end: End) -> u8
     }
 }
 
-/// Pushes a single line, and answers the status that goes with it.
+/// Pushes a single line, and returns the status that goes with it.
 pub fn tell<S: Sink>(line: &[u8], status: u8, out: &mut S) -> u8
     ensures { (v : Verdict) → v.status ≡ status → v.text ≡ line.now →
         Pushed (S.seen out.old) (S.seen out.new) v result }

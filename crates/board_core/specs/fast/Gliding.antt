@@ -55,7 +55,7 @@ pub record TellsCall (most n : ℕ) (before after : View) (c : Cpu) (calls : Boo
 pub record HasWorked (a : Glider) (flash ram area second : List ℕ) (b : Glider) (after area_after second_after : List ℕ) : Type 0 where
   pub glides : Glides (lent_view a.runner.window flash ram area second) a.runner.processor b.made (lent_view a.runner.window flash after area_after second_after) b.runner.processor
   pub within : b.made ≤ a.most
-  -- it stopped before that many only where it had to
+  -- it stopped earlier only where it had to
   pub far : IsApart (lent_view a.runner.window flash ram area second) → b.made < a.most → IsLast (lent_view a.runner.window flash after area_after second_after) b.runner.processor
   pub tells : TellsCall a.most b.made (lent_view a.runner.window flash ram area second) (lent_view a.runner.window flash after area_after second_after) b.runner.processor b.at_syscall
 

@@ -57,7 +57,7 @@ left_sight shown a flash b after area_after second_after = record { view = lent_
 pub record HasPolled {X : Type 0} {H : X → Type 0} (shown : Shows X H) (a : Poller X H) (flash ram area second : List ℕ) (b : Poller X H) (after area_after second_after : List ℕ) : Type 0 where
   pub polls : Polls (lent_sight shown a flash ram area second) a.processor b.made (left_sight shown a flash b after area_after second_after) b.processor
   pub within : b.made ≤ a.most
-  -- it stopped before that many only where it had to
+  -- it stopped earlier only where it had to
   pub far : IsApart (lent_view a.seen.window flash ram area second) → b.made < a.most → IsAtLimit (left_sight shown a flash b after area_after second_after) b.processor
   pub tells : TellsCall a.most b.made (lent_view a.seen.window flash ram area second) (lent_view a.seen.window flash after area_after second_after) b.processor b.at_syscall
   pub io_regions : b.seen.io_regions ≡ a.seen.io_regions

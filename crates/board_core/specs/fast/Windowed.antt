@@ -71,7 +71,7 @@ pub record IsWholeWindow (stops : Stops) (g : Setup) (c : ℕ) (m : Memory) (pc 
   pub second_writable : v.second_writable ≡ regions.second.rights.write
 
 -- The next instruction of a task is a system call, faults, is at a breakpoint, or reaches beyond a window and
--- the devices that the task may read. PC and SP had these values when the window was opened. It is known
+-- the devices that the task may read. PC and SP had these values when the window was opened. `calls` says
 -- whether the instruction is a system call.
 pub record IsAtEnd (stops : Stops) (g : Setup) (c pc sp : ℕ) (s : State) (calls : Bool) : Type 0 where
   pub window : View

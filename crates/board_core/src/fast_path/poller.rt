@@ -195,7 +195,7 @@ impl Poller {
     }
 
     /// Makes one instruction over the window and the devices. If it cannot go on, nothing changes
-    /// and the answer is false.
+    /// and the result is false.
     #[inline(always)]
     fn step(&mut self, places: u32) -> bool
         requires apart { IsApart (view_of self.old.seen.window) }
@@ -247,7 +247,7 @@ impl Poller {
         }
     }
 
-    /// Makes instructions one after another, at most `most`, as long as each goes on. Answers how
+    /// Makes instructions one after another, at most `most`, as long as each goes on. Returns how
     /// many it made.
     #[inline(never)]
     fn run(&mut self, most: u32) -> u32
