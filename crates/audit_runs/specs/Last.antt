@@ -1,4 +1,4 @@
--- What is known of the last state of a run, and of the lines behind those of its tasks.
+-- What is known of the last state of a run, and of the lines after those of its tasks.
 use Rattle.std.specs.Prelude.{ℕ, ◌≤◌, ◌≡◌, List, [], ◌∷◌, ◌++◌, length}
 use Rattle.task_table.specs.model.State.{State}
 use Rattle.task_table.specs.model.Sane.{IsCounted}
@@ -15,14 +15,14 @@ use Rattle.trace_audit.specs.Rules.{IsGood}
 use Rattle.trace_audit.specs.Texts.{lines_of}
 use Rattle.trace_audit.specs.Judgements.{read_lines, HasNoCause}
 
--- no more turns than a run has, no more tasks than an image, and each deadline below 2^64
+-- no more turns than a run can have, no more tasks than an image can have, and each deadline below 2^64
 pub record IsFitLast (s : State) : Type 0 where
   pub counted : IsCounted s
   pub turns : s.turn ≤ 1000000000
   pub tasks : length s.tasks ≤ 65536
   pub timers : HasFitTimers s
 
--- each text is one line, not too long, which shows something (those of --mem)
+-- each text is one line of at most 160 bytes that shows something (`line.Shows`: the lines of --mem are such)
 abbrev pub AreShown : List (List ℕ) → Type 0
 AreShown [] = Unit {0}
 AreShown (t ∷ texts) = IsLine t line.Shows × (length t ≤ 160) × AreShown texts
@@ -38,6 +38,7 @@ pub record IsGoodText (text : List ℕ) : Type 0 where
   pub good : IsGood (read_lines text)
   pub fine : HasNoCause (lines_of text)
 
--- so is the text of a run from the start with what is shown behind it, where the numbers of its notes and of its last state are in range
+-- The same of the text of a run from the start, with such lines after it. The numbers of its notes and of its
+-- last state have to be in range.
 abbrev pub IsGoodRun : Level → Scenario → ℕ → Type 0
 IsGoodRun level x n = let r = run level x n (start_of x) in (more : List ℕ) → IsFitLast r.last → AreFit r.notes → IsShown more → IsGoodText (trace_text r ++ more)

@@ -1,4 +1,4 @@
--- What the notes of a run say of calls, and that it is good and agrees with the calls that are open.
+-- What the notes of a run say of calls. It is good, and agrees with the calls that are open.
 use Rattle.std.specs.Prelude.{ℕ, ◌+◌, ◌≡◌, Bool, true, false, List, length, map, Contains, find, Option, Some, None, ◌==◌}
 use Rattle.kernel_abi.specs.declared.Note.{Note}
 use Rattle.task_table.specs.model.State.{State, Call}
@@ -28,7 +28,7 @@ open_of (Some c) = Some record { call = c.number; taken = is_taken c.phase }
 abbrev pub held_of : List Call → ℕ → Option Open
 held_of calls i = open_of (find (λ c. c.client.index == i) calls)
 
--- the sayings of the notes are good, and an audit that has read them keeps the calls that are open
+-- what the notes say of calls is good, and an audit that has read them has exactly the calls that are open
 pub record IsSpoken (notes : List Note) (s : State) : Type 0 where
   pub kept : CallBook
   pub held : (i : ℕ) → kept.held i ≡ held_of s.calls i
@@ -37,7 +37,7 @@ pub record IsSpoken (notes : List Note) (s : State) : Type 0 where
   pub unique : (c d : Call) → Contains s.calls c → Contains s.calls d → c.client.index ≡ d.client.index → c ≡ d
   pub good : AreGoodSayings (sayings notes)
 
--- what the line of a task says that it waits for, by its open call
+-- what a task waits for by its line, given its open call
 abbrev pub wait_in : Phase → ℕ → FinalWait
 wait_in Offered number = wait.Offered number
 wait_in Taken number = wait.Taken number

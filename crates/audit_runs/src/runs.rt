@@ -8,9 +8,9 @@ ghost use Rattle.board_model.specs.Lifetimes.{notes_in};
 ghost use Rattle.audit_laws.specs.Whole.{AreInOrder, AreRight};
 ghost use Rattle.audit_runs.specs.Spoken.{IsSpoken};
 
-/// What the notes of a run from the start say of calls is good and agrees with the calls that are
-/// open at its end, and their turns do not fall; an instruction is noted with the code of one, and
-/// for information nothing moves.
+/// What the notes of a run from the start say of calls is good, and agrees with the calls that are
+/// open at its end. Their turns do not decrease. The code in the note of an instruction is one of
+/// an instruction, and a borrow for information moves nothing.
 pub fn runs_say_what_is_good()
     ensures spoken { (level : Level) (x : Scenario) (n : ℕ) → Sane x.setup (start_of x)
         → IsSpoken (notes_in (run level x n (start_of x)).notes) (run level x n (start_of x)).last }

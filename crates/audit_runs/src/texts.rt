@@ -13,16 +13,16 @@ ghost use Rattle.audit_laws.specs.Whole.{AreInOrder, AreRight};
 ghost use Rattle.audit_runs.specs.Spoken.{IsSpoken};
 ghost use Rattle.audit_runs.specs.Last.{IsFitLast, IsShown, IsGoodText, IsGoodRun};
 
-/// The lines of the memory of a sane state show something; so does no line.
+/// The lines of the memory of a sane state show something. No lines at all are accepted too.
 pub fn memories_are_shown()
     ensures none { IsShown [] }
     ensures memories { (g : Setup) (s : State) → Sane g s → IsShown (memory_text g s) }
 {}
 
-/// The text of a run, with any lines behind it that show something, is good, and no line of it has
-/// a cause: where its last state is sane and in range, its notes are in range and right, in turns
-/// that do not fall, and say of calls what is good and agrees with the last state. A run from the
-/// start is such a run, but for what is in range.
+/// The text of a run is good, with any lines after it that show something, and no line of it has a
+/// cause. For this the run's last state is sane and in range. Its notes are in range and right,
+/// their turns do not decrease, and what they say of calls is good and agrees with the last state.
+/// A run from the start has all this, except that numbers are in range.
 pub fn texts_of_runs_are_good()
     ensures any { (g : Setup) (r : Run) (more : List ℕ) → Sane g r.last → IsFitLast r.last →
         IsShown more

@@ -1,4 +1,4 @@
--- What a view tells of a device.
+-- What a view says of a device.
 use Rattle.kernel_abi.specs.Devices.{DeviceData}
 use Rattle.board_core.specs.declared.device_view.DeviceView.{DeviceView}
 

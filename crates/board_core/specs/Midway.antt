@@ -14,7 +14,7 @@ use Rattle.board_core.specs.Machine.{MachineStands}
 use Rattle.board_core.specs.fast.IoRegions.{AllIoRegions}
 use Rattle.board_core.specs.Data.{Shows}
 
--- the board before the events of the turn: nothing is noted as yet
+-- the board before the events of the turn: it has no notes yet
 pub record IsDue {X : Type 0} {H : X → Type 0} (shown : Shows X H) (x : Scenario) (b : Board X H) (s : State) : Type 0 where
   pub machine : MachineStands shown x.setup b.machine (begun s)
   pub turns : b.turns ≡ s.turn
@@ -24,7 +24,8 @@ pub record IsDue {X : Type 0} {H : X → Type 0} (shown : Shows X H) (x : Scenar
   pub counted : IsCounted s
   pub nothing : note_count b.machine.space.kernel ≡ 0
 
--- the board once the events of the turn have happened: it has chosen anew, and looks ahead to later turns
+-- the board after the events of the turn: it has chosen again, and knows the next turn in which something
+-- happens
 pub record IsMidway {X : Type 0} {H : X → Type 0} (shown : Shows X H) (x : Scenario) (b : Board X H) (s : State) : Type 0 where
   pub machine : MachineStands shown x.setup b.machine (after_events x s)
   pub choice : IsChoice x.setup (after_events x s).state b.choice

@@ -1,4 +1,4 @@
--- What an image fixes for ever, and the run over it.
+-- What an image fixes once and for all, and the run of that image.
 use Rattle.std.specs.Prelude.{List, map}
 use Rattle.kernel_abi.specs.Devices.{DeviceData}
 use Rattle.image_format.specs.ImageData.{ImageData, ImageTask, ImageLine}

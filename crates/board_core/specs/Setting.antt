@@ -1,4 +1,4 @@
--- What a view tells of a task, and the run of an image with another flash.
+-- What a view says of a task, and the run of an image with another flash.
 use Rattle.std.specs.Prelude.{ℕ, List}
 use Rattle.std.specs.Option.{option_map}
 use Rattle.kernel_abi.specs.declared.Timer.{Timer}
@@ -6,7 +6,7 @@ use Rattle.task_table.specs.declared.slot.Slot.{Slot}
 use Rattle.board_model.specs.Script.{Scenario}
 use Rattle.board_core.specs.declared.views.TaskView.{TaskView}
 
--- by its deadline and its bits
+-- the timer with this deadline and these bits
 abbrev pub timer_told : ℕ × ℕ → Timer
 timer_told x = record { deadline = x.0; bits = x.1 }
 

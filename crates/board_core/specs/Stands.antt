@@ -14,8 +14,8 @@ use Rattle.board_core.specs.Machine.{MachineHolds}
 use Rattle.board_core.specs.fast.IoRegions.{AllIoRegions}
 use Rattle.board_core.specs.Data.{Shows}
 
--- what is shown of a board whatever it stands for: the notes of its last turn, how many turns it
--- has made, how many tasks it has
+-- What a board shows whatever state it stands for: the notes of its last turn, how many turns it has made,
+-- how many tasks it has.
 abbrev pub notes_of : {X : Type 0} {H : X → Type 0} → Board X H → List Note
 notes_of b = kernel_notes b.machine.space.kernel
 
@@ -29,8 +29,8 @@ count_of b = task_count b.machine.space.kernel
 abbrev pub script_of : {X : Type 0} {H : X → Type 0} → Board X H → Script
 script_of b = b.script
 
--- its parts are those of the state: its machine's, its turn number and its choice; its script is the
--- run's, it knows when something happens next, and which devices each task may read
+-- The board's machine, turn number and choice are those of the state. Its script is that of the run. It knows
+-- the next turn in which something happens, and which devices each task may read.
 pub record Holds {X : Type 0} {H : X → Type 0} (shown : Shows X H) (x : Scenario) (b : Board X H) (s : State) : Type 0 where
   pub machine : MachineHolds shown x.setup b.machine record { state = s; notes = notes_of b; writes = []; reads = [] }
   pub turns : b.turns ≡ s.turn
@@ -39,7 +39,7 @@ pub record Holds {X : Type 0} {H : X → Type 0} (shown : Shows X H) (x : Scenar
   pub due : IsNext x.script s.turn b.due
   pub io_regions : AllIoRegions x.setup (map vec_items b.io_regions.items)
 
--- and the state is sane, and its counts are those that a run can reach
+-- and the state is sane, and its counts are ones that a run can reach
 pub record Stands {X : Type 0} {H : X → Type 0} (shown : Shows X H) (x : Scenario) (b : Board X H) (s : State) : Type 0 where
   pub holds : Holds shown x b s
   pub sane : Sane x.setup s

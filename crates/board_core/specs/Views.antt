@@ -6,7 +6,7 @@ use Rattle.task_table.specs.model.Reading.{task_at, call_of, listen_of}
 use Rattle.task_table.specs.kept.Holds.{wait_of}
 use Rattle.board_core.specs.declared.views.TaskView.{TaskView}
 
--- a view has the parts of the task; there is none past the last task
+-- the view has the parts of the task; past the last task there is no view
 pub record IsTask (s : State) (i : ℕ) (v : TaskView) : Type 0 where
   pub inside : i < length s.tasks
   pub generation : v.generation ≡ (task_at s i).births % 64

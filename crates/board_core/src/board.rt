@@ -42,8 +42,8 @@ use region_check::Region;
 use run_script::Script;
 use std::alloc::{AllocError, Global};
 
-/// A board with an image and a script: what its kernel keeps, how many turns it made, the choice of
-/// the task that runs next, and the turn in which something happens next.
+/// A board with an image and a script: what its kernel keeps, how many turns it has made, which
+/// task runs next, and the next turn in which something happens.
 #[derive(Drop)]
 pub struct Board {
     pub(crate) machine: Machine,
@@ -61,12 +61,12 @@ pub struct Board {
 }
 
 impl Board {
-    /// The board at the start of a run of an image with a script and with devices, as they are
-    /// handed in: at most eight, to which nothing has come as yet, each at a place of its own.
+    /// The board at the start of a run of an image, with a script and with devices. There are at
+    /// most eight devices, each at a place of its own, and nothing has come to them yet.
     ///
     /// # Errors
     ///
-    /// Only want of memory.
+    /// Only if memory runs out.
     pub fn open(
         alloc: Global,
         image: &Image,
@@ -95,8 +95,8 @@ impl Board {
         })
     }
 
-    /// One turn: the events of this turn, then one instruction of the chosen task, or nothing where
-    /// none is ready. What `Level::All` tells is among the notes.
+    /// One turn: the events of this turn, then one instruction of the chosen task, or nothing if
+    /// none is ready. Its notes are those of `Level::All`.
     pub fn turn(&mut self) -> Turned
         requires few { turns_of self.old < 1000000000 }
         requires stood { StandsForSome shown self.old }
@@ -109,21 +109,22 @@ impl Board {
         ensures few { length (notes_of self.new) ≤ turn_notes }
         ensures turns { turns_of self.new ≡ turns_of self.old + 1 }
 
-        // Each byte is written on a ground where its writer may, a device is reached only where it
-        // may, no call is touched but an open one, and with any memory that agrees on what the turn
-        // reads it would have done the same.
+        // Each byte is written on a ground that its writer has. A device is reached only by a task
+        // that may use it. Only open calls are touched. With any memory that agrees on what the
+        // turn reads, the turn would have done the same.
         ensures grounds { (x : Scenario) (s : State) → Stands shown x self.old s →
             IsGroundedTurn All x s }
         ensures reads { (x : Scenario) (s : State) → Stands shown x self.old s →
             DependsOnReads All x s }
 
-        // A task that faults changes nothing else, and one whose system call names an earlier birth
-        // of a task is answered, and nothing else changes.
+        // A task that faults changes nothing else. A task whose system call names an earlier birth
+        // of a task gets an answer, and nothing else changes.
         ensures faults { (x : Scenario) (s : State) → Stands shown x self.old s → (c : ℕ) →
             IsFaulting All x s c → ChangesNothingElse All x s c }
         ensures dead_ids { (x : Scenario) (s : State) → Stands shown x self.old s →
             IsDeadTurn All x s }
-        // What others do leaves a loner alone, and its own turn goes by what it has for itself.
+        // What other tasks do leaves a loner as it is. The loner's own turn depends only on what it
+        // has for itself.
         ensures loners { (x : Scenario) (s : State) → Stands shown x self.old s →
             LeavesLoners All x s }
         ensures alone { (x : Scenario) (s : State) → Stands shown x self.old s →
@@ -132,7 +133,7 @@ impl Board {
         self.turn_at(Level::All)
     }
 
-    /// One turn as `turn`, of which only so much is noted.
+    /// One turn as `turn`, with only the notes of this level.
     pub fn turn_at(&mut self, level: Level) -> Turned
         requires few { turns_of self.old < 1000000000 }
         requires stood { StandsForSome shown self.old }
@@ -145,27 +146,28 @@ impl Board {
         ensures few { length (notes_of self.new) ≤ turn_notes }
         ensures turns { turns_of self.new ≡ turns_of self.old + 1 }
 
-        // Where no event is due, what is known of the next one stays, and so does the choice where
-        // nothing was noted.
+        // If no event is due, the board still knows the same next one, and if nothing was noted,
+        // the choice stays too.
         ensures due { self.old.due ≢ Some (turns_of self.old) → self.new.due ≡ self.old.due }
         ensures kept { self.old.due ≢ Some (turns_of self.old) → notes_of self.new ≡ [] →
             self.new.choice ≡ self.old.choice }
 
-        // Each byte is written on a ground where its writer may, a device is reached only where it
-        // may, no call is touched but an open one, and with any memory that agrees on what the turn
-        // reads it would have done the same.
+        // Each byte is written on a ground that its writer has. A device is reached only by a task
+        // that may use it. Only open calls are touched. With any memory that agrees on what the
+        // turn reads, the turn would have done the same.
         ensures grounds { (x : Scenario) (s : State) → Stands shown x self.old s →
             IsGroundedTurn level x s }
         ensures reads { (x : Scenario) (s : State) → Stands shown x self.old s →
             DependsOnReads level x s }
 
-        // A task that faults changes nothing else, and one whose system call names an earlier birth
-        // of a task is answered, and nothing else changes.
+        // A task that faults changes nothing else. A task whose system call names an earlier birth
+        // of a task gets an answer, and nothing else changes.
         ensures faults { (x : Scenario) (s : State) → Stands shown x self.old s → (c : ℕ) →
             IsFaulting level x s c → ChangesNothingElse level x s c }
         ensures dead_ids { (x : Scenario) (s : State) → Stands shown x self.old s →
             IsDeadTurn level x s }
-        // What others do leaves a loner alone, and its own turn goes by what it has for itself.
+        // What other tasks do leaves a loner as it is. The loner's own turn depends only on what it
+        // has for itself.
         ensures loners { (x : Scenario) (s : State) → Stands shown x self.old s →
             LeavesLoners level x s }
         ensures alone { (x : Scenario) (s : State) → Stands shown x self.old s →
@@ -179,9 +181,9 @@ impl Board {
         turned
     }
 
-    /// One turn, and further ones after it as long as each notes nothing, the run goes on and fewer
-    /// than `limit` turns are made in all. With all instructions noted each turn notes something,
-    /// so that it is one turn.
+    /// One turn, and further ones as long as each notes nothing, the run goes on and fewer than
+    /// `limit` turns are made in all. If instructions are noted, each turn notes something, so this
+    /// makes one turn.
     #[inline(always)]
     pub fn advance(&mut self, level: Level, limit: u32)
         requires stood { StandsForSome shown self.old }
@@ -203,7 +205,7 @@ impl Board {
         }
     }
 
-    /// The same, where instructions are not noted.
+    /// The same, when instructions are not noted.
     #[inline(always)]
     fn go_on(&mut self, limit: u32)
         requires stood { StandsForSome shown self.old }
@@ -223,10 +225,12 @@ impl Board {
         }
     }
 
-    /// As many turns as can be made on the fast path, and then a whole one, where fewer than
-    /// `limit` are made by then: which task that one ran and where its PC was, where that is a
-    /// breakpoint. No turn before it was at one. Whoever calls this has a copy of the fast way,
-    /// which knows of no breakpoints where there are none.
+    /// Makes as many turns as it can on the fast path, and then a whole one if fewer than `limit`
+    /// turns are made by then. If the task of that last turn had its PC at a breakpoint, the result
+    /// is that task and its PC. No earlier turn was at one.
+    ///
+    /// It is inlined, so each caller has its own copy of the fast path. The copy of a caller
+    /// without breakpoints does not look for any.
     #[inline(always)]
     pub fn advance_past(&mut self, breakpoints: &[u32], limit: u32) -> Option<(u16, u32)>
         requires stood { StandsForSome shown self.old }
@@ -244,7 +248,7 @@ impl Board {
             result ≡ hit_of breakpoints.now
             (turned x (state_after Calls x (turns_of self.new - turns_of self.old - 1) s)) }
 
-        // The whole turn is one that the fast path does not make past these breakpoints.
+        // The whole turn is one that the fast path cannot make past these breakpoints.
         ensures needed { NeededTurn shown (stops_at breakpoints.now None) limit self.old self.new }
         ensures idle { WaitedFor shown limit self.old self.new }
     {
@@ -262,9 +266,9 @@ impl Board {
         }
     }
 
-    /// As many turns as can be made on the fast path, without a window that has the byte at an
-    /// address, and then a whole one, where fewer than `limit` are made by then: what the last one
-    /// changed of the byte. No turn before it changed it.
+    /// Makes as many turns as it can on the fast path, with no window that has the byte at an
+    /// address, and then a whole one if fewer than `limit` turns are made by then. The result is
+    /// what that last turn changed of the byte. No earlier turn changed it.
     #[inline(always)]
     pub fn advance_watching(&mut self, at: u32, limit: u32) -> Option<Change>
         requires stood { StandsForSome shown self.old }
@@ -282,7 +286,7 @@ impl Board {
             result ≡ change_in x at (state_after Calls x (turns_of self.new - turns_of self.old - 1)
             s) }
 
-        // The whole turn is one that the fast path does not make without the byte.
+        // The whole turn is one that the fast path cannot make without the byte.
         ensures needed { NeededTurn shown (stops_at [] (Some at)) limit self.old self.new }
         ensures idle { WaitedFor shown limit self.old self.new }
     {
@@ -293,7 +297,7 @@ impl Board {
         self.turn_watching(at)
     }
 
-    /// One whole turn: what it changed of the byte at an address.
+    /// Makes one whole turn, and returns what it changed of the byte at an address.
     fn turn_watching(&mut self, at: u32) -> Option<Change>
         requires few { turns_of self.old < 1000000000 }
         requires stood { StandsForSome shown self.old }
@@ -312,18 +316,18 @@ impl Board {
         change_by(runner_of(turned), before, after)
     }
 
-    /// The fast path: turns before turn `until`, before which nothing is due, none of which notes
-    /// anything, is at a breakpoint or changes the byte that is watched. They are those of the task
-    /// that is chosen, within a window of its memory, as far as it goes there; or all idle ones,
-    /// where no task is ready.
+    /// The fast path. It makes turns before turn `until`; nothing is due in them. None of them
+    /// notes anything, is at a breakpoint or changes the watched byte. They are turns of the chosen
+    /// task within a window of its memory, as far as it goes there. If no task is ready, they are
+    /// all idle turns.
     #[inline(always)]
     fn glide(&mut self, breakpoints: &[u32], watched: Option<u32>, until: u32) -> Option<usize>
         requires { MayGoFast shown self.old until }
         ensures fast { WentFast shown (stops_at breakpoints.now watched) until self.old self.new }
         ensures stays { until ≤ turns_of self.old → self.new ≡ self.old }
 
-        // It stops before only where the next instruction is a system call, faults, is at a
-        // breakpoint or reaches beyond the window, or where there is none.
+        // It stops earlier only if the next instruction is a system call, faults, is at a
+        // breakpoint or reaches beyond the window, or if there is no window.
         ensures far { WentFar shown (stops_at breakpoints.now watched) until self.old self.new
             (is_some result) }
         ensures calls { (task : ℕ) → result ≡ Some task →
@@ -351,7 +355,7 @@ impl Board {
         }
     }
 
-    /// The same, where this task is chosen and the supervisor has not faulted.
+    /// The same, when this task is chosen and the supervisor has not faulted.
     #[inline(always)]
     fn glide_on(
         &mut self,
@@ -375,7 +379,7 @@ impl Board {
         glided.at_syscall
     }
 
-    /// The same, where the task may read devices.
+    /// The same, when the task may read devices.
     #[cold]
     #[inline(never)]
     fn poll_on(
@@ -398,8 +402,8 @@ impl Board {
         glided.at_syscall
     }
 
-    /// One turn of a task that makes a system call in it, and in which nothing is due: what
-    /// `turn_at` makes of it.
+    /// One turn in which a task makes a system call and nothing is due. It does what `turn_at`
+    /// does.
     #[inline(always)]
     fn call(&mut self, task: usize)
         requires few { turns_of self.old < 1000000000 }
@@ -416,7 +420,7 @@ impl Board {
         self.renew(0);
     }
 
-    /// The same, where no task is ready.
+    /// The same, when no task is ready.
     fn idle_on(&mut self, until: u32)
         requires { MayGoFastBy shown self.old None until }
         ensures fast { (stops : Stops) → WentFast shown stops until self.old self.new }
@@ -428,7 +432,8 @@ impl Board {
         }
     }
 
-    /// All idle turns up to turn `to` at once, before which no task is ready and nothing happens.
+    /// Makes all idle turns before turn `to` at once. Until then no task is ready and nothing
+    /// happens.
     pub fn skip(&mut self, to: u32)
         requires stood { StandsForSome shown self.old }
         requires from { turns_of self.old ≤ to }
@@ -444,7 +449,7 @@ impl Board {
         self.turns = to;
     }
 
-    /// A turn begins, with its events.
+    /// Begins a turn, with its events.
     #[inline(always)]
     fn begin(&mut self)
         requires few { turns_of self.old < 1000000000 }
@@ -462,8 +467,8 @@ impl Board {
         }
     }
 
-    /// The events of this turn happen; then what is known of the choice is brought up to date, and
-    /// the next turn with an event is looked up.
+    /// Lets the events of this turn happen. Then it brings the choice up to date and looks up the
+    /// next turn with an event.
     fn happen(&mut self)
         requires few { turns_of self.old < 1000000000 }
         requires stands { (x : Scenario) × (s : State) × IsDue shown x self.old s }
@@ -480,9 +485,9 @@ impl Board {
         self.due = self.script.next_from(self.first_listed, self.turns + 1);
     }
 
-    /// What is known of the choice is brought up to date where the last turn noted something behind
-    /// its first `noted` notes, those of its events: a turn that notes nothing after them leaves
-    /// each task as ready as it was.
+    /// Brings the choice up to date if the last turn noted something after its first `noted` notes,
+    /// those of its events. A turn that notes nothing after them leaves each task as ready as it
+    /// was.
     #[inline(always)]
     fn renew(&mut self, noted: usize)
         requires { (g : Setup) × (t : Turn) × MachineStands shown g self.old.machine t }
@@ -513,7 +518,7 @@ impl Board {
     }
 }
 
-/// The turn before which nothing is due, at most the limit.
+/// The turn before which nothing is due; at most the limit.
 fn quiet_until(due: Option<u32>, limit: u32) -> u32
     ensures within { result ≤ limit }
     ensures later { (turn : ℕ) → turn < result → due ≢ Some turn }
@@ -525,7 +530,7 @@ fn quiet_until(due: Option<u32>, limit: u32) -> u32
     }
 }
 
-/// Whether something happens in this turn, by when it happens next.
+/// Whether something happens in this turn, given the turn in which something happens next.
 fn is_due(due: Option<u32>, turn: u32) -> bool
     ensures due { result ≡ true → due ≡ Some turn }
     ensures later { result ≡ false → due ≢ Some turn }

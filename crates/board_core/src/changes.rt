@@ -22,7 +22,7 @@ pub fn runner_of(turned: Turned) -> Option<u16>
     }
 }
 
-/// What a byte was and what it is, where these are two.
+/// What a byte was and what it is, if the two differ.
 fn change_of(before: Option<u8>, after: Option<u8>) -> Option<(u8, u8)>
     ensures { result ≡ change_of before after }
 {
@@ -30,7 +30,7 @@ fn change_of(before: Option<u8>, after: Option<u8>) -> Option<(u8, u8)>
     if old == new { None } else { Some((old, new)) }
 }
 
-/// The change of a byte in a turn that ran this task, or none.
+/// The change of a byte in a turn that ran this task; none if the byte stayed.
 pub fn change_by(task: Option<u16>, before: Option<u8>, after: Option<u8>) -> Option<Change>
     ensures { result ≡ change_by task before after }
 {

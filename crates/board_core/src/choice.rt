@@ -11,8 +11,8 @@ use dispatch::choose;
 use kernel_abi::Health;
 use task_table::{Kernel, TaskSet};
 
-/// Which task runs next, None where none is ready; which tasks are ready; and whether the
-/// supervisor has faulted.
+/// Which task runs next (None if none is ready), which tasks are ready, and whether the supervisor
+/// has faulted.
 #[derive(Clone, Copy)]
 pub struct Choice {
     pub next: Option<usize>,
@@ -20,7 +20,7 @@ pub struct Choice {
     pub down: bool,
 }
 
-/// The supervisor has faulted.
+/// Whether the supervisor has faulted.
 fn is_down(kernel: &Kernel) -> bool
     requires { 0 < task_count kernel.now }
     ensures { (g : Setup) (t : Turn) → Holds g kernel.now t →
@@ -33,7 +33,7 @@ fn is_down(kernel: &Kernel) -> bool
     }
 }
 
-/// The choice for a kernel as it is.
+/// The choice for a kernel.
 pub fn choice_of(kernel: &Kernel) -> Choice
     ensures { (g : Setup) (t : Turn) → Holds g kernel.now t → IsChoice g t.state result }
 {
@@ -52,9 +52,9 @@ fn stays(last: &Choice, ready: &TaskSet, current: usize) -> bool
     last.next == Some(current) && last.ready.is_same(ready)
 }
 
-/// Brings the choice up to date with a kernel: the task that was chosen and runs is chosen again as
-/// long as the same tasks are ready. Their set is copied only where it has changed, and whole,
-/// since the copy of a part takes longer.
+/// Brings the choice up to date with a kernel. The task that was chosen and runs is chosen again as
+/// long as the same tasks are ready. Their set is copied only if it has changed, and then whole,
+/// because copying a part takes longer.
 #[inline(always)]
 pub fn renew_choice(kernel: &Kernel, choice: &mut Choice)
     ensures { (g : Setup) (t : Turn) → Holds g kernel.now t → WasChoice g choice.old →

@@ -14,7 +14,7 @@ use arrayvec::ArrayVec;
 use kernel_abi::Kind;
 
 /// A device between turns: its kind, the first of its 256 addresses, how many bytes were stored to
-/// it modulo 2^32, and the bytes that wait in it, at most 64, the first first.
+/// it modulo 2^32, and the bytes that wait in it, at most 64, oldest first.
 #[derive(Drop)]
 pub struct DeviceView {
     pub kind: Kind,

@@ -1,4 +1,4 @@
-//! Instructions on end of the task that is chosen, the fast path.
+//! Instructions of the chosen task one after another: the fast path.
 ghost use Rattle.std.specs.Prelude.{◌≡◌, ◌≤◌, ◌<◌, [], length, true, false};
 ghost use Rattle.task_table.specs.model.State.{Setup, Turn};
 ghost use Rattle.task_table.specs.model.Reading.{is_ready};
@@ -19,14 +19,15 @@ use region_check::Region;
 use std::mem::swap;
 use words_core::{PROGRAM_COUNTER, STACK_POINTER};
 
-/// How many instructions a task made on end, and whether the next one is known to be a system call.
+/// How many instructions a task made one after another, and whether the next one is known to be a
+/// system call.
 #[derive(Clone, Copy)]
 pub struct Glided {
     pub made: u32,
     pub at_syscall: bool,
 }
 
-/// No instructions. It is cold, so that the way on has no preparations for it.
+/// No instructions. It is cold, so that the path that goes on does not prepare for it.
 #[cold]
 #[inline(never)]
 fn none_made() -> Glided
@@ -40,8 +41,7 @@ fn none_made() -> Glided
 }
 
 impl Machine {
-    /// The processor has a task's context from now on. The task is not the current one yet: that it
-    /// is once it ran.
+    /// Gives the processor a task's context. The task becomes the current one only when it has run.
     #[inline(always)]
     fn take_context(&mut self, task: usize)
         requires { task < task_count self.old.space.kernel }
@@ -59,9 +59,9 @@ impl Machine {
         }
     }
 
-    /// Instructions on end of a task within a window of its memory, at most so many, none of them
-    /// at a breakpoint, nor in a window that has the byte that is watched. Where there were some,
-    /// it is the current one. A task that may read devices is one of `poll`.
+    /// Makes at most this many instructions of a task, within a window of its memory. None of them
+    /// is at a breakpoint, and the window does not have the watched byte. If there were any, the
+    /// task is the current one. `poll` is for tasks that may read devices.
     #[inline(always)]
     pub fn glide(
         &mut self,
@@ -113,9 +113,9 @@ impl Machine {
         glided
     }
 
-    /// The same of a task that may read devices, by these regions: instructions on end within a
-    /// window of its memory, and over it and the devices. Few tasks have a device, so this is a
-    /// function of its own.
+    /// The same for a task that may read devices, through these regions: its instructions stay
+    /// within a window of its memory, or over it and the devices. Few tasks have a device, so this
+    /// is a function of its own.
     #[cold]
     #[inline(never)]
     pub fn poll(

@@ -6,13 +6,13 @@ ghost use Rattle.board_core.specs.Data.{data_of, IsPlace, IsOffset};
 use devices::Device;
 use kernel_abi::{Fed, Given, Kind};
 
-/// Devices, each behind the 256 addresses from its first one on.
+/// Devices; each has 256 addresses, from its first one on.
 #[derive(Drop)]
 pub struct Devices {
     list: Vec<Box<dyn Device>>,
 }
 
-/// How far an address is from a device's first, where it is one of the device's.
+/// The offset of an address from a device's first address, if the address is one of the device's.
 fn offset_of(device: &Box<dyn Device>, addr: u32) -> Option<u32>
     ensures { MatchOption result (is_behind addr (shown device.now) ≡ false)
         (λ off. IsOffset (shown device.now) addr off) }
@@ -40,7 +40,7 @@ fn look_at(device: &Box<dyn Device>, off: u32) -> u32
     device.look(off)
 }
 
-/// A load at an offset has taken what it showed.
+/// Tells a device that a load at an offset has taken what it showed.
 fn take_from(device: &mut Box<dyn Device>, off: u32)
     requires { off < 256 }
     ensures { shown device.new ≡ after_load (shown device.old) off }
@@ -115,7 +115,8 @@ impl Devices {
         self.list.len()
     }
 
-    /// How far an address is from the k-th device's first, where it is one of that device's.
+    /// The offset of an address from the k-th device's first address, if it is one of that
+    /// device's.
     fn offset(&self, k: usize, addr: u32) -> Option<u32>
         requires { k < length (data_of shown self.now) }
         ensures { MatchOption result (is_behind addr (device_at (data_of shown self.now) k) ≡ false)
@@ -169,7 +170,8 @@ impl Devices {
         feed_to(&mut self.list[k], byte)
     }
 
-    /// Which device is behind an address, and how far the address is from its first.
+    /// Which device is behind an address, and the offset of the address from the device's first
+    /// one.
     fn place(&self, addr: u32) -> Option<(usize, u32)>
         ensures { MatchOption result (behind addr (data_of shown self.now) ≡ None)
             (λ p. IsPlace (data_of shown self.now) addr p.0 p.1) }
@@ -185,7 +187,7 @@ impl Devices {
         None
     }
 
-    /// What n bytes from an address on show, where a device is behind it.
+    /// What n bytes from an address on show, if a device is behind it.
     pub fn number(&self, addr: u32, n: u32) -> Option<u32>
         requires { (n ≡ 1) ⊎ (n ≡ 2) ⊎ (n ≡ 4) }
         ensures { result ≡ device_number (data_of shown self.now) addr n }
@@ -195,7 +197,8 @@ impl Devices {
         Some(low_bytes(word, n))
     }
 
-    /// Was loaded from an address: the device behind it has given what it showed.
+    /// Tells the device behind an address, if there is one, that a load there has taken what it
+    /// showed.
     pub fn taken(&mut self, addr: u32)
         ensures { data_of shown self.new ≡ devices_loaded (data_of shown self.old) addr }
     {
@@ -204,7 +207,7 @@ impl Devices {
         }
     }
 
-    /// Stores a value to the device behind an address; answers what is given out by it.
+    /// Stores a value to the device behind an address, and returns what the device gives out.
     pub fn store(&mut self, addr: u32, value: u32) -> Option<Given>
         ensures stored { data_of shown self.new ≡ devices_stored (data_of shown self.old) addr }
         ensures out { result ≡ device_out (data_of shown self.old) addr value }
@@ -214,7 +217,7 @@ impl Devices {
         Some(Given { device: k, byte })
     }
 
-    /// A byte comes from outside for the k-th device; none where there is no such device.
+    /// Feeds a byte from outside to the k-th device; None if there is no such device.
     pub fn feed(&mut self, k: usize, byte: u8) -> Option<Fed>
         ensures after { data_of shown self.new ≡ devices_fed (data_of shown self.old) k byte }
         ensures told { result ≡ feed_answer (data_of shown self.old) k }
@@ -226,7 +229,7 @@ impl Devices {
         }
     }
 
-    /// Whether there is none.
+    /// Whether there are no devices.
     pub fn is_empty(&self) -> bool
         ensures none { result ≡ true → data_of shown self.now ≡ [] }
         ensures some { result ≡ false → data_of shown self.now ≢ [] }

@@ -34,23 +34,24 @@ use thumb_step::fetch;
 use timer_irq::{interrupt, tick};
 use words_core::{Flags, PROGRAM_COUNTER, Regs};
 
-/// A kernel and a processor, the glider's. While the context of the current task is loaded, that
-/// task's registers and flags are the processor's; what the kernel has of them is of an earlier
-/// time.
+/// A kernel and a processor, which is the glider's. While the context of the current task is
+/// loaded, the processor has that task's registers and flags, and the kernel's copy of them is out
+/// of date.
 #[derive(Drop)]
 pub struct Machine {
     pub space: AddressSpace,
     pub loaded: bool,
 
-    /// The processor, which can make instructions on end within a window of the task's memory.
+    /// The processor, which can make instructions one after another within a window of the task's
+    /// memory.
     pub glider: Glider,
 
-    /// Who makes them for tasks that may read devices.
+    /// Makes them for tasks that may read devices.
     pub poller: Poller,
 }
 
-/// A processor gets the registers and flags that the kernel has of a task. They are written in
-/// place, not by way of a copy.
+/// Gives a processor the kernel's registers and flags of a task. They are written in place, not
+/// through a copy.
 #[inline(always)]
 pub fn load(processor: &mut Cpu, kernel: &Kernel, task: usize)
     requires { task < task_count kernel.now }
@@ -76,7 +77,8 @@ impl Machine {
         }
     }
 
-    /// The kernel has the registers and flags of the current task again: before it acts.
+    /// Gives the kernel the registers and flags of the current task again. This comes before the
+    /// kernel acts.
     pub fn save_context(&mut self)
         ensures holds { (g : Setup) (t : Turn) → MachineHolds shown g self.old t →
             SpaceHolds shown g self.new.space t }
@@ -107,7 +109,7 @@ impl Machine {
         }
     }
 
-    /// The task is the current one from now on, and the processor has its context.
+    /// Makes the task the current one, and gives the processor its context.
     fn load_context(&mut self, task: usize)
         requires { task < task_count self.old.space.kernel }
         ensures loaded { self.new.loaded ≡ true }
@@ -127,7 +129,7 @@ impl Machine {
 }
 
 impl Machine {
-    /// A turn begins: what the last one noted is gone.
+    /// Begins a turn: the notes of the last one are dropped.
     #[inline(always)]
     pub fn begin(&mut self)
         ensures holds { (g : Setup) (t : Turn) → MachineHolds shown g self.old t →
@@ -138,7 +140,7 @@ impl Machine {
         self.space.kernel.clear_notes();
     }
 
-    /// Something happens from outside.
+    /// Lets an event from outside happen.
     fn happen(&mut self, event: Event)
         requires stands { (g : Setup) × (t : Turn) × MachineStands shown g self.old t
             × (t.state.now + 1 < 2 ^ 64) }
@@ -159,7 +161,7 @@ impl Machine {
         }
     }
 
-    /// The k-th event of a turn happens; where there is none, the answer is false.
+    /// Lets the k-th event of a turn happen; false if there is none.
     fn happen_at(&mut self, script: &Script, first: usize, turn: u32, k: u32) -> bool
         requires first { IsFirstListed (script_data script.now) turn first }
         requires stands { (g : Setup) × (t : Turn) × MachineStands shown g self.old t
@@ -182,7 +184,7 @@ impl Machine {
         }
     }
 
-    /// What happens from outside in a turn, in the order of the script.
+    /// Lets everything happen that comes from outside in a turn, in the order of the script.
     pub fn happen_all(&mut self, script: &Script, first: usize, turn: u32)
         requires first { IsFirstListed (script_data script.now) turn first }
         requires stands { (g : Setup) × (t : Turn) × MachineStands shown g self.old t
@@ -202,7 +204,7 @@ impl Machine {
     }
 }
 
-/// What is noted of the registers r0 to r7.
+/// The note of the registers r0 to r7.
 fn low_note(registers: &[u32; 16]) -> Note
     ensures { result ≡ Note.Low (take 8 registers.now) }
 {
@@ -212,7 +214,7 @@ fn low_note(registers: &[u32; 16]) -> Note
     }
 }
 
-/// What is noted of the registers r8 to r15 and of the flags.
+/// The note of the registers r8 to r15 and of the flags.
 fn high_note(registers: &[u32; 16], flags: Flags) -> Note
     ensures { result ≡ Note.High (drop 8 registers.now) flags.n flags.z flags.c flags.v }
 {
@@ -227,7 +229,7 @@ fn high_note(registers: &[u32; 16], flags: Flags) -> Note
 }
 
 impl Machine {
-    /// With all instructions, that of the current task is noted.
+    /// Notes the instruction of the current task, if the level is that of all instructions.
     #[inline(always)]
     fn note_insn(&mut self, level: Level, at: u32, code: u32)
         requires { note_count self.old.space.kernel < turn_notes }
@@ -244,7 +246,7 @@ impl Machine {
         }
     }
 
-    /// With all instructions, an idle turn is noted.
+    /// Notes an idle turn, if the level is that of all instructions.
     fn note_idle(&mut self, level: Level)
         requires room { note_count self.old.space.kernel < turn_notes }
         ensures holds { (g : Setup) (t : Turn) → MachineHolds shown g self.old t →
@@ -257,7 +259,7 @@ impl Machine {
         }
     }
 
-    /// The registers and flags of a task are noted.
+    /// Notes the registers and flags of a task.
     fn note_registers(&mut self, task: usize)
         requires there { task < task_count self.old.space.kernel }
         requires room { note_count self.old.space.kernel + 2 ≤ turn_notes }
@@ -272,7 +274,8 @@ impl Machine {
         self.space.kernel.note(high_note(&registers, flags));
     }
 
-    /// With all instructions, the registers and flags of the task that ran are noted.
+    /// Notes the registers and flags of the task that ran, if the level is that of all
+    /// instructions.
     #[inline(always)]
     fn note_task(&mut self, level: Level, task: usize)
         requires there { task < task_count self.old.space.kernel }
@@ -289,7 +292,7 @@ impl Machine {
 }
 
 impl Machine {
-    /// One instruction of the current task, with its effect on the task and on memory.
+    /// Executes one instruction of the current task: its effect on the task and on memory.
     fn execute(&mut self, insn: &Insn)
         requires coded { IsCoded insn.now }
         requires may_act { MayAct shown self.old (syscall_notes + 1) }
@@ -302,7 +305,7 @@ impl Machine {
         }
     }
 
-    /// The same of an instruction that is no call.
+    /// The same for an instruction that is no system call.
     fn execute_own(&mut self, insn: &Insn)
         requires coded { IsCoded insn.now }
         requires may_act { MayAct shown self.old (syscall_notes + 1) }
@@ -340,7 +343,7 @@ impl Machine {
         self.space.kernel.fault(task, fault);
     }
 
-    /// One instruction of the current task: fetched, decoded, carried out.
+    /// Makes one instruction of the current task: fetches, decodes and executes it.
     #[inline(never)]
     pub fn step(&mut self, level: Level)
         requires { MayAct shown self.old (syscall_notes + 2) }
@@ -358,8 +361,8 @@ impl Machine {
 }
 
 impl Machine {
-    /// What the task that is chosen does, once the events of the turn have happened: one
-    /// instruction; or nothing where none is chosen.
+    /// What the chosen task does after the events of the turn: one instruction, or nothing if no
+    /// task is chosen.
     pub fn turn(&mut self, level: Level, next: Option<usize>) -> Turned
         requires { MayTurn shown self.old next }
         ensures holds { (g : Setup) (t : Turn) → IsNext shown g self.old t next →
@@ -387,8 +390,8 @@ impl Machine {
         }
     }
 
-    /// A turn of a task whose instruction is known to be a system call: it is not fetched and
-    /// decoded again.
+    /// A turn of a task whose next instruction is known to be a system call, so that it is not
+    /// fetched and decoded again.
     #[inline(always)]
     pub fn call(&mut self, task: usize)
         requires { MayTurn shown self.old (Some task) }

@@ -67,7 +67,7 @@ fn line_starts(alloc: Global, image: &Image) -> Result<Vec<LineStart>, AllocErro
     Ok(lines)
 }
 
-/// Adds the places of the i-th task's regions that are no device.
+/// Adds base and size of those of the i-th task's regions that are no devices.
 fn push_places(
     alloc: Global,
     image: &Image,
@@ -90,7 +90,7 @@ fn push_places(
     Ok(())
 }
 
-/// The places of all regions that are no device, by base and size in bytes.
+/// The base and the size in bytes of each region that is no device.
 fn places(alloc: Global, image: &Image) -> Result<Vec<(u32, u32)>, AllocError>
     ensures places { IfOk result (λ v. ArePlaces (image_data image.now) v.items) }
     ensures all { IfOk result (λ v. HavePlaces (image_data image.now)
@@ -116,7 +116,7 @@ pub fn kernel(alloc: Global, image: &Image) -> Result<Kernel, AllocError>
     Kernel::start(alloc, memory, image.fault_bits(), &tasks, &lines)
 }
 
-/// Those of some regions that are of devices and may be read.
+/// The I/O regions among these regions: those of devices that may be read.
 fn ports_among(alloc: Global, regions: &[Region]) -> Result<Vec<Region>, AllocError>
     ensures { IfOk result (λ v. v.items ≡ filter is_port regions.now) }
 {

@@ -1,8 +1,8 @@
-//! Parts of a board that become as they are told, each for itself. The state in between need not be
-//! sane; where the last one is, and its counts are in order, the board stands for it.
+//! Setting the parts of a board one by one. The states in between need not be sane. If the last one
+//! is, and its counts are in order, the board stands for it.
 //!
-//! A board holds boxes of devices: a call that changes one is proved across crates only where it
-//! requires something, so each does, if only the range of a number.
+//! A board holds boxes of devices. A call that changes a box is proved across crates only if it
+//! requires something, so each call here does, if only the range of a number.
 ghost use Rattle.std.specs.Prelude.{◌≡◌, ◌<◌, ◌≤◌, ◌^◌, ◌∷◌, [], length, true, slice_set};
 ghost use Rattle.std.specs.Option.{option_map};
 ghost use Rattle.kernel_abi.specs.Devices.{device_at, with_device, IsSettable};
@@ -23,7 +23,7 @@ use run_script::Script;
 use std::mem::swap;
 use task_table::{Line, Slot};
 
-/// A timer by its deadline and its bits.
+/// The timer with this deadline and these bits.
 fn timer(told: Option<(u64, u32)>) -> Option<Timer>
     ensures { result ≡ option_map timer_told told }
 {
@@ -33,7 +33,7 @@ fn timer(told: Option<(u64, u32)>) -> Option<Timer>
     }
 }
 
-/// What is kept of a task that is shown so.
+/// The slot of a task that has this view.
 fn slot(view: &TaskView) -> Slot
     ensures { result ≡ slot_told view.now }
 {
@@ -51,7 +51,7 @@ fn slot(view: &TaskView) -> Slot
 }
 
 impl Board {
-    /// So many turns were made.
+    /// Sets how many turns were made.
     pub fn set_turns(&mut self, v: u32)
         requires { v < 2 ^ 32 }
         ensures holds { (x : Scenario) (s : State) → Holds shown x self.old s →
@@ -62,8 +62,7 @@ impl Board {
         self.due = self.script.next(v);
     }
 
-    /// What happens from outside is another script's from now on. Its place is given the one
-    /// before.
+    /// Exchanges the script: the board continues with this one, and `script` gets the one before.
     pub fn exchange_script(&mut self, script: &mut Script)
         requires { turns_of self.old < 2 ^ 32 }
         ensures holds { (x : Scenario) (s : State) → Holds shown x self.old s →
@@ -76,7 +75,7 @@ impl Board {
         self.due = self.script.next(self.turns);
     }
 
-    /// The time in ticks is so.
+    /// Sets the time in ticks.
     pub fn set_now(&mut self, v: u64)
         requires { v < 2 ^ 64 }
         ensures holds { (x : Scenario) (s : State) → Holds shown x self.old s →
@@ -87,7 +86,7 @@ impl Board {
         self.machine.space.kernel.set_now(v);
     }
 
-    /// The task with this index ran last.
+    /// Makes the task with this index the one that ran last.
     pub fn set_current(&mut self, v: usize)
         requires { v < count_of self.old }
         ensures holds { (x : Scenario) (s : State) → Holds shown x self.old s →
@@ -99,7 +98,7 @@ impl Board {
         self.choice = choice_of(&self.machine.space.kernel);
     }
 
-    /// The next call gets this number.
+    /// Sets the number of the next call.
     pub fn set_next_call(&mut self, v: u32)
         requires { v < 2 ^ 32 }
         ensures holds { (x : Scenario) (s : State) → Holds shown x self.old s →
@@ -110,7 +109,7 @@ impl Board {
         self.machine.space.kernel.set_next_call(v);
     }
 
-    /// An interrupt line is so; where there is none with this number, nothing changes.
+    /// Sets an interrupt line; nothing changes if there is none with this number.
     pub fn set_irq_line(&mut self, k: usize, enabled: bool, pending: bool)
         requires { k < 2 ^ 64 }
         ensures holds { (x : Scenario) (s : State) → Holds shown x self.old s →
@@ -125,8 +124,8 @@ impl Board {
             .set_line(k, Line { enabled, pending });
     }
 
-    /// A task is so, and waits so and for nothing else: it was born as often as its generation
-    /// says. The client of a call that it waits for is that birth of it.
+    /// Sets a task, with what it waits for and nothing else that it waits for. The number of its
+    /// birth becomes its generation. If it waits in a call, that birth is the call's client.
     pub fn set_task(&mut self, i: usize, v: &TaskView)
         requires there { i < count_of self.old }
         requires told { IsTold i (slot_told v.now) }
@@ -139,8 +138,8 @@ impl Board {
         self.choice = choice_of(&self.machine.space.kernel);
     }
 
-    /// The byte at an address of the flash or of the RAM is so. With another flash it is a board of
-    /// an image that has that one.
+    /// Sets the byte at an address of the flash or of the RAM. With another flash the board is one
+    /// of an image that has that flash.
     pub fn set_byte(&mut self, addr: u32, v: u8)
         requires { (x : Scenario) × (s : State) × Holds shown x self.old s
             × (is_held s.memory addr ≡ true) }
@@ -155,7 +154,7 @@ impl Board {
         self.machine.space.kernel.set_byte(addr, v);
     }
 
-    /// All bytes of the RAM are so.
+    /// Sets all bytes of the RAM.
     pub fn set_ram(&mut self, bytes: &[u8])
         requires { (x : Scenario) × (s : State) × Holds shown x self.old s
             × (length bytes.now ≡ length s.memory.ram) }
@@ -167,8 +166,8 @@ impl Board {
         self.machine.space.kernel.set_ram(bytes);
     }
 
-    /// So many bytes were stored to the k-th device, modulo 2^32, and these wait in it, the first
-    /// first.
+    /// Sets, for the k-th device, how many bytes were stored to it modulo 2^32, and the bytes that
+    /// wait in it, oldest first.
     pub fn set_device(&mut self, k: usize, count: u32, queue: &[u8])
         requires { (x : Scenario) × (s : State) × Holds shown x self.old s × (k < length s.devices)
             × IsSettable (device_at s.devices k).kind count queue.now }

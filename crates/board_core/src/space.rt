@@ -1,4 +1,4 @@
-//! What the current task reaches of the kernel's memory: the bus of its processor.
+//! The address space of the current task: the bus of its processor.
 ghost use Rattle.std.specs.Prelude.{◌≡◌, ◌+◌, ◌*◌, ◌≤◌, ◌<◌, ◌^◌, Option, Some, false, None};
 ghost use Rattle.region_check.specs.declared.Right.TheVariants.{Execute, Read};
 ghost use Rattle.kernel_abi.specs.Devices.{device_number};
@@ -20,14 +20,14 @@ use task_table::Kernel;
 use task_table::limits::TURN_NOTES;
 use thumb_exec::bus::Bus;
 
-/// The kernel and the devices, of which the current task reaches as much as its regions permit.
+/// The kernel and the devices. The current task reaches as much of them as its regions permit.
 #[derive(Drop)]
 pub struct AddressSpace {
     pub kernel: Kernel,
     pub devices: Devices,
 }
 
-/// Whether an address is one of those where devices lie, 0x40000000 to 0x5FFFFFFF.
+/// Whether an address is a device address: 0x40000000 to 0x5FFFFFFF.
 #[inline(always)]
 pub fn is_device(addr: u32) -> bool
     ensures { result ≡ is_device addr }
@@ -36,8 +36,8 @@ pub fn is_device(addr: u32) -> bool
 }
 
 impl AddressSpace {
-    /// What n bytes hold: those of the kernel's memory; where devices lie, what the device behind
-    /// them shows.
+    /// The value of n bytes: from the kernel's memory or, at a device address, what the device
+    /// behind it shows.
     #[inline(always)]
     fn number(&self, addr: u32, n: u32) -> u32
         requires { IsSize n }
@@ -50,7 +50,7 @@ impl AddressSpace {
         }
     }
 
-    /// The same of a halfword.
+    /// The same for a halfword.
     #[inline(always)]
     fn half(&self, addr: u32) -> u16
         ensures { result ≡ shown_by shown self.now addr 2 }
@@ -62,7 +62,7 @@ impl AddressSpace {
         }
     }
 
-    /// What the device behind an address shows by n bytes; 0 where there is none.
+    /// The n bytes that the device behind an address shows; 0 if there is no device.
     #[inline(never)]
     fn device_number(&self, addr: u32, n: u32) -> u32
         requires { IsSize n }
@@ -74,8 +74,8 @@ impl AddressSpace {
         }
     }
 
-    /// Writes the low n bytes of a value where they lie in the RAM; where devices lie, stores it to
-    /// the one behind the address; elsewhere a store changes nothing.
+    /// Writes the low n bytes of a value to the RAM, or stores the value to the device behind the
+    /// address. A store to any other address changes nothing.
     #[inline(always)]
     fn write(&mut self, addr: u32, n: u32, value: u32)
         requires { IsSize n }
@@ -89,8 +89,8 @@ impl AddressSpace {
         }
     }
 
-    /// Stores a value to the device behind an address. A byte that it gives out is noted, where
-    /// there is room.
+    /// Stores a value to the device behind an address. A byte that the device gives out is noted,
+    /// if there is room.
     #[inline(never)]
     fn give(&mut self, addr: u32, value: u32)
         ensures { IsGiven shown self.old addr value self.new }
@@ -101,7 +101,7 @@ impl AddressSpace {
         }
     }
 
-    /// A byte that a device gives out is noted, where there is room.
+    /// Notes a byte that a device gives out, if there is room.
     fn note_given(&mut self, given: Given)
         ensures noted { note_count self.old.kernel < turn_notes → (g : Setup) (t : Turn) →
             Holds g self.old.kernel t → Holds g self.new.kernel
@@ -118,7 +118,7 @@ impl AddressSpace {
         }
     }
 
-    /// The first of n bytes that lacks the right.
+    /// The first of n bytes for which the task lacks the right.
     #[inline(never)]
     fn lacks(&self, addr: u32, n: u32, right: Right) -> Option<u32>
         requires { addr + n ≤ 2 ^ 32 }

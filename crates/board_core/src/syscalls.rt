@@ -16,7 +16,7 @@ use lease_core::{borrow_info, borrow_read, borrow_write};
 use task_table::Kernel;
 use timer_irq::{get_timer, irq_control, irq_status, set_timer};
 
-/// RECV, of the best sender to the caller.
+/// RECV: the caller receives from its best sender.
 fn receive(k: &mut Kernel, caller: usize)
     requires { MayCall k.old caller }
     ensures { Performs (λ g c t. received g c (best_sender g t.state c) t) k.old caller k.new }
@@ -39,8 +39,8 @@ fn send_anywhere(k: &mut Kernel, caller: usize)
     }
 }
 
-/// A task makes the system call whose number is in its r11; a number that no system call has
-/// misuses the system calls that there are.
+/// Makes the system call whose number is in the task's r11. A number that no system call has is a
+/// misuse of system calls.
 pub fn syscall(k: &mut Kernel, caller: usize)
     requires may_call { MayCall k.old caller }
     requires number { next_call_of k.old + 1 < 2 ^ 32 }

@@ -23,9 +23,9 @@ use region_check::Region;
 use task_table::{Kernel, LineStart, Wait};
 use words_core::Flags;
 
-/// A task between turns: the generation is how often it was born again modulo 64, the timer its
-/// deadline in ticks and the bits that are posted then; the wait has every field of the task's open
-/// call or listen, with ids in the place of births.
+/// A task between turns. The generation is the number of its present birth modulo 64. The timer is
+/// its deadline in ticks and the bits that are posted then. The wait has every field of the task's
+/// open call or listen, with ids instead of births.
 #[derive(Clone, Copy, Debug, PartialEq, Eq)]
 pub struct TaskView {
     pub generation: u8,
@@ -38,8 +38,8 @@ pub struct TaskView {
 }
 
 impl Board {
-    /// Whether the run ends here, its bound aside: the supervisor has faulted, or no task is ready
-    /// and nothing more comes from outside.
+    /// Whether the run ends here: the supervisor has faulted, or no task is ready and nothing more
+    /// comes from outside. The bound on turns is not looked at.
     pub fn ended(&self) -> Option<End>
         requires { StandsForSome shown self.now }
         ensures end { (x : Scenario) (s : State) → Stands shown x self.now s → result ≡ end_at x s }
@@ -49,7 +49,7 @@ impl Board {
         end_by(self.choice.down, self.is_still())
     }
 
-    /// No task is chosen, and nothing more comes from outside.
+    /// Whether no task is chosen and nothing more comes from outside.
     fn is_still(&self) -> bool
         ensures { result ≡ (is_none self.now.choice.next && not
             (lasts (script_data self.now.script) self.now.turns)) }
@@ -57,8 +57,8 @@ impl Board {
         self.choice.next.is_none() && !self.script.lasts(self.turns)
     }
 
-    /// The next turn, from turn `from` on, in which something happens; None where nothing does
-    /// below turn 1,000,000,000.
+    /// The next turn, from turn `from` on, in which something happens; None if nothing does before
+    /// turn 1,000,000,000.
     pub fn next(&self, from: u32) -> Option<u32>
         ensures { (x : Scenario) (s : State) → Stands shown x self.now s →
             IsNext x.script from result }
@@ -66,7 +66,7 @@ impl Board {
         self.script.next(from)
     }
 
-    /// How many turns were made; the turn number of each state that the board stands for.
+    /// How many turns were made. This is the turn number of each state that the board stands for.
     pub fn turns(&self) -> u32
         ensures { result ≡ turns_of self.now }
     {
@@ -104,7 +104,7 @@ impl Board {
         self.machine.space.kernel.task_count()
     }
 
-    /// A task, or None past the last one.
+    /// A task; None past the last one.
     pub fn task(&self, i: usize) -> Option<TaskView>
         ensures there { IsSome result ↔ (i < count_of self.now) }
         ensures view { (x : Scenario) (s : State) → Stands shown x self.now s → IsView s i result }
@@ -141,7 +141,7 @@ impl Board {
         self.machine.space.kernel.read_ram(out);
     }
 
-    /// How an interrupt line is: enabled, pending. None past the last one.
+    /// Whether an interrupt line is enabled, and whether it is pending; None past the last one.
     pub fn irq_line(&self, k: usize) -> Option<(bool, bool)>
         ensures { (x : Scenario) (s : State) → Stands shown x self.now s →
             result ≡ option_map (λ l. (l.enabled, l.pending)) (slice_get s.lines k) }
@@ -160,7 +160,7 @@ impl Board {
         self.machine.space.kernel.owners()
     }
 
-    /// The regions of a task; none where there is no such task.
+    /// The regions of a task; none if there is no such task.
     pub fn regions(&self, i: usize) -> &[Region]
         ensures { (x : Scenario) (s : State) → Stands shown x self.now s →
             result.now ≡ (setup_at x.setup i).regions }
@@ -177,7 +177,8 @@ impl Board {
     }
 }
 
-/// The end by the tests in their order, the bound aside.
+/// How the run ends, by these tests in their order, if it does. The bound on turns is not looked
+/// at.
 fn end_by(down: bool, still: bool) -> Option<End>
     ensures { result ≡ end_in down still }
 {
@@ -190,7 +191,7 @@ fn end_by(down: bool, still: bool) -> Option<End>
     }
 }
 
-/// What a kernel has of a task.
+/// The view of a task that the kernel has.
 fn kept(kernel: &Kernel, i: usize) -> TaskView
     requires { i < task_count kernel.now }
     ensures { (g : Setup) (t : Turn) → KernelHolds g kernel.now t → IsTask t.state i result }
@@ -209,8 +210,8 @@ fn kept(kernel: &Kernel, i: usize) -> TaskView
     }
 }
 
-/// What a machine shows of a task: the registers and flags of the processor where it has its
-/// context.
+/// The view of a task that a machine has: with the registers and flags of the processor, if the
+/// processor has the task's context.
 fn view(machine: &Machine, i: usize) -> TaskView
     requires { i < task_count machine.now.space.kernel }
     ensures { (g : Setup) (t : Turn) → MachineHolds shown g machine.now t →

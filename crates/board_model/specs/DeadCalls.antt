@@ -22,12 +22,12 @@ use Rattle.board_model.specs.Script.{Scenario}
 use Rattle.board_model.specs.Turn.{refusals, held, after_events, turn}
 use Rattle.board_model.specs.Faults.{ChangesNothingElse}
 
--- a RECV of c is closed to a task
+-- a RECV of c is closed: it receives from one task only
 pub record IsClosedTo (s : State) (c : ℕ) : Type 0 where
   pub closed : (recv_args (arguments s c)).closed ≡ true
   pub task : sender s c ≢ 0xFFFF
 
--- in the turn after s task c is chosen, and the instruction that is fetched for it is the SVC of this system call
+-- task c is chosen in the turn after s, and the instruction that it fetches is the SVC of this system call
 pub record MakesCall (x : Scenario) (s : State) (c : ℕ) (call : Syscall) : Type 0 where
   pub chosen : chosen x.setup (after_events x s).state ≡ Some c
   pub immediate : ℕ
@@ -35,8 +35,9 @@ pub record MakesCall (x : Scenario) (s : State) (c : ℕ) (call : Syscall) : Typ
   pub svc : let u = (after_events x s).state in fetched (refusals x.setup c) (held u) (register u c program_counter) ≡ Ok record { insn = Svc immediate; code = code }
   pub calls : IsCalling call c (after_events x s)
 
--- u is s but that task c has these results from r4 on and is past its system call: every other task, the open calls, the
--- listens, the memory, the devices, the time, the lines and the number of the next call are as they were
+-- u is s, except that task c has these results from r4 on and is past its system call. Every other task, the
+-- open calls, the listens, the memory, the devices, the time, the lines and the number of the next call are
+-- as they were.
 pub record IsSameButForResults (c : ℕ) (values : List ℕ) (s u : State) : Type 0 where
   pub caller : task_at u c ≡ record (task_at s c) { registers = (task_at u c).registers }
   pub registers : (task_at u c).registers ≡ slice_set (with_results values (task_at s c).registers) program_counter ((register s c program_counter + 2) % 2 ^ 32)
@@ -49,13 +50,14 @@ pub record IsSameButForResults (c : ℕ) (values : List ℕ) (s u : State) : Typ
   pub lines : u.lines ≡ s.lines
   pub next_call : u.next_call ≡ s.next_call
 
--- the turn after s gives task c these results and changes nothing else; nothing was written, nor read for another task
+-- The turn after s gives task c these results and changes nothing else. Nothing was written, and nothing was
+-- read for another task.
 pub record OnlyAnswers (level : Level) (x : Scenario) (s : State) (c : ℕ) (values : List ℕ) : Type 0 where
   pub state : IsSameButForResults c values (after_events x s).state (turn level x s).state
   pub writes : (turn level x s).writes ≡ []
   pub reads : (turn level x s).reads ≡ []
 
--- the turn after s faults task c so, and changes nothing else
+-- the turn after s makes task c fault like this, and changes nothing else
 pub record OnlyFaults (level : Level) (x : Scenario) (s : State) (c : ℕ) (fault : Fault) : Type 0 where
   pub health : (task_at (turn level x s).state c).health ≡ Faulted fault
   pub nothing : ChangesNothingElse level x s c
@@ -64,9 +66,10 @@ pub record OnlyFaults (level : Level) (x : Scenario) (s : State) (c : ℕ) (faul
 abbrev pub old_id : State → ℕ → ℕ
 old_id s c = (id_args (arguments s c)).id.number
 
--- The turn after s of a task that names an earlier birth, by system call: SEND and a closed RECV that nothing before
--- decides, the borrows and POST are answered by the dead code with the present generation; REPLY, and REPLY_FAULT with a
--- reason that there is, by nothing, and REPLY_FAULT with another reason faults; REFRESH_TASK_ID gives the present id.
+-- The turn after s of a task that names an earlier birth, for each system call. SEND and a closed RECV, if no
+-- earlier row decides, the borrows and POST get the dead code with the present generation. REPLY, and
+-- REPLY_FAULT with a valid reason, get no answer. REPLY_FAULT with another reason faults. REFRESH_TASK_ID
+-- gives the present id.
 pub record IsDeadTurn (level : Level) (x : Scenario) (s : State) : Type 0 where
   pub send : (c : ℕ) → let u = (after_events x s).state in MakesCall x s c Send → IsDeadId u (recipient u c) → MaySend x.setup c u → OnlyAnswers level x s c (dead_code_for u (recipient u c) ∷ 0 ∷ [])
   pub recv : (c : ℕ) → let u = (after_events x s).state in MakesCall x s c Recv → IsDeadId u (sender u c) → MayReceiveFrom x.setup c u → OnlyAnswers level x s c (dead_code_for u (sender u c) ∷ 0 ∷ 0 ∷ 0 ∷ 0 ∷ 0 ∷ [])
@@ -77,11 +80,11 @@ pub record IsDeadTurn (level : Level) (x : Scenario) (s : State) : Type 0 where
   pub post : (c : ℕ) → let u = (after_events x s).state in MakesCall x s c Post → IsDeadId u (posted_to u c) → OnlyAnswers level x s c (dead_code_for u (posted_to u c) ∷ [])
   pub reply_fault : (c : ℕ) → let u = (after_events x s).state in MakesCall x s c ReplyFault → IsDeadId u (client u c) → reason u c ≤ last_reason → OnlyAnswers level x s c []
   pub no_reason : (c : ℕ) → let u = (after_events x s).state in MakesCall x s c ReplyFault → IsDeadId u (client u c) → last_reason < reason u c → OnlyFaults level x s c (usage_fault BadReason)
-  -- of a task that is there, in whatever birth
+  -- for a task that exists, whatever birth the id names
   pub refresh : (c : ℕ) → let u = (after_events x s).state in MakesCall x s c RefreshTaskId → is_out u (old_id u c) ≡ false → OnlyAnswers level x s c (present_id u (index_of (old_id u c)) ∷ [])
 
--- in the turn after s task c makes a system call that names an earlier birth of a task: a SEND to it, a RECV that is closed to it, a
--- REPLY or REPLY_FAULT to it, a borrow from it or a POST to it
+-- In the turn after s task c makes a system call that names an earlier birth of a task: a SEND to it, a
+-- closed RECV from it, a REPLY or REPLY_FAULT to it, a borrow from it or a POST to it.
 pub data NamesDead (x : Scenario) (s : State) (c : ℕ) : Type 0 where
   by_send : MakesCall x s c Send → is_to_kernel (after_events x s).state c ≡ false → IsDeadId (after_events x s).state (recipient (after_events x s).state c) → NamesDead x s c
   by_recv : MakesCall x s c Recv → IsClosedTo (after_events x s).state c → IsDeadId (after_events x s).state (sender (after_events x s).state c) → NamesDead x s c
@@ -92,7 +95,7 @@ pub data NamesDead (x : Scenario) (s : State) (c : ℕ) : Type 0 where
   by_info : MakesCall x s c BorrowInfo → IsDeadId (after_events x s).state (asked_lender (after_events x s).state c) → NamesDead x s c
   by_post : MakesCall x s c Post → IsDeadId (after_events x s).state (posted_to (after_events x s).state c) → NamesDead x s c
 
--- memory is after the turn as before it, and nothing was written
+-- memory is the same after the turn as before it, and nothing was written
 pub record TouchesNoMemory (level : Level) (x : Scenario) (s : State) : Type 0 where
   pub memory : (turn level x s).state.memory ≡ s.memory
   pub writes : (turn level x s).writes ≡ []

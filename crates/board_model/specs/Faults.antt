@@ -1,4 +1,4 @@
--- What the fault of a task changes: its own health, and task 0, to which it is posted; nothing else.
+-- What the fault of a task changes: the health of the task, and task 0, which gets a post; nothing else.
 use Rattle.std.specs.Prelude.{ℕ, ◌≡◌, ◌≢◌, true, List, [], Some, Contains}
 use Rattle.task_table.specs.model.State.{Setup, State, Read}
 use Rattle.task_table.specs.model.Reading.{task_at, is_faulted, chosen, IsIdle, IsSameAt}
@@ -9,9 +9,10 @@ use Rattle.board_model.specs.declared.outcomes.Level.{Level}
 use Rattle.board_model.specs.Script.{Scenario}
 use Rattle.board_model.specs.Turn.{after_events, turn}
 
--- u is s but for a fault of task c, which waits for nothing: of c the health alone changed, so it has all the registers
--- and flags that it had; the supervisor, unless it is c, was posted the fault bits; every other task with its call and
--- its listen, the memory, the devices, the time, the number of the next call and the lines are as they were
+-- u is s, except for a fault of task c, which waits for nothing. Of c only the health changed, so it has all
+-- its registers and flags as before. The supervisor, unless it is c, was posted the fault bits. Every other
+-- task with its call and its listen, the memory, the devices, the time, the number of the next call and the
+-- lines are as they were.
 pub record IsSameButForFault (g : Setup) (c : ℕ) (s u : State) : Type 0 where
   pub task : task_at u c ≡ record (task_at s c) { health = (task_at u c).health }
   pub idle : IsIdle u c
@@ -23,16 +24,17 @@ pub record IsSameButForFault (g : Setup) (c : ℕ) (s u : State) : Type 0 where
   pub next_call : u.next_call ≡ s.next_call
   pub lines : u.lines ≡ s.lines
 
--- task c is chosen in the turn after s, which leaves it faulted
+-- task c is chosen in the turn after s, and is faulted after that turn
 pub record IsFaulting (level : Level) (x : Scenario) (s : State) (c : ℕ) : Type 0 where
   pub chosen : chosen x.setup (after_events x s).state ≡ Some c
   pub faulted : is_faulted (task_at (turn level x s).state c).health ≡ true
 
--- each is an entry of a lease table, which is read before what the borrower asks of it is checked
+-- Each read is of an entry of a lease table. Such an entry is read before the borrower's request is checked.
 abbrev pub AreEntries : List Read → Type 0
 AreEntries reads = (r : Read) → Contains reads r → IsEntry r.part
 
--- but that task c faults, the turn after s changes nothing; nothing was written, nor read for another task but such entries
+-- The turn after s makes task c fault and changes nothing else. Nothing was written, and nothing was read for
+-- another task except such entries.
 pub record ChangesNothingElse (level : Level) (x : Scenario) (s : State) (c : ℕ) : Type 0 where
   pub state : IsSameButForFault x.setup c (after_events x s).state (turn level x s).state
   pub writes : (turn level x s).writes ≡ []

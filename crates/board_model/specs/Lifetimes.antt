@@ -22,23 +22,25 @@ use Rattle.board_model.specs.Run.{run, turn_after, state_after, notes_after}
 
 -- ## one turn
 
--- no byte moves through call k: none is written on its ground, none is read for it, and nobody takes it or borrows from it
+-- no byte moves through call k: none is written on its ground, none is read for it, and no task takes it or
+-- borrows from it
 pub record IsUnused (u : Turn) (k : ℕ) : Type 0 where
   pub silent : IsSilent u k
   pub unread : (r : Read) → Contains u.reads r → r.call ≢ k
   pub untouched : (n : Note) → Contains u.notes n → touched n ≢ Some k
 
--- devices after what comes from outside: a byte goes to its own
+-- the devices after an event from outside: a byte goes to its own device
 abbrev pub devices_after : List DeviceData → Event → List DeviceData
 devices_after devices Tick = devices
 devices_after devices (Irq line) = devices
 devices_after devices (Feed device byte) = devices_fed devices device (byte % 256)
 
--- of a turn from s: its writes in order take the memory to that after it; events write nothing, nor does a turn in which
--- no task is chosen; where c is chosen, each byte is written on a ground where c may, what is read of a lease and of its entry is as
--- memory grants it after the events, and no call is touched but one that is open after the events or that c offers in the turn; a
--- call that is closed stays closed, and no byte moves through it; events feed devices, then c changes them where it may reach
--- them, and no one else does
+-- A turn from s keeps to its grounds. Its writes, in order, turn the memory before it into the memory after
+-- it. Events write nothing, and neither does a turn in which no task is chosen. If c is chosen, each byte is
+-- written on a ground that c has. What is read of a lease and of its entry is what memory grants after the
+-- events. Only calls are touched that are open after the events or that c offers in the turn. A closed call
+-- stays closed, and no byte moves through it. Events feed devices; then only c changes them, and only where
+-- it may reach them.
 pub record IsGroundedTurn (level : Level) (x : Scenario) (s : State) : Type 0 where
   pub written : (turn level x s).state.memory ≡ with_writes s.memory (turn level x s).writes
   pub events : (after_events x s).writes ≡ []
@@ -51,9 +53,10 @@ pub record IsGroundedTurn (level : Level) (x : Scenario) (s : State) : Type 0 wh
   pub reached : (c : ℕ) → chosen x.setup (after_events x s).state ≡ Some c → AreReached x.setup c (after_events x s).state.devices (turn level x s).state.devices
   pub unreached : chosen x.setup (after_events x s).state ≡ None → (turn level x s).state.devices ≡ (after_events x s).state.devices
 
--- ## where a byte may change, whatever was written
+-- ## where a byte may change, whatever is written there
 
--- task c serves this call: it has taken it, and server and client are still of the births that they had when it was made
+-- task c serves this call: it has taken it, and both tasks are still of the births that they had when the
+-- call was made
 pub record Serves (s : State) (c : ℕ) (call : Call) : Type 0 where
   pub here : Contains s.calls call
   pub taken : call.phase ≡ Taken
@@ -61,9 +64,11 @@ pub record Serves (s : State) (c : ℕ) (call : Call) : Type 0 where
   pub server_birth : (task_at s c).births ≡ call.server.birth
   pub client_birth : (task_at s call.client.index).births ≡ call.client.birth
 
--- Task c may change the byte at this address in a turn that comes to u, from s after its events: a byte of its own regions; of the
--- buffer of a task that listens and takes the message that c sends in this turn; of the reply buffer of a call that c serves; or of
--- a lease of such a call that may be written, as memory has it. Each but the first is one that the task whose it is may write.
+-- Task c may change the byte at this address in a turn from s that comes to u. After the events of that turn
+-- the byte is in one of these places: a region of c's own; the buffer of a task that listens and takes the
+-- message that c sends in this turn; the reply buffer of a call that c serves; or a lease of such a call that
+-- may be written, as memory has it. In all cases but the first, the task whose buffer or lease it is may
+-- write the byte itself.
 pub data MayReach (g : Setup) (s : State) (c : ℕ) (u : Turn) (a : ℕ) : Type 0 where
   in_own : MayWrite g c a → MayReach g s c u a
   in_message : (l : Listen) (k copied : ℕ) → Contains s.listens l → Contains u.notes (note.Offer k c l.task) → Contains u.notes (note.Take k copied) → Lies l.buffer a → MayWrite g l.task a → MayReach g s c u a
@@ -76,7 +81,7 @@ pub record IsOnGround (level : Level) (x : Scenario) (s : State) (a : ℕ) : Typ
   pub chosen : chosen x.setup (after_events x s).state ≡ Some task
   pub may : MayReach x.setup (after_events x s).state task (turn level x s) a
 
--- each byte that the turn from s changes is one that the chosen task may
+-- each byte that the turn from s changes is one that the chosen task may change
 abbrev pub ChangesOnGrounds : Level → Scenario → State → Type 0
 ChangesOnGrounds level x s = (a : ℕ) → byte_at (turn level x s).state.memory a ≢ byte_at s.memory a → IsOnGround level x s a
 
@@ -90,11 +95,12 @@ notes_in notes = map (λ n. n.1) notes
 abbrev pub ClosesIn : Level → Scenario → ℕ → ℕ → Ending → Type 0
 ClosesIn level x n k ending = Contains (turn_after level x n (start_of x)).notes (note.Close k ending)
 
--- what the notes of a run from the start say of calls is so, and agrees with the calls that are open at its end
+-- what the notes of a run from the start say of calls is true, and agrees with the calls that are open at its
+-- end
 abbrev pub IsLedgerOfRun : Level → Scenario → ℕ → Type 0
 IsLedgerOfRun level x n = let r = run level x n (start_of x) in IsLedger (notes_in r.notes) r.last
 
--- a run of at most n turns from s is its first turns, one after the other
+-- a run of at most n turns from s consists of its first turns, one after the other
 pub record IsOfTurns (level : Level) (x : Scenario) (n : ℕ) (s : State) : Type 0 where
   pub turns : ℕ
   pub few : turns ≤ n

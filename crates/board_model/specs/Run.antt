@@ -1,4 +1,4 @@
--- A whole run: turns, with a test for the end before each.
+-- A whole run: turns, with a test before each whether the run ends.
 use Rattle.std.specs.Prelude.{ℕ, zero, suc, Bool, ◌&&◌, not, List, [], ◌++◌, map, Option, Some, None, ◌==◌, if◌then◌else◌, is_none}
 use Rattle.kernel_abi.specs.declared.Note.{Note}
 use Rattle.task_table.specs.model.State.{State, Turn}
@@ -18,18 +18,18 @@ is_down s = is_faulted (task_at s 0).health
 abbrev pub is_still : Scenario → State → Bool
 is_still x s = is_none (chosen x.setup s) && not (lasts x.script s.turn)
 
--- the tests before a turn, in their order, with so many turns left
+-- the tests before a turn in their order, with this many turns left
 abbrev pub end_by : Bool → ℕ → Bool → Option End
 end_by down left still = if down then Some Supervisor else (if left == 0 then Some Bound else (if still then Some Still else None))
 
 unfoldable pub ending : Scenario → ℕ → State → Option End
 ending x left s = end_by (is_down s) left (is_still x s)
 
--- the end by the tests in their order, the bound aside
+-- the end by the same tests, without the bound
 abbrev pub end_in : Bool → Bool → Option End
 end_in down still = if down then Some Supervisor else (if still then Some Still else None)
 
--- the end of a run at a state, its bound aside
+-- the end of a run at a state, without the bound
 abbrev pub end_at : Scenario → State → Option End
 end_at x s = end_in (is_down s) (is_still x s)
 
@@ -41,7 +41,7 @@ pub record Run : Type 0 where
 abbrev pub ended_at : State → End → Run
 ended_at s e = record { last = s; notes = []; end = e }
 
--- notes that stand before those of a run
+-- a run with these notes before its own
 abbrev pub with_front : List (ℕ × Note) → Run → Run
 with_front front r = record r { notes = front ++ r.notes }
 
@@ -67,7 +67,7 @@ unfoldable pub notes_after : Level → Scenario → ℕ → State → List Note
 notes_after level x zero s = []
 notes_after level x (suc n) s = notes_after level x n s ++ (turn_after level x n s).notes
 
--- the run from a state, with at most so many turns
+-- the run from a state, with at most this many turns
 unfoldable pub run : Level → Scenario → ℕ → State → Run
 run level x zero s = unless s (ending x 0 s) (ended_at s Bound)
 run level x (suc left) s =

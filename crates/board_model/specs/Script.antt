@@ -1,4 +1,5 @@
--- What a run is over: what the image fixes, the script of what happens from outside, and the devices that are handed in.
+-- What a run needs: what the image fixes, the script of what happens from outside, and the devices that are
+-- handed in.
 use Rattle.std.specs.Prelude.{List}
 use Rattle.kernel_abi.specs.Devices.{DeviceData}
 use Rattle.task_table.specs.model.State.{Setup, State}

@@ -35,20 +35,20 @@ use Rattle.board_model.specs.Script.{Scenario}
 abbrev pub may : Setup → ℕ → Right → ℕ → Bool
 may g c right a = may_use (setup_at g c).regions right a
 
--- the first of n bytes that lacks the right
+-- the first of n bytes for which the task lacks the right
 abbrev pub refusals : Setup → ℕ → Refusals
 refusals g c = first_lacking (may g c)
 
--- whether an address is one of those where devices lie
+-- whether an address is a device address
 abbrev pub is_device : ℕ → Bool
 is_device a = nat_le device_start a && nat_lt a device_end
 
--- what n bytes show where devices lie: what the device behind them shows; 0 where there is none
+-- the value of n bytes at a device address: what the device behind them shows; 0 if there is none
 abbrev pub or_zero : Option ℕ → ℕ
 or_zero None = 0
 or_zero (Some value) = value
 
--- what n bytes from an address on hold
+-- the value of n bytes from an address on
 abbrev pub held : State → Contents
 held s a n = if is_device a then or_zero (device_number s.devices a n) else number_at s.memory a n
 
@@ -57,14 +57,14 @@ cpu_of x = record { regs = record { words = x.registers }; flags = x.flags }
 
 -- ## what it does
 
--- a store in the RAM; one at an address where devices lie goes to the device behind it; elsewhere, and where there is none,
--- it changes nothing
+-- A store in the RAM. At a device address it goes to the device behind the address, if there is one. All
+-- other stores change nothing.
 abbrev pub put : Turn → Store → Turn
 put t x =
     if is_ram t.state.memory x.addr x.bytes then (t ⨾ stored Own x.addr (bytes_of x.value x.bytes))
     else (if is_device x.addr then (t ⨾ device_stored x.addr x.value) else t)
 
--- what was loaded from a device is taken
+-- a load takes what a device showed
 abbrev pub took : Turn → ℕ → Turn
 took t a = if is_device a then (t ⨾ device_taken a) else t
 
@@ -77,24 +77,24 @@ acted g c (Next cpu moves) t = fold moved t moves ⨾ with_processor c cpu.regs.
 acted g c Syscall t = t ⨾ syscall_noted c ⨾ syscall_made g c
 acted g c (Trap f) t = t ⨾ faulted g c f
 
--- the effect of an instruction for task c, as things stand
+-- the effect of an instruction for task c in the present state
 abbrev pub effect_of : Setup → ℕ → Insn → Turn → Effect
 effect_of g c insn t = effect (refusals g c) (held t.state) (cpu_of (task_at t.state c)) insn
 
 abbrev pub executed : Setup → ℕ → Insn → Turn → Turn
 executed g c insn t = t ⨾ acted g c (effect_of g c insn t)
 
--- what is noted with all instructions alone
+-- what is noted only if all instructions are
 abbrev pub noted_at : Level → Note → Turn → Turn
 noted_at Calls note t = t
 noted_at All note t = t ⨾ noted note
 
--- an instruction that was fetched is noted and executed; a fault of the fetch is the task's
+-- An instruction that was fetched is noted and executed. If the fetch faults, the task does.
 abbrev pub stepped_by : Level → Setup → ℕ → ℕ → Result Fetched Fault → Turn → Turn
 stepped_by level g c at (Ok f) t = t ⨾ noted_at level (note.Insn c at f.code) ⨾ executed g c f.insn
 stepped_by level g c at (Err fault) t = t ⨾ faulted g c fault
 
--- fetched, decoded, carried out
+-- an instruction is fetched, decoded and executed
 unfoldable pub stepped : Level → Setup → ℕ → Turn → Turn
 stepped level g c t =
     let at = register t.state c program_counter in
@@ -106,18 +106,18 @@ stepped level g c t =
 abbrev pub happened : Setup → Turn → Event → Turn
 happened g t Tick = ticked t
 happened g t (Irq line) = interrupted g line t
-happened g t (Feed device byte) = fed device (byte % 256) t  -- a byte: of any number its low eight bits
+happened g t (Feed device byte) = fed device (byte % 256) t  -- the byte: the low eight bits of the number
 
--- the next event, where there is one
+-- the next event, if there is one
 abbrev pub happened_next : Setup → Option Event → Turn → Turn
 happened_next g None t = t
 happened_next g (Some event) t = happened g t event
 
--- a turn after the events of it
+-- a turn after its events
 unfoldable pub after_events : Scenario → State → Turn
 after_events x s = fold (happened x.setup) (begun s) (events_of x.script s.turn)
 
--- a task is the current one from now on
+-- the turn with this task as the current one
 abbrev pub with_current : ℕ → Turn → Turn
 with_current c t = t ⨾ changed (λ s. record s { current = c })
 
@@ -132,7 +132,7 @@ unfoldable pub with_registers_noted : Level → ℕ → Turn → Turn
 with_registers_noted level c t =
     t ⨾ noted_at level (low_note (task_at t.state c)) ⨾ noted_at level (high_note (task_at t.state c))
 
--- the chosen task runs; where there is none, the turn is idle
+-- the chosen task runs; if there is none, the turn is idle
 abbrev pub turn_of : Level → Setup → Option ℕ → Turn → Turn
 turn_of level g None t = t ⨾ noted_at level note.Idle
 turn_of level g (Some c) t = t ⨾ with_current c ⨾ stepped level g c ⨾ with_registers_noted level c
@@ -140,13 +140,13 @@ turn_of level g (Some c) t = t ⨾ with_current c ⨾ stepped level g c ⨾ with
 unfoldable pub ended : Turn → Turn
 ended t = t ⨾ changed (λ s. record s { turn = s.turn + 1 })
 
--- the task is chosen after the events
+-- the whole turn; the task is chosen after the events
 unfoldable pub turn : Level → Scenario → State → Turn
 turn level x s =
     let t = after_events x s in
     t ⨾ turn_of level x.setup (chosen x.setup t.state) ⨾ ended
 
--- what is noted of a turn: the chosen task and its PC before
+-- what a turn did: the chosen task, and its PC before
 abbrev pub turned_of : State → Option ℕ → Turned
 turned_of s None = Idle
 turned_of s (Some c) = Ran c (register s c program_counter)

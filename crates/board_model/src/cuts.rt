@@ -1,8 +1,9 @@
-//! Laws of a run that is cut at a turn and goes on from there. Nothing runs here.
+//! Laws about a run that is cut at a turn and goes on from there. Nothing runs here.
 //!
-//! - The two parts are the whole run, and have the same notes and the same end where births are
-//!   kept modulo 64 at the cut (`runs_go_on_from_a_cut`).
-//! - What is seen at a cut rests on births modulo 64 too (`generations_decide_what_is_seen`).
+//! - The two parts are the whole run. They have the same notes and the same end if births are kept
+//!   modulo 64 at the cut (`runs_go_on_from_a_cut`).
+//! - What is seen at a cut depends on births only modulo 64 too
+//!   (`generations_decide_what_is_seen`).
 
 ghost use Rattle.std.specs.Prelude.{◌≡◌, ◌≤◌, ◌+◌, ℕ};
 ghost use Rattle.task_table.specs.model.State.{State};
@@ -14,12 +15,12 @@ ghost use Rattle.board_model.specs.Run.{run, with_front, ending};
 ghost use Rattle.board_model.specs.Alike.{reduced};
 ghost use Rattle.board_model.specs.Cut.{cut_at, from_turn, left_of, rest_from, IsCutWithin};
 
-/// A run of at most n turns, and then from its last state the turns that are left of m, is the run
-/// of at most m turns: its notes, its end and its last state. What comes after the cut is the run
-/// without what was noted before it, at whatever level that was noted; and it has the same notes
-/// and the same end from the cut's state with its births modulo 64 (as `generations_decide` says of
-/// each state), and the same last state with births modulo 64. The run to the cut comes to each
-/// turn before it, with a bound of just so many turns.
+/// A run of at most n turns, followed from its last state by the turns that are left of m, is the
+/// run of at most m turns: the same notes, end and last state. What comes after the cut is the run
+/// without what was noted before it, whatever the level before the cut. From the cut's state with
+/// its births modulo 64 there are the same notes and the same end (as `generations_decide` says of
+/// each state), and the same last state with births modulo 64. The run to the cut reaches each turn
+/// before it, with a bound of exactly that many turns.
 pub fn runs_go_on_from_a_cut()
     ensures whole { (level : NoteLevel) (x : Scenario) (n m : ℕ) (s : State) → Sane x.setup s →
         IsCutWithin level x n m s →
@@ -47,8 +48,8 @@ pub fn runs_go_on_from_a_cut()
         s.turn + k ≤ (cut_at level x n s).turn → (cut_at level x k s).turn ≡ s.turn + k }
 {}
 
-/// What is seen of a state between turns rests on its births modulo 64: whether and why a run ends
-/// there, which task its turn runs, and at which PC.
+/// What is seen of a state between turns depends on births only modulo 64: whether and why a run
+/// ends there, which task its turn runs, and at which PC.
 pub fn generations_decide_what_is_seen()
     ensures end { (x : Scenario) (left : ℕ) (s : State) →
         ending x left (reduced s) ≡ ending x left s }

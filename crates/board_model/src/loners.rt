@@ -1,12 +1,13 @@
-//! Laws of tasks that share nothing. Nothing runs here.
+//! Laws about tasks that share nothing. Nothing runs here.
 //!
-//! - A turn that is not its own, and the events of any turn, leave what a task has for itself as
-//!   it was, where it waits for nothing, unless the supervisor restarts it or makes it fault
-//!   (`others_leave_loners_alone`).
-//! - Its own turn goes by what it has for itself alone (`loners_decide_their_own_turns`).
-//! - So what a loner comes to by itself is the same in any two runs (`loners_go_their_own_way`),
-//!   from a birth on, and each birth begins alike (`births_begin_alike`).
-//! - Who is alone, as regions are compared, is one of these (`who_is_alone_is_a_loner`).
+//! - A turn that is not a task's own, and the events of any turn, leave what the task has for
+//!   itself as it was, if it waits for nothing and the supervisor neither restarts it nor makes it
+//!   fault (`others_leave_loners_alone`).
+//! - A loner's own turn depends only on what the loner has for itself
+//!   (`loners_decide_their_own_turns`).
+//! - So what a loner reaches by itself from a birth is the same in any two runs
+//!   (`loners_go_their_own_way`), and each birth begins alike (`births_begin_alike`).
+//! - A task that is alone by the comparison of regions is a loner (`who_is_alone_is_a_loner`).
 
 ghost use Rattle.std.specs.Prelude.{◌≢◌, ◌<◌, ℕ, suc, length};
 ghost use Rattle.task_table.specs.model.State.{Setup, State};
@@ -20,10 +21,10 @@ ghost use Rattle.board_model.specs.Run.{state_after};
 ghost use Rattle.board_model.specs.Loners.{IsAlone, IsLoner, HaveSameOwn, IsUntouched, IsAtBirth};
 ghost use Rattle.board_model.specs.LonerTurns.{IsRestart, LeavesLoners, LonersDecide, LiveAsLong, LivesAlone, AreBornAlike};
 
-/// What others do leaves a loner alone. A task that waits for nothing has after a turn that is not
-/// its own the births, registers, flags and health that it had, and waits for nothing, unless the
-/// supervisor restarted it or made it fault in that turn; and the events of a turn, whosever it is,
-/// do not even that. The bytes of a loner stay in any case.
+/// What others do leaves a loner as it is. A task that waits for nothing keeps its births,
+/// registers, flags and health in a turn that is not its own, and still waits for nothing, unless
+/// the supervisor restarted it or made it fault in that turn. The events of a turn cannot do even
+/// that, whichever task's turn it is. The bytes of a loner stay in any case.
 pub fn others_leave_loners_alone()
     ensures events { (x : Scenario) (s : State) (i : ℕ) → IsIdle s i →
         IsUntouched s i (after_events x s).state }
@@ -31,19 +32,19 @@ pub fn others_leave_loners_alone()
         LeavesLoners level x s }
 {}
 
-/// A loner's own turn goes by its registers, its flags and the bytes of its regions alone, where it
-/// makes no system call but PANIC: a loner of the same regions, in whatever order and in whatever
-/// other state of whatever other image, has the same after its own turn.
+/// A loner's own turn depends only on its registers, its flags and the bytes of its regions, if it
+/// makes no system call except PANIC. A loner with the same of these, with its regions in any
+/// order, in any other state of any other image, has the same after its own turn.
 pub fn loners_decide_their_own_turns()
     ensures { (level : NoteLevel) (x : Scenario) (s : State) → Sane x.setup s →
         LonersDecide level x s }
 {}
 
-/// A loner goes its own way. Two loners that the images make alike, at births with the same bytes
-/// in their regions, have the same registers, flags, health and bytes after as many own turns of
-/// these births, of which there was one at least, whatever the other tasks, the priorities and the
-/// scripts are and whenever these turns fall: as long as neither makes a system call but PANIC, nor
-/// is made to fault by the supervisor.
+/// A loner goes its own way. Take two loners that the images make alike, at births with the same
+/// bytes in their regions. After the same number of own turns of these births, at least one, they
+/// have the same registers, flags, health and bytes. The other tasks, the priorities, the scripts
+/// and when these turns come do not matter. This holds as long as neither loner makes a system call
+/// except PANIC, and the supervisor does not make either fault.
 pub fn loners_go_their_own_way()
     ensures runs { (level other : NoteLevel) (x y : Scenario) (i j n m : ℕ) (s u : State) →
         AreBornAlike x y i j s u → LiveAsLong level other x y i j s u n m →
@@ -53,9 +54,9 @@ pub fn loners_go_their_own_way()
         LivesAlone other y j u (suc k) v → HaveSameOwn x.setup i j z v }
 {}
 
-/// A birth begins with the registers and flags that the image gives it, and waits for nothing: the
-/// first one at the start of a run, each other one after the turn in which a task restarted it and
-/// went on; and a turn that changes how often a task was born is such a turn.
+/// A birth begins with the registers and flags that the image gives it, and waits for nothing. The
+/// first birth begins at the start of a run, each other one after the turn in which a task
+/// restarted it and went on. Each turn that changes a task's number of births is such a turn.
 pub fn births_begin_alike()
     ensures first { (g : Setup) (i : ℕ) → i < length g.tasks → IsAtBirth g i (start g) }
     ensures later { (level : NoteLevel) (x : Scenario) (s : State) (c i : ℕ) →
@@ -65,8 +66,8 @@ pub fn births_begin_alike()
         IsAtBirth x.setup i (turn level x s).state }
 {}
 
-/// A task that is alone among the others, and has no device, is a loner, where any two regions are
-/// at the same place or have no byte in common, as in every image.
+/// A task that is alone by the comparison of regions, and has no device, is a loner if any two
+/// regions are at the same place or share no byte, as in every image.
 pub fn who_is_alone_is_a_loner()
     ensures { (g : Setup) (i : ℕ) → IsAlone g i → IsLoner g i }
 {}

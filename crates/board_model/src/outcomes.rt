@@ -1,4 +1,4 @@
-//! How much of a run is noted, and what is noted of its turns and its end.
+//! How much of a run is noted, and what its turns and its end are.
 
 /// How much of a run is noted: what system calls, events and faults did; or all instructions too,
 /// with the registers after each.
@@ -16,7 +16,7 @@ pub enum End {
     Supervisor,
 }
 
-/// What a turn did: nothing, or one instruction of a task, whose PC was at `at`.
+/// What a turn did: nothing, or one instruction of a task whose PC was at `at`.
 #[derive(Clone, Copy, Debug, PartialEq, Eq)]
 pub enum Turned {
     Idle,

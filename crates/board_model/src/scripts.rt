@@ -1,4 +1,4 @@
-//! Laws of runs whose scripts differ. Nothing runs here.
+//! Laws about runs with different scripts. Nothing runs here.
 
 ghost use Rattle.std.specs.Prelude.{◌≡◌, ◌≤◌, ◌+◌, ℕ, true, List};
 ghost use Rattle.run_script.specs.Scripts.{Listed, ScriptData};
@@ -12,17 +12,17 @@ ghost use Rattle.board_model.specs.Cut.{cut_at, left_of};
 ghost use Rattle.board_model.specs.Laid.{with_script, arriving, is_over};
 ghost use Rattle.board_model.specs.SameScripts.{AgreeFor, EndAlike};
 
-/// A run goes by what happens in each of its turns, and by whether its script lasts there, and by
-/// nothing else of its script.
+/// Of its script, a run depends only on what happens in each of its turns, and on whether the
+/// script lasts there.
 pub fn what_happens_decides()
     ensures { (level : NoteLevel) (x : Scenario) (other : ScriptData) (n : ℕ) (s : State) →
         Sane x.setup s → AgreeFor x.script other s.turn n →
         run level (with_script x other) n s ≡ run level x n s }
 {}
 
-/// Where an arrival has not come as yet, its time decides nothing: up to there the runs of two
-/// arrival times are one. Where it is over, it decides nothing any more: from there on the run is
-/// that without it.
+/// Before an arrival comes, its time does not matter: up to there the runs of two arrival times are
+/// the same. After it is over, it does not matter any more: from there on the run is the one
+/// without it.
 pub fn arrivals_decide_nothing_before_and_after()
     ensures before { (level : NoteLevel) (x : Scenario) (arrival : List Listed) (time later n : ℕ)
         (s : State) → Sane x.setup s → s.turn + n ≤ time → s.turn + n ≤ later →
@@ -32,8 +32,8 @@ pub fn arrivals_decide_nothing_before_and_after()
         run level (arriving x arrival time) n s ≡ run level x n s }
 {}
 
-/// The run of an arrival time is that of another one up to any turn before both, and then its own
-/// from there. Births are kept modulo 64 there, as `runs_go_on_from_a_cut` says of each run.
+/// The run of one arrival time is that of another up to any turn before both, and its own from
+/// there. Births are kept modulo 64 there, as `runs_go_on_from_a_cut` says of each run.
 pub fn an_arrival_goes_on_from_before_it()
     ensures { (level : NoteLevel) (x : Scenario) (arrival : List Listed) (time later m n : ℕ)
         (s : State) → Sane x.setup s → m ≤ n → s.turn + m ≤ time → s.turn + m ≤ later →
@@ -43,8 +43,9 @@ pub fn an_arrival_goes_on_from_before_it()
         (run level (arriving x arrival time) (left_of n s c) c) }
 {}
 
-/// Runs of two arrival times that meet end alike: from states that are equal with births modulo 64,
-/// where neither arrival has anything to come, they have the same notes and the same end.
+/// Runs of two arrival times that meet end in the same way. If two states are equal with births
+/// modulo 64, and neither arrival has any more events to come, the runs from them have the same
+/// notes and the same end.
 pub fn arrivals_that_meet_end_alike()
     ensures { (level : NoteLevel) (x : Scenario) (arrival : List Listed) (time other n : ℕ)
         (s u : State) → Sane x.setup s → Sane x.setup u → reduced s ≡ reduced u →

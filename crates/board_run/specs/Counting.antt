@@ -20,15 +20,15 @@ count_at c Close = c.close
 count_at c Fault = c.fault
 count_at c Restart = c.restart
 
--- the count rose by so many, where 64 bits hold it
+-- the count grew by this number, if 64 bits can hold the sum
 abbrev pub Grew : ℕ → ℕ → ℕ → Type 0
 Grew before by now = before + by < 2 ^ 64 → now ≡ before + by
 
--- each count rose by the notes of its kind
+-- each count grew by the number of notes of its kind
 abbrev pub HaveGrown : Counts → List (ℕ × Note) → Counts → Type 0
 HaveGrown before notes now = (kind : CountedKind) → Grew (count_at before kind) (count_of notes kind) (count_at now kind)
 
--- a note more: the count of its kind rises by one, and at most to its type's end
+-- one more note: the count of its kind grows by one, but not past the end of its type
 abbrev pub counted : Counts → Note → Counts
 counted c (note.Tick _) = record c { tick = raised c.tick 1 }
 counted c (note.Irq _ _) = record c { irq = raised c.irq 1 }

@@ -1,4 +1,4 @@
--- How many notes of each kind a run tells, and the two lines that say so.
+-- How many notes of each kind a run has, and the two lines that say so.
 use Rattle.std.specs.Prelude.{ℕ, Bool, true, false, List, ◌++◌, codes, decimal, count_by}
 use Rattle.kernel_abi.specs.declared.Note.{Note}
 use Rattle.kernel_abi.specs.declared.Note.TheVariants as note

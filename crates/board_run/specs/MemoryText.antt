@@ -10,7 +10,7 @@ use Rattle.thumb_insn.specs.Text.{hex_digit}
 
 -- ## sixteen bytes
 
--- the byte at an address, where there is one
+-- the byte at an address; 0 if there is none
 abbrev pub byte_of : Memory → ℕ → ℕ
 byte_of m a = unwrap_or (byte_at m a) 0
 
@@ -28,7 +28,7 @@ bytes_hex m a n = flat_map (hex_at m a) (range_with_len 0 n)
 abbrev pub is_zero : Memory → ℕ → ℕ → Bool
 is_zero m a k = byte_of m (a + k) == 0
 
--- the first n bytes from an address on are zeros
+-- the first n bytes from an address on are zero
 unfoldable pub are_zeros : Memory → ℕ → ℕ → Bool
 are_zeros m a n = list_all (is_zero m a) (range_with_len 0 n)
 
@@ -46,7 +46,7 @@ row_text m a = if are_zeros m a 16 then [] else row_line m a
 unfoldable pub region_line : Region → List ℕ
 region_line r = codes "mem " ++ hex r.base ++ codes " " ++ decimal r.size ++ codes "\n"
 
--- so many rows from a base on
+-- this many rows from a base on
 abbrev pub row_at : Memory → ℕ → ℕ → List ℕ
 row_at m base k = row_text m (base + 16 * k)
 
@@ -68,11 +68,11 @@ begins_at base r = r.base == base
 abbrev pub regions_of : Setup → List Region
 regions_of g = flat_map (λ t. t.regions) g.tasks
 
--- the region that begins at an address: where several tasks have it, it is one region
+-- the region that begins at an address; if several tasks have it, it is one region
 unfoldable pub region_at : Setup → ℕ → Option Region
 region_at g base = find (begins_at base) (regions_of g)
 
--- of the k-th place in RAM at which a region may begin
+-- the text for the k-th place in RAM at which a region may begin
 abbrev pub place_text : Setup → Memory → ℕ → List ℕ
 place_text g m k = option_map_or (region_text m) (region_at g (0x20000000 + 256 * k)) []
 

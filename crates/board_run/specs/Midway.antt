@@ -1,4 +1,5 @@
--- Midway in a run: the notes so far were told, and a run that goes on from here is that of a state for which the board stands.
+-- In the middle of a run. The notes so far were told, and the run goes on from a state for which the board
+-- stands.
 use Rattle.std.specs.Prelude.{◌≡◌, ◌≤◌, ℕ, ◌+◌, ◌-◌, ◌*◌, List, length}
 use Rattle.kernel_abi.specs.declared.Note.{Note}
 use Rattle.task_table.specs.kept.Limits.{turn_notes}

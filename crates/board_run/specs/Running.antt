@@ -14,7 +14,7 @@ use Rattle.board_model.specs.Run.{run}
 use Rattle.board_run.specs.Text.{end_text}
 use Rattle.trace_text.specs.Lines.{notes_text}
 
--- with so many turns left, where without a bound it would end so
+-- how a run ends with this many turns left, if this is how it would end without a bound
 abbrev pub end_within : Option End → ℕ → Option End
 end_within (Some Supervisor) left = Some Supervisor
 end_within (Some Bound) left = if left == 0 then Some Bound else Some Bound
@@ -29,8 +29,8 @@ StandsMidway shown level x b s = Stands shown x b (run level x (turns_of b - s.t
 abbrev pub turn_lines : Level → Scenario → ℕ → State → List ℕ
 turn_lines level x n s = notes_text (run level x n s).notes
 
--- a run of at most so many turns that is broken off: pushed are at least the lines of all turns that were made but the
--- last one, and at most the lines of that one too, and those of the end after it
+-- A run of at most this many turns was broken off. At least the lines of all turns but the last one that was
+-- made were pushed. At most the lines of that turn were pushed too, and those of the end after it.
 pub record BreaksOff {X : Type 0} {H : X → Type 0} (level : Level) (x : Scenario) (limit : ℕ) (w w' : Option (List ℕ)) (s : State) (b : Board X H) : Type 0 where
   pub front : List ℕ
   pub pushed : Appends w w' front

@@ -1,4 +1,4 @@
--- What a run tells to what listens, and how far where that fails.
+-- What a run tells its observer, and how much of it if that fails.
 use Rattle.std.specs.Prelude.{◌≡◌, ℕ, ◌-◌, ◌<◌, ◌≤◌, List, ◌++◌, Option}
 use Rattle.std.specs.Io.KnownBytes.{Appends}
 use Rattle.outside_io.specs.Outside.{AppendsFront, Rose}
@@ -16,10 +16,10 @@ use Rattle.trace_text.specs.Lines.{notes_text}
 abbrev pub notes_in : Level → Scenario → ℕ → State → List (ℕ × Note)
 notes_in level x n s = (run level x n s).notes
 
--- a run that is broken off as its last turn is told: all notes of the turns before were told, and the telling of that
--- one's failed from there
+-- A run was broken off while its last turn was told. All notes of the earlier turns were told, and telling
+-- those of the last one failed.
 pub record BreaksTelling {T : Type 0} {X : Type 0} {H : X → Type 0} (heard broke : T → List (ℕ × Note) → T → Type 0) (level : Level) (x : Scenario) (t t' : T) (s : State) (b : Board X H) : Type 0 where
-  pub between : T  -- the teller after the turns before
+  pub between : T  -- the observer after the earlier turns
   pub last : List (ℕ × Note)  -- the notes of the last turn
   pub made : s.turn < turns_of b
   pub is_last : notes_in level x (turns_of b - s.turn) s ≡ notes_in level x (turns_of b - s.turn - 1) s ++ last
@@ -34,7 +34,7 @@ pub record HearsText (w w' : Option (List ℕ)) (f f' : ℕ) (notes : List (ℕ 
   pub later : f ≤ f'
   pub fit : AreFit notes
 
--- a front of them was, and the failure was counted
+-- a front of these lines was appended, and the failure was counted
 pub record BreaksText (w w' : Option (List ℕ)) (f f' : ℕ) (notes : List (ℕ × Note)) : Type 0 where
   pub pushed : AppendsFront w w' (notes_text notes)
   pub later : f ≤ f'

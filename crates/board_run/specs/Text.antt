@@ -25,7 +25,7 @@ wait_text (Some call) listen = call_text call.phase call.number
 wait_text None (Some listen) = codes "listen"
 wait_text None None = codes "-"
 
--- its registers and flags
+-- the task's registers and flags
 abbrev pub low_text : List ℕ → List ℕ
 low_text registers = low_words (take 8 registers)
 

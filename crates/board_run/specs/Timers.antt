@@ -4,7 +4,7 @@ use Rattle.task_table.specs.model.State.{State}
 use Rattle.task_table.specs.model.Reading.{task_at}
 use Rattle.trace_text.specs.Fit.{IsFitTimer}
 
--- those of the first n tasks
+-- the timers of the first n tasks
 abbrev pub AreFitTimers : State → ℕ → Type 0
 AreFitTimers s n = (i : ℕ) → i < n → IsFitTimer (task_at s i).timer
 

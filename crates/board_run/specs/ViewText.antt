@@ -1,4 +1,4 @@
--- The text of a task as a board tells it.
+-- The text of a task, from a board's view of it.
 use Rattle.std.specs.Prelude.{ℕ, List, ◌++◌, Option, codes}
 use Rattle.std.specs.Option.{option_map}
 use Rattle.kernel_abi.specs.declared.Timer.{Timer}
@@ -8,13 +8,13 @@ use Rattle.board_core.specs.declared.views.TaskView.{TaskView}
 use Rattle.board_run.specs.Text.{call_text, low_text, high_text}
 use Rattle.trace_text.specs.Lines.{task_line}
 
--- what it waits for
+-- what the task waits for
 abbrev pub wait_words : Wait → List ℕ
 wait_words wait.Nothing = codes "-"
 wait_words (wait.Call call) = call_text call.phase call.number
 wait_words (wait.Listen listening) = codes "listen"
 
--- a timer, told by its deadline and its bits
+-- the timer with this deadline and these bits
 abbrev pub timer_of : Option (ℕ × ℕ) → Option Timer
 timer_of timer = option_map (λ x. record { deadline = x.0; bits = x.1 }) timer
 

@@ -1,4 +1,4 @@
-//! How many notes of each kind a run tells.
+//! How many notes of each kind a run has.
 ghost use Rattle.std.specs.Prelude.{◌≡◌};
 ghost use Rattle.board_model.specs.Run.{at_turn};
 ghost use Rattle.board_run.specs.Counts.{CountedKind};
@@ -27,7 +27,7 @@ pub struct Counts {
 }
 
 impl Counts {
-    /// Nothing was told yet.
+    /// No notes were told yet.
     pub fn new() -> Counts
         ensures { (kind : CountedKind) → count_at result kind ≡ 0 }
     {
@@ -47,7 +47,7 @@ impl Counts {
         }
     }
 
-    // One note more.
+    // Counts one more note.
     fn count(&mut self, note: &Note)
         ensures { self.new ≡ counted self.old note.now }
     {
@@ -64,14 +64,14 @@ impl Counts {
             Note::Close { .. } => self.close = self.close.saturating_add(1),
             Note::Fault { .. } => self.fault = self.fault.saturating_add(1),
             Note::Restart { .. } => self.restart = self.restart.saturating_add(1),
-            // of no kind that is counted
+            // of a kind that is not counted
             Note::In { .. } | Note::Out { .. } => {}
             Note::IrqStatus { .. } | Note::Find { .. } => {}
             Note::Insn { .. } | Note::Idle | Note::Low { .. } | Note::High { .. } => {}
         }
     }
 
-    // The notes of a turn.
+    // Counts the notes of a turn.
     fn count_all(&mut self, turn: u32, notes: &[Note])
         ensures { HaveGrown self.old (at_turn turn notes.now) self.new }
     {

@@ -1,4 +1,4 @@
-//! Laws of the text of a run's last state and memory. Nothing runs here.
+//! Laws about the text of a run's last state and memory. Nothing runs here.
 
 ghost use Rattle.std.specs.Prelude.{◌≡◌, ℕ, List};
 ghost use Rattle.std.specs.List.{flat_map};
@@ -17,20 +17,20 @@ ghost use Rattle.board_run.specs.MemoryText.{memory_text, region_text};
 ghost use Rattle.board_run.specs.Regions.{HasRamRegions, ListsRam};
 ghost use Rattle.board_run.specs.Text.{end_text, trace_text};
 
-/// The memory text of a state tells each region of RAM once, by ascending base (docs/FORMATS.md,
-/// Memories): it is the texts of the regions of a list, the same for every state, which has all of
-/// them. Said of setups whose regions in RAM begin at multiples of 256, where two that begin alike
-/// are as long; the setup of every image is one.
+/// The memory text of a state has each region of RAM once, by ascending base (docs/FORMATS.md,
+/// Memories). It consists of the texts of the regions in a list, which has all of them and is the
+/// same for every state. The law is about setups in which regions in RAM begin at multiples of 256,
+/// and two that begin at the same address have the same size. The setup of every image is one.
 pub fn memories_have_each_region_once()
     ensures images { (p : ImageData) → Facts p → HasRamRegions (setup_of_image p) }
     ensures once { (g : Setup) → HasRamRegions g → (rs : List Region) × ListsRam g rs
         × ((s : State) → memory_text g s ≡ flat_map (region_text s.memory) rs) }
 {}
 
-/// What is told of a state at the end of a run rests on its births modulo 64: a task's lines tell
-/// its generation, and of what it waits for no birth; the lines of memory tell none. So the runs
-/// from a sane state and from the same with its births modulo 64 have one text, and their memories
-/// too. (docs/FORMATS.md, Trace and Memories.)
+/// The text of a state at the end of a run depends on births only modulo 64. A task's lines have
+/// its generation, and no birth of what it waits for; the lines of memory have no births. So the
+/// runs from a sane state and from the same state with its births modulo 64 have the same text, and
+/// the same text of their memories. (docs/FORMATS.md, Trace and Memories.)
 pub fn generations_decide_what_is_told()
     ensures end { (end : Ending) (s : State) → end_text end (reduced s) ≡ end_text end s }
     ensures memory { (g : Setup) (s : State) → memory_text g (reduced s) ≡ memory_text g s }

@@ -1,5 +1,5 @@
-//! Lines of the last state (docs/FORMATS.md, Trace and Memories), each built in a buffer of 160
-//! bytes that is empty before.
+//! Lines of the last state (docs/FORMATS.md, Trace and Memories). Each is built in a buffer of 160
+//! bytes, which is empty before.
 ghost use Rattle.std.specs.Prelude.{◌≡◌, ◌≤◌, ◌+◌, length, ◌++◌, []};
 ghost use Rattle.arrayvec.specs.ArrayString.{array_string_len};
 ghost use Rattle.trace_text.specs.Fit.{IsFitTimer};

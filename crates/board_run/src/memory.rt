@@ -16,7 +16,7 @@ use outside_io::{Failed, Sink};
 use region_check::Region;
 use trace_text::push_hex;
 
-/// Those that begin at an address.
+/// The regions that begin at an address.
 #[derive(Drop)]
 struct BeginsAt {
     base: u32,
@@ -30,7 +30,7 @@ impl RegionTest for BeginsAt {
     }
 }
 
-/// The region that begins at an address, of whatever task.
+/// The region that begins at an address, whichever task has it.
 #[tactic(auto, unfolding(crate::specs::MemoryText::region_at))]
 fn region_at(board: &Board, base: u32) -> Option<Region>
     ensures base { IfSome result (λ r. r.base ≡ base) }
@@ -40,7 +40,7 @@ fn region_at(board: &Board, base: u32) -> Option<Region>
     first_region(board, &BeginsAt { base })
 }
 
-/// The byte at an address; 0 where there is none.
+/// The byte at an address; 0 if there is none.
 pub fn byte_at(board: &Board, addr: u32) -> u8
     ensures { (x : Scenario) (s : State) → Stands (boxed shown) x board.now s →
         result ≡ byte_of s.memory addr }
@@ -87,7 +87,7 @@ fn row_line(board: &Board, addr: u32, line: &mut Line)
     line.push_str("\n");
 }
 
-/// The line of sixteen bytes, where one of them is not zero.
+/// Pushes the line of sixteen bytes, if one of them is not zero.
 fn push_row<S: Sink>(board: &Board, addr: u32, out: &mut S) -> Result<(), Failed>
     requires inside { addr + 16 ≤ 2 ^ 32 }
     ensures bytes { (x : Scenario) (s : State) → Stands (boxed shown) x board.now s →
@@ -132,7 +132,7 @@ fn row_count(region: &Region) -> u32
     region.size.min(262_144) / 16
 }
 
-/// The lines of a region.
+/// Pushes the lines of a region.
 fn push_region<S: Sink>(board: &Board, region: &Region, out: &mut S) -> Result<(), Failed>
     requires inside { region.now.base + 262144 ≤ 2 ^ 32 }
     ensures bytes { (x : Scenario) (s : State) → Stands (boxed shown) x board.now s →
@@ -144,7 +144,7 @@ fn push_region<S: Sink>(board: &Board, region: &Region, out: &mut S) -> Result<(
     push_rows(board, region.base, row_count(region), out)
 }
 
-/// The lines of the region that begins at the k-th place of RAM, if one does.
+/// Pushes the lines of the region that begins at the k-th place of RAM, if there is one.
 fn push_place<S: Sink>(board: &Board, k: u32, out: &mut S) -> Result<(), Failed>
     requires inside { k < 1024 }
     ensures bytes { (x : Scenario) (s : State) → Stands (boxed shown) x board.now s →
@@ -158,13 +158,13 @@ fn push_place<S: Sink>(board: &Board, k: u32, out: &mut S) -> Result<(), Failed>
     }
 }
 
-/// The memory of every task as the board has it: each different region of RAM by ascending base, a
-/// line `mem <base> <size>` and then a line for each 16 bytes of it that are not all zero
+/// Pushes the memory of every task as the board has it: each different region of RAM by ascending
+/// base, with a line `mem <base> <size>` and then a line for each 16 bytes that are not all zero
 /// (docs/FORMATS.md, Memories), one push each. After a failing push nothing more is pushed.
 ///
 /// # Errors
 ///
-/// Only where a push failed.
+/// Only if a push failed.
 pub fn write_memory<S: Sink>(board: &Board, out: &mut S) -> Result<(), Failed>
     ensures text { (x : Scenario) (s : State) → Stands (boxed shown) x board.now s →
         Pushes (S.seen out.old).written (S.seen out.new).written (memory_text x.setup s) result }

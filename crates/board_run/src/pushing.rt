@@ -1,4 +1,4 @@
-//! Lines go to a sink, one push each. After a failing push nothing more is pushed.
+//! Pushes lines to a sink, one push each. After a failing push nothing more is pushed.
 ghost use Rattle.std.specs.Prelude.{◌≡◌, length, IfOk};
 ghost use Rattle.outside_io.specs.Outside.{Pushes, HasCause};
 ghost use Rattle.board_model.specs.Run.{at_turn};
@@ -29,8 +29,8 @@ fn push_note<S: Sink>(lines: &mut TurnLines, note: &Note, out: &mut S) -> Result
     out.push(lines.text().as_bytes())
 }
 
-/// The notes of a turn, one line each. What stands in `lines` is of a turn before. It is made where
-/// it is called for, so that the loop of a run that is told has a copy of its own.
+/// Pushes the notes of a turn, one line each. What is in `lines` is from an earlier turn. The
+/// function is inlined, so that the loop of a run that writes its trace has its own copy.
 #[inline(always)]
 pub fn push_notes<S: Sink>(
     turn: u32,
@@ -53,7 +53,7 @@ pub fn push_notes<S: Sink>(
     Ok(())
 }
 
-/// The line of a task, in one push.
+/// Pushes the line of a task, in one push.
 pub fn push_task_line<S: Sink>(i: u64, task: &TaskView, out: &mut S) -> Result<(), Failed>
     ensures bytes { Pushes (S.seen out.old).written (S.seen out.new).written
         (task_line i task.now.generation task.now.health (wait_words task.now.wait) task.now.posted
@@ -74,7 +74,7 @@ pub fn push_task_line<S: Sink>(i: u64, task: &TaskView, out: &mut S) -> Result<(
     out.push(line.as_str().as_bytes())
 }
 
-/// The line of the registers r0 to r7, in one push.
+/// Pushes the line of the registers r0 to r7, in one push.
 pub fn push_low<S: Sink>(registers: &[u32; 16], out: &mut S) -> Result<(), Failed>
     ensures bytes { Pushes (S.seen out.old).written (S.seen out.new).written
         (low_text registers.now) result }
@@ -85,7 +85,7 @@ pub fn push_low<S: Sink>(registers: &[u32; 16], out: &mut S) -> Result<(), Faile
     out.push(line.as_str().as_bytes())
 }
 
-/// The line of the registers r8 to r15 and the flags, in one push.
+/// Pushes the line of the registers r8 to r15 and the flags, in one push.
 pub fn push_high<S: Sink>(registers: &[u32; 16], flags: Flags, out: &mut S) -> Result<(), Failed>
     ensures bytes { Pushes (S.seen out.old).written (S.seen out.new).written
         (high_text registers.now flags) result }
@@ -106,7 +106,7 @@ pub fn push_end_line<S: Sink>(end: End, turns: u32, now: u64, out: &mut S) -> Re
     out.push(line.as_str().as_bytes())
 }
 
-// The three lines of a task.
+// Pushes the three lines of a task.
 fn push_task<S: Sink>(i: u64, task: &TaskView, out: &mut S) -> Result<(), Failed>
     ensures bytes { Pushes (S.seen out.old).written (S.seen out.new).written (view_text i task.now)
         result }
@@ -142,7 +142,7 @@ fn push_tasks<S: Sink>(board: &Board, out: &mut S) -> Result<(), Failed>
     Ok(())
 }
 
-/// How a run ended, and each task.
+/// Pushes how a run ended, and each task.
 pub fn push_end<S: Sink>(end: End, board: &Board, out: &mut S) -> Result<(), Failed>
     ensures bytes { (x : Scenario) (s : State) → Stands (boxed shown) x board.now s →
         Pushes (S.seen out.old).written (S.seen out.new).written (end_text end s) result }

@@ -10,16 +10,16 @@ ghost use Rattle.board_run.specs.MemoryText.{regions_of};
 use board_core::Board;
 use region_check::Region;
 
-/// Which regions are looked for.
+/// A test for the regions that are looked for.
 pub trait RegionTest {
-    /// Whether a region is one of them.
+    /// Whether a region passes.
     ghost holds: { Self → Described → Bool };
 
     fn passes(&self, region: &Region) -> bool
         ensures { result ≡ holds self.now region.now };
 }
 
-// The first of the regions that passes.
+// The first of these regions that passes.
 fn region_in<T: RegionTest>(regions: &[Region], test: &T) -> Option<Region>
     ensures found { result ≡ find (T.holds test.now) regions.now }
     ensures holds { IfSome result (λ r. T.holds test.now r ≡ true) }
@@ -32,7 +32,7 @@ fn region_in<T: RegionTest>(regions: &[Region], test: &T) -> Option<Region>
     None
 }
 
-/// The first region that passes, of the tasks in their order.
+/// The first region that passes, with the tasks in their order.
 pub fn first_region<T: RegionTest>(board: &Board, test: &T) -> Option<Region>
     ensures holds { IfSome result (λ r. T.holds test.now r ≡ true) }
     ensures found { (x : Scenario) (s : State) → Stands (boxed shown) x board.now s →

@@ -20,7 +20,8 @@ use board_core::{Board, End, Level};
 use outside_io::{Failed, Sink};
 use trace_text::TurnLines;
 
-// The supervisor's fault ends a run before its bound does, the bound before standing still.
+// How a run ends, if it does. A fault of the supervisor comes first, then the bound, and then that
+// nothing can happen any more.
 fn end_within(ended: Option<End>, left: u32) -> Option<End>
     ensures is { result ≡ end_within ended left }
     ensures goes { IsNone result → ended ≡ None }
@@ -39,7 +40,7 @@ fn end_within(ended: Option<End>, left: u32) -> Option<End>
     }
 }
 
-/// Whether a run that makes turns below `limit` ends before the next one, and why.
+/// Whether a run that makes the turns before turn `limit` ends before the next one, and why.
 pub fn ending(board: &Board, limit: u32) -> Option<End>
     requires stood { StandsForSome (boxed shown) board.now }
     requires within { turns_of board.now ≤ limit }
@@ -52,19 +53,19 @@ pub fn ending(board: &Board, limit: u32) -> Option<End>
     end_within(board.ended(), limit - board.turns())
 }
 
-// What was told may be held back for so many turns: few enough that it can be read within
-// milliseconds, and enough that passing it on costs nothing beside them.
+// What was told may be held back for this many turns. They are few enough that it can be read
+// within milliseconds, and so many that passing it on costs nothing in comparison.
 const TURNS_HELD_BACK: u32 = 65_536;
 
-// How many turns are made, at most `limit`, when what is held back from here on is to be passed on.
+// The number of turns, at most `limit`, after which to pass on what is held back from here on.
 fn due_after(turns: u32, limit: u32) -> u32
     ensures { result ≡ min (turns + 65536) limit }
 {
     turns.saturating_add(TURNS_HELD_BACK).min(limit)
 }
 
-// Tells the notes of the last turn, and passes on what is held back where it is due. Answers when
-// that is next due: at `limit` while nothing is held back.
+// Tells the notes of the last turn, and passes on what is held back if that is due. Returns when it
+// is next due: at `limit` while nothing is held back.
 fn tell_last<T: Observer>(
     board: &Board,
     due: u32,
@@ -81,7 +82,8 @@ fn tell_last<T: Observer>(
     ensures within { IfOk result (λ next. next ≤ limit) }
     ensures later { IfOk result (λ next. turns_of board.now < limit → turns_of board.now < next) }
 
-    // What is told while nothing is held back is due soon, and stays due until then.
+    // What is told while nothing is held back will be due soon, and stays due until it is passed
+    // on.
     ensures soon { IfOk result (λ next. turns_of board.now < due → due ≡ limit →
         notes_of board.now ≢ [] → next ≡ min (turns_of board.now + 65536) limit) }
     ensures stays { IfOk result (λ next. turns_of board.now < due → due < limit → next ≡ due) }
@@ -100,12 +102,12 @@ fn tell_last<T: Observer>(
     Ok(due)
 }
 
-/// Turns up to the end of the run, each of which is told at a level, and is passed on by 65,536
-/// turns later. After a failure to tell no further turn is made.
+/// Makes the turns up to the end of the run. Each is told at a level, and is passed on at most
+/// 65,536 turns later. After a failure to tell, no further turn is made.
 ///
 /// # Errors
 ///
-/// Only where the teller failed.
+/// Only if the observer failed.
 pub fn play<T: Observer>(
     board: &mut Board,
     limit: u32,
@@ -123,16 +125,16 @@ pub fn play<T: Observer>(
     ensures last { (x : Scenario) (s : State) → Stands (boxed shown) x board.old s →
         IfOk result (λ _. Stands (boxed shown) x board.new (run level x (limit - s.turn) s).last) }
 
-    // The turns that were made have all the notes of the run, which are not more than the turns may
-    // note.
+    // The turns that were made have all the notes of the run, and these are no more than the turns
+    // may note.
     ensures whole { (x : Scenario) (s : State) → Stands (boxed shown) x board.old s →
         OnOk result (notes_in level x (turns_of board.new - s.turn) s ≡ notes_in level x
         (limit - s.turn) s) }
     ensures noted { (x : Scenario) (s : State) → Stands (boxed shown) x board.old s →
         OnOk result (length (notes_in level x (limit - s.turn) s) ≤ turn_notes * limit) }
 
-    // Where telling failed, the notes of the turns before the last one were told, and no further
-    // turn is made.
+    // If telling failed, the notes of the turns before the last one were told, and no further turn
+    // is made.
     ensures broken { (x : Scenario) (s : State) → Stands (boxed shown) x board.old s →
         OnErr result (BreaksTelling T.heard T.broke level x teller.old teller.new s board.new) }
     ensures midway { (x : Scenario) (s : State) → Stands (boxed shown) x board.old s →
@@ -152,8 +154,8 @@ pub fn play<T: Observer>(
     }
 }
 
-/// Turns up to the end of the run, and its text, which tells each turn at a level. After a failing
-/// push nothing more is pushed, and no further turn is made.
+/// Makes the turns up to the end of the run, and pushes its text, with each turn at a level. After
+/// a failing push nothing more is pushed, and no further turn is made.
 pub fn run<S: Sink>(board: &mut Board, limit: u32, level: Level, out: &mut S) -> Result<End, Failed>
     requires stood { StandsForSome (boxed shown) board.old }
     requires from { turns_of board.old ≤ limit }
@@ -173,13 +175,13 @@ pub fn run<S: Sink>(board: &mut Board, limit: u32, level: Level, out: &mut S) ->
     ensures timers { (x : Scenario) (s : State) → Stands (boxed shown) x board.old s →
         IfOk result (λ _. HasFitTimers (run level x (limit - s.turn) s).last) }
 
-    // From the start, what the notes say of each call is so, and agrees with the calls that are
-    // open at the end.
+    // In a run from the start, what the notes say of each call is true, and agrees with the calls
+    // that are open at the end.
     ensures ledger { (x : Scenario) → Stands (boxed shown) x board.old (start_of x) →
         IsLedgerOfRun level x limit }
 
-    // Where a push failed, the lines of the turns before the last one are whole, and no further
-    // turn is made.
+    // If a push failed, the lines of the turns before the last one are whole, and no further turn
+    // is made.
     ensures broken { (x : Scenario) (s : State) → Stands (boxed shown) x board.old s →
         OnErr result (BreaksOff level x (limit - s.turn) (S.seen out.old).written
         (S.seen out.new).written s board.new) }

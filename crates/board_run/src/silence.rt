@@ -1,4 +1,4 @@
-//! A listener that hears nothing: a run is made, and nobody is told.
+//! An observer that ignores the notes: a run is made, and nothing is told.
 ghost use Rattle.std.specs.Prelude.{◌≡◌};
 
 use crate::observer::Observer;
@@ -6,11 +6,11 @@ use kernel_abi::Note;
 use outside_io::Failed;
 use trace_text::TurnLines;
 
-/// Nobody listens.
+/// The observer that ignores everything.
 #[derive(Clone, Copy)]
 pub struct Nobody;
 
-/// Telling nobody never fails.
+/// This never fails.
 impl Observer for Nobody {
     ghost heard = { λ t notes u. u ≡ t };
 

@@ -21,7 +21,7 @@ use board_core::{Board, End, Level};
 use outside_io::{Failed, Sink};
 use trace_text::push_decimal;
 
-/// The line of counts, of up to 350 bytes.
+/// The line of counts, at most 350 bytes long.
 type CountsLine = ArrayString<384>;
 
 // A word of at most nine bytes, and a number.
@@ -67,7 +67,7 @@ fn push_counts<S: Sink>(counts: &Counts, out: &mut S) -> Result<(), Failed>
     out.push(line.as_str().as_bytes())
 }
 
-// How a run ended, and the counts.
+// Pushes how a run ended, and the counts.
 fn push_summary<S: Sink>(
     end: End,
     board: &Board,
@@ -83,13 +83,13 @@ fn push_summary<S: Sink>(
     push_counts(counts, out)
 }
 
-/// Turns up to the end of the run, then how it ended and how many notes of each kind it had: two
-/// lines, one push each. Instructions are not told, and not counted. After a failing push nothing
-/// more is pushed; the run was made whole.
+/// Makes the turns up to the end of the run. Then it pushes how the run ended and how many notes of
+/// each kind it had: two lines, one push each. Instructions are neither told nor counted. After a
+/// failing push nothing more is pushed, but the whole run was made.
 ///
 /// # Errors
 ///
-/// Only where a push failed.
+/// Only if a push failed.
 pub fn summarize<S: Sink>(board: &mut Board, limit: u32, out: &mut S) -> Result<End, Failed>
     requires stood { StandsForSome (boxed shown) board.old }
     requires from { turns_of board.old ≤ limit }
@@ -101,7 +101,7 @@ pub fn summarize<S: Sink>(board: &mut Board, limit: u32, out: &mut S) -> Result<
     ensures end { (x : Scenario) (s : State) → Stands (boxed shown) x board.old s →
         IfOk result (λ e. e ≡ (run Calls x (limit - s.turn) s).end) }
 
-    // Where a push failed, too, the board stands at the end of the run.
+    // Even if a push failed, the board is at the end of the run.
     ensures last { (x : Scenario) (s : State) → Stands (boxed shown) x board.old s →
         Stands (boxed shown) x board.new (run Calls x (limit - s.turn) s).last }
     ensures within { turns_of board.new ≤ limit }

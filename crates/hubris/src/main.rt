@@ -1,5 +1,5 @@
-//! The program: the words, the real files and the standard output, handed to the top call, whose
-//! answer is the exit status.
+//! The program: hands the words, the real files and the standard output to the top call, whose
+//! result is the exit status.
 #![tactic(auto)]
 
 use devices::{Console, Device, Port};
@@ -10,8 +10,8 @@ use std::process::ExitCode;
 use std::{env, io};
 use trace_cli::hubris_main_with;
 
-// The words of the command line, the program's name first. Words that are no UTF-8 are no command:
-// they count as none at all.
+// The words of the command line, the program's name first. If a word is not UTF-8, there is no
+// command: it is as if there were no words.
 fn words(rt: &HostRuntime) -> Result<Vec<String>, AllocError> {
     let mut words = Vec::new(rt.alloc());
     match env::args(rt) {
@@ -29,7 +29,7 @@ fn words(rt: &HostRuntime) -> Result<Vec<String>, AllocError> {
     Ok(words)
 }
 
-/// The answer to the words, where a console and a port are behind the first addresses of devices.
+/// The exit status for the words. The runs have a console and a port at the first device addresses.
 fn status<F: Files, S: Sink>(
     alloc: Global,
     words: &[String],
@@ -46,8 +46,9 @@ fn main(rt: HostRuntime) -> ExitCode {
     let Ok(words) = words(&rt) else {
         return ExitCode::from(5);
     };
-    // Lines go out together, since a call of the system for each would be most of the time of
-    // `--all`; at times the run, and after each answer the debugger, passes on what is held back.
+    // Lines are written many at a time. One system call for each line would be most of the time of
+    // `--all`. A run passes on what is held back from time to time, and the debugger does after
+    // each answer.
     let Ok(writer) = BufWriter::with_capacity(rt.alloc(), 65_536, io::writer(&rt)) else {
         return ExitCode::from(5);
     };
@@ -59,8 +60,8 @@ fn main(rt: HostRuntime) -> ExitCode {
     if status != 4 && out.flush().is_ok() {
         return ExitCode::from(status);
     }
-    // A writer that is dropped tries again to write what it holds back: nothing is written after a
-    // failure.
+    // A writer that is dropped tries again to write what it holds back. It is taken apart instead,
+    // so that nothing is written after a failure.
     let (_, _held) = out.into_output().into_parts();
     ExitCode::from(4)
 }

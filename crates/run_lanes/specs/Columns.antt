@@ -1,5 +1,5 @@
--- The columns of a picture (docs/FORMATS.md, Picture; this project's own): as many turns each as the least power of two of which 1,200
--- are all turns of the run.
+-- The columns of a picture (docs/FORMATS.md, Picture; this project's own). The number of turns in a column is
+-- the least power of two with which 1,200 columns are enough for all turns of the run.
 use Rattle.std.specs.Prelude.{ℕ, zero, suc, ◌+◌, ◌-◌, ◌*◌, ◌/◌, ◌==◌, Bool, true, false, nat_le, if◌then◌else◌, List, [], ◌∷◌, length, map, take, drop, count_by}
 use Rattle.std.specs.List.{flat_map, list_any, range_with_len}
 use Rattle.kernel_abi.specs.declared.Note.{Note}
@@ -14,16 +14,16 @@ use Rattle.run_lanes.specs.Words.{TurnSight, is_same}
 abbrev pub most_columns : ℕ
 most_columns = 1200
 
--- the first one of p, 2 p, 4 p .. of which the most columns are at least so many turns
+-- the first of p, 2 p, 4 p .. with which the most columns are enough for this many turns
 unfoldable pub doubled_until : ℕ → ℕ → ℕ → ℕ
 doubled_until zero p turns = p
 doubled_until (suc more) p turns = if nat_le turns (most_columns * p) then p else doubled_until more (2 * p) turns
 
--- how many turns a column has, where there are so many in all
+-- how many turns a column has, if there are this many in all
 abbrev pub column_turns : ℕ → ℕ
 column_turns turns = doubled_until 20 1 turns
 
--- how many columns there are then: the last one may have fewer turns
+-- how many columns there are then; the last one may have fewer turns
 abbrev pub columns : ℕ → ℕ
 columns turns = (turns + column_turns turns - 1) / column_turns turns
 
@@ -31,15 +31,15 @@ columns turns = (turns + column_turns turns - 1) / column_turns turns
 abbrev pub column : List TurnSight → ℕ → List TurnSight
 column turns k = take (column_turns (length turns)) (drop (k * column_turns (length turns)) turns)
 
--- the words in their order
+-- the activities in their order
 abbrev pub words : List Activity
 words = word.Runs ∷ word.Ready ∷ word.Offers ∷ word.Awaits ∷ word.Listens ∷ word.Faulted ∷ word.Stopped ∷ []
 
--- in how many of some turns a task has a word
+-- in how many of these turns a task has this activity
 abbrev pub turns_with : ℕ → List TurnSight → Activity → ℕ
 turns_with i turns w = count_by (λ t. is_same (word_at t.words i) w) turns
 
--- in one of them something like this is noted
+-- one of these turns has a note like this
 abbrev pub is_noted : (Note → Bool) → List TurnSight → Bool
 is_noted is turns = list_any (λ t. list_any is t.notes) turns
 
@@ -51,11 +51,11 @@ abbrev pub is_birth_of : ℕ → Note → Bool
 is_birth_of i (note.Restart task generation) = task == i
 is_birth_of i _ = false
 
--- what a task does in some turns, and what befalls it
+-- the cell of a task for these turns: what it does in them, and what happens to it
 abbrev pub cell_of : List TurnSight → ℕ → Cell
 cell_of turns i = record { words = map (turns_with i turns) words; faulted = is_noted (is_fault_of i) turns; born = is_noted (is_birth_of i) turns }
 
--- the cells of so many tasks, of each column one behind the other
+-- the cells of this many tasks, column after column
 abbrev pub cells : ℕ → List TurnSight → List Cell
 cells tasks turns = flat_map (λ k. map (cell_of (column turns k)) (range_with_len 0 tasks)) (range_with_len 0 (columns (length turns)))
 

@@ -1,4 +1,4 @@
--- The cells of a column, as turns are counted in it and as neighbours become one.
+-- The cells of a column, as turns are counted in them and as two neighbours become one.
 use Rattle.std.specs.Prelude.{◌≡◌, ◌≤◌, ◌<◌, ℕ, ◌+◌, ◌-◌, ◌*◌, ◌^◌, ◌||◌, Bool, List, length, map, take, drop, min, count_by, slice_index_or, slice_set}
 use Rattle.std.specs.List.{list_any, range_with_len}
 use Rattle.kernel_abi.specs.declared.Note.{Note}
@@ -8,15 +8,15 @@ use Rattle.run_lanes.specs.Columns.{cell_of, is_birth_of, is_fault_of, is_outsid
 use Rattle.run_lanes.specs.Timeline.{word_at}
 use Rattle.run_lanes.specs.Words.{TurnSight, word_number}
 
--- the turns of the k-th column where each has so many
+-- the turns of the k-th column, if each column has this many
 abbrev pub column_by : ℕ → List TurnSight → ℕ → List TurnSight
 column_by width turns k = take width (drop (k * width) turns)
 
--- two counts, as far as a number of 32 bits says it
+-- the sum of two counts, at most 2^32 - 1
 abbrev pub both : ℕ → ℕ → ℕ
 both a b = min (a + b) (2 ^ 32 - 1)
 
--- two columns one behind the other
+-- the cell of two columns, one after the other
 abbrev pub joined : Cell → Cell → Cell
 joined a b = record {
   words = map (λ w. both (slice_index_or a.words w 0) (slice_index_or b.words w 0)) (range_with_len 0 7);
@@ -24,19 +24,19 @@ joined a b = record {
   born = a.born || b.born;
 }
 
--- a turn more, in which a task does this
+-- the cell with one more turn, in which the task does this
 abbrev pub counted : Cell → Activity → Cell
 counted c w = record { words = slice_set c.words (word_number w) (both (slice_index_or c.words (word_number w) 0) 1); faulted = c.faulted; born = c.born }
 
--- with these notes
+-- the cell with these notes
 abbrev pub marked : List Note → ℕ → Cell → Cell
 marked notes i c = record { words = c.words; faulted = c.faulted || list_any (is_fault_of i) notes; born = c.born || list_any (is_birth_of i) notes }
 
--- a turn more of the i-th task
+-- the cell of the i-th task with one more turn
 abbrev pub turned : List Activity → List Note → ℕ → Cell → Cell
 turned words notes i c = marked notes i (counted c (word_at words i))
 
--- so many cells from one on are made of what they were, and the others stay
+-- `many` cells, from `at` on, are made from what they were, and the others stay
 pub record Changed (old new : List Cell) (at many : ℕ) (f : ℕ → Cell → Cell) : Type 0 where
   pub as_many : length new ≡ length old
   pub made : (i : ℕ) (d : Cell) → i < many → slice_index_or new (at + i) d ≡ f i (slice_index_or old (at + i) d)
@@ -47,7 +47,7 @@ pub record Changed (old new : List Cell) (at many : ℕ) (f : ℕ → Cell → C
 abbrev pub comes_from_outside : TurnSight → Bool
 comes_from_outside t = list_any is_outside t.notes
 
--- cells are those of the columns of so many turns each
+-- these are the cells of columns that have this many turns each
 abbrev pub CellsOf : ℕ → ℕ → List TurnSight → List Cell → Type 0
 CellsOf width tasks turns cells = (k i : ℕ) (d : Cell) → k < most_columns → i < tasks → slice_index_or cells (k * tasks + i) d ≡ cell_of (column_by width turns k) i
 

@@ -1,4 +1,4 @@
--- What is kept of the turns so far, as lists, and what becomes of it and of a sink as turns are seen.
+-- What is kept of the turns so far, as lists, and how it and a sink change as turns are seen.
 use Rattle.std.specs.Prelude.{◌≡◌, ◌≤◌, List}
 use Rattle.std.specs.Io.KnownBytes.{Appends}
 use Rattle.outside_io.specs.Outside.{AppendsFront, Rose}
@@ -10,13 +10,13 @@ use Rattle.run_lanes.specs.Words.{TurnSight}
 abbrev pub kept_of : Lanes → Kept
 kept_of l = record { stretches = l.stretches.items; offers = l.offers.items }
 
--- what is told of these turns was appended
+-- the text of these turns was appended
 pub record SeesText (k : Kept) (o : SinkSeen) (turns : List TurnSight) (k' : Kept) (o' : SinkSeen) : Type 0 where
   pub kept : k' ≡ kept_at_end k turns
   pub pushed : Appends o.written o'.written (turns_text k turns)
   pub later : o.faults ≤ o'.faults
 
--- a front of it was, and the failure was counted
+-- a front of that text was appended, and the failure was counted
 pub record BreaksText (k : Kept) (o : SinkSeen) (turns : List TurnSight) (o' : SinkSeen) : Type 0 where
   pub pushed : AppendsFront o.written o'.written (turns_text k turns)
   pub later : o.faults ≤ o'.faults

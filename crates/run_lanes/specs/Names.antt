@@ -1,4 +1,5 @@
--- The names that a timeline has for system calls and for faults (docs/FORMATS.md, Timeline). What has no name is told by its numbers.
+-- The names that a timeline has for system calls and for faults (docs/FORMATS.md, Timeline). What has no name
+-- is written by its numbers.
 use Rattle.std.specs.Prelude.{ℕ, ◌==◌, if◌then◌else◌, List, ◌++◌, codes, decimal, Option, Some, None}
 use Rattle.kernel_abi.specs.Faults.{access_number, reason_number, usage_number}
 use Rattle.kernel_abi.specs.Syscalls.{syscall_number}
@@ -72,7 +73,7 @@ unaligned_name number =
 
 -- ## system calls
 
--- `SEND`, or `call 14`
+-- `SEND`; without a name `call 14`
 abbrev pub call_text : ℕ → Option (List ℕ) → List ℕ
 call_text number None = codes "call " ++ decimal number
 call_text number (Some name) = name
@@ -82,7 +83,7 @@ syscall_name number = call_text number (call_name number)
 
 -- ## faults
 
--- `fault 11 00000000 00000000`, one that has no name
+-- `fault 11 00000000 00000000`: a fault without a name
 unfoldable pub numbers_text : Fault → List ℕ
 numbers_text fault = codes "fault " ++ decimal fault.number ++ spaced_hex fault.x ++ spaced_hex fault.y
 

@@ -12,11 +12,11 @@ use Rattle.run_lanes.specs.Told.{all_arrows, all_events, calls_at_end, event_tex
 use Rattle.run_lanes.specs.Words.{TurnSight, sights}
 use Rattle.task_table.specs.model.State.{State}
 
--- what befell tasks is told of the first ten
+-- what happened to tasks is written for the first ten faults and births
 abbrev pub most_events : ℕ
 most_events = 10
 
--- what is drawn of a run and of its turns, of tasks with these names
+-- what is drawn of a run and of its turns, with these names of tasks
 abbrev pub drawn : List ℕ → List (List ℕ) → Run → List TurnSight → Drawn
 drawn title names r turns = record {
   title = title;
@@ -34,6 +34,6 @@ drawn title names r turns = record {
   all_events = counted (all_events turns);
 }
 
--- the run from a state with at most so many turns
+-- the picture of the run from a state with at most this many turns
 unfoldable pub picture_text : List ℕ → List (List ℕ) → Scenario → ℕ → State → List ℕ
 picture_text title names x left s = drawing_text (drawn title names (run AtCalls x left s) (sights x left s))

@@ -1,4 +1,5 @@
--- The stretches of a list of words, one for each turn: as long as the word stays the same (this project's own).
+-- The stretches of a list of activities, one for each turn. A stretch lasts as long as the activity stays the
+-- same (this project's own).
 use Rattle.std.specs.Prelude.{◌≡◌, ℕ, ◌+◌, ◌-◌, ◌==◌, false, if◌then◌else◌, List, [], ◌∷◌, ◌++◌, map, replicate}
 use Rattle.std.specs.List.{flat_map}
 use Rattle.run_lanes.specs.declared.activity.Activity.{Activity}
@@ -10,38 +11,39 @@ use Rattle.run_lanes.specs.Words.{TurnSight, is_same}
 abbrev pub words_of : ℕ → List TurnSight → List Activity
 words_of i turns = map (λ t. word_at t.words i) turns
 
--- a turn more before these stretches
+-- one more turn before these stretches
 abbrev pub joined : Activity → List (Activity × ℕ) → List (Activity × ℕ)
 joined w [] = (w, 1) ∷ []
 joined w (s ∷ stretches) = if is_same w s.0 then (s.0, s.1 + 1) ∷ stretches else (w, 1) ∷ s ∷ stretches
 
--- each with its word, and how many turns it has
+-- the stretches, each with its activity and the number of its turns
 unfoldable pub stretches : List Activity → List (Activity × ℕ)
 stretches [] = []
 stretches (w ∷ words) = joined w (stretches words)
 
--- no two neighbours have the same word
+-- no two neighbours have the same activity
 abbrev pub Alternate : List (Activity × ℕ) → Type 0
 Alternate [] = Unit {0}
 Alternate (s ∷ []) = Unit {0}
 Alternate (s ∷ t ∷ stretches) = (is_same s.0 t.0 ≡ false) × Alternate (t ∷ stretches)
 
--- one behind the other, word by word
+-- the activities of all stretches, turn by turn
 abbrev pub laid_out : List (Activity × ℕ) → List Activity
 laid_out ss = flat_map (λ s. replicate s.1 s.0) ss
 
--- all their turns
+-- how many turns they have in all
 unfoldable pub turns_in : List (Activity × ℕ) → ℕ
 turns_in [] = 0
 turns_in (s ∷ stretches) = s.1 + turns_in stretches
 
--- ## the stretches that a timeline tells of a task
+-- ## the stretches that a timeline has of a task
 
--- one that ends before a turn, unless it has no turn (Timeline's `ended_text`)
+-- the stretch that ends before a turn; none if it would have no turn (Timeline's `ended_text`)
 abbrev pub ended : ℕ → LaneStretch → List (Activity × ℕ)
 ended turn s = if s.since == turn then [] else (s.word, turn - s.since) ∷ []
 
--- those of a task that is in a stretch at a turn and does these words from then on (Timeline's `over_text`, `renewed` and, at the end, `ended_text`)
+-- The stretches of a task that is in a stretch at a turn and has these activities from then on (Timeline's
+-- `over_text`, `renewed` and, at the end, `ended_text`).
 unfoldable pub told : ℕ → LaneStretch → List Activity → List (Activity × ℕ)
 told turn s [] = ended turn s
 told turn s (w ∷ words) = (if is_same s.word w then [] else ended turn s) ++ told (turn + 1) (renewed turn s w) words

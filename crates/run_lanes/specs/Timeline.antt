@@ -19,7 +19,7 @@ use Rattle.run_lanes.specs.declared.activity.Activity.TheVariants as word
 use Rattle.run_lanes.specs.Names.{fault_name, syscall_name}
 use Rattle.run_lanes.specs.Words.{TurnSight, is_same, sights}
 
--- ## events, each behind the `,` and the LF that end the line before it
+-- ## events, each after the `,` and the LF that end the line before it
 
 -- the thread and the turn of an event, and its end
 unfoldable pub place_text : ℕ → ℕ → List ℕ
@@ -34,12 +34,12 @@ word_name word.Listens = codes "listens"
 word_name word.Faulted = codes "faulted"
 word_name word.Stopped = codes "stopped"
 
--- what a task does for so many turns from one on
+-- what a task does for this many turns, from a turn on
 unfoldable pub stretch_text : ℕ → Activity → ℕ → ℕ → List ℕ
 stretch_text thread w turns from =
     codes ",\n{\"dur\":" ++ decimal turns ++ codes ",\"name\":\"" ++ word_name w ++ codes "\",\"ph\":\"X\",\"pid\":0" ++ place_text thread from
 
--- what happens at once
+-- what happens at one moment
 unfoldable pub instant_text : List ℕ → ℕ → ℕ → List ℕ
 instant_text name thread turn = codes ",\n{\"name\":\"" ++ name ++ codes "\",\"ph\":\"i\",\"pid\":0,\"s\":\"t\"" ++ place_text thread turn
 
@@ -54,7 +54,7 @@ arrow_text head call phase thread turn =
 abbrev pub thread_of : ℕ → ℕ
 thread_of task = task + 1
 
--- the call that a task offered last, if it offered one, is this one
+-- the call that a task offered last, if it offered one, has this number
 abbrev pub is_of_call : ℕ → Option Offer → Bool
 is_of_call call None = false
 is_of_call call (Some offer) = offer.call == call
@@ -63,7 +63,8 @@ abbrev pub server_thread_of : Option Offer → ℕ
 server_thread_of None = 0
 server_thread_of (Some offer) = thread_of offer.server
 
--- the threads of a call's client and of its server, where tasks from the i-th on offered these last: of the first whose call it is, and 0 where there is none
+-- The threads of a call's client and of its server, where the tasks from the i-th on offered these calls
+-- last. The first task that offered the call counts; if there is none, the thread is 0.
 unfoldable pub client_from : ℕ → ℕ → List (Option Offer) → ℕ
 client_from call i [] = 0
 client_from call i (offer ∷ offers) = if is_of_call call offer then thread_of i else client_from call (i + 1) offers
@@ -72,7 +73,7 @@ unfoldable pub server_in : ℕ → List (Option Offer) → ℕ
 server_in call [] = 0
 server_in call (offer ∷ offers) = if is_of_call call offer then server_thread_of offer else server_in call offers
 
--- the names of what happens at once, those of system calls and faults aside
+-- the names of what happens at one moment, except system calls and faults
 abbrev pub tick_name : ℕ → List ℕ
 tick_name now = codes "tick " ++ decimal now
 
@@ -91,7 +92,7 @@ post_name bits = codes "post" ++ spaced_hex bits
 abbrev pub restart_name : ℕ → List ℕ
 restart_name generation = codes "restart " ++ decimal generation
 
--- what is told of a note in a turn
+-- what is written of a note of a turn
 abbrev pub note_text : List (Option Offer) → ℕ → Note → List ℕ
 note_text offers turn (note.Tick now) = instant_text (tick_name now) 0 turn
 note_text offers turn (note.Irq line handled) = instant_text (irq_name line handled) 0 turn
@@ -127,7 +128,7 @@ unfoldable pub offers_at_end : List (Option Offer) → List Note → List (Optio
 offers_at_end offers [] = offers
 offers_at_end offers (n ∷ notes) = offers_at_end (offers_after offers n) notes
 
--- ## stretches: what each task has done, and since when
+-- ## stretches: what each task has been doing, and since when
 
 abbrev pub nothing_yet : ℕ → LaneStretch
 nothing_yet turn = record { word = word.Ready; since = turn }
@@ -138,15 +139,15 @@ stretch_at stretches i = slice_index_or stretches i (nothing_yet 0)
 abbrev pub word_at : List Activity → ℕ → Activity
 word_at words i = slice_index_or words i word.Ready
 
--- what is told of a stretch that ends before a turn: nothing where it has no turn
+-- what is written of a stretch that ends before a turn: nothing if it has no turn
 abbrev pub ended_text : ℕ → ℕ → LaneStretch → List ℕ
 ended_text turn i s = if s.since == turn then [] else stretch_text (thread_of i) s.word (turn - s.since) s.since
 
--- it ends where the task does something else
+-- a stretch ends when the task does something else
 abbrev pub over_text : ℕ → ℕ → LaneStretch → Activity → List ℕ
 over_text turn i s w = if is_same s.word w then [] else ended_text turn i s
 
--- and another one begins there
+-- and another stretch begins there
 abbrev pub renewed : ℕ → LaneStretch → Activity → LaneStretch
 renewed turn s w = if is_same s.word w then s else record { word = w; since = turn }
 
@@ -161,19 +162,20 @@ rests_text turn stretches = flat_map (λ i. ended_text turn i (stretch_at stretc
 
 -- ## turn by turn
 
--- what is kept of the turns so far: of each task the stretch that it is in, and what it offered last
+-- what is kept of the turns so far: for each task, the stretch that it is in and the call that it offered
+-- last
 pub record Kept : Type 0 where
   pub stretches : List LaneStretch
   pub offers : List (Option Offer)
 
--- before the first turn, of so many tasks
+-- what is kept before the first turn, for this many tasks
 abbrev pub kept_none : ℕ → ℕ → Kept
 kept_none tasks turn = record { stretches = replicate tasks (nothing_yet turn); offers = replicate tasks None }
 
 abbrev pub kept_after : Kept → TurnSight → Kept
 kept_after k t = record { stretches = all_renewed t.turn k.stretches t.words; offers = offers_at_end k.offers t.notes }
 
--- the stretches that are over, and then the notes
+-- the stretches that end here, and then the notes
 abbrev pub turn_text : Kept → TurnSight → List ℕ
 turn_text k t = overs_text t.turn k.stretches t.words ++ notes_text k.offers t.turn t.notes
 
@@ -185,12 +187,12 @@ unfoldable pub kept_at_end : Kept → List TurnSight → Kept
 kept_at_end k [] = k
 kept_at_end k (t ∷ turns) = kept_at_end (kept_after k t) turns
 
--- ## what stands before the turns: the threads' names, and their order
+-- ## what comes before the turns: the threads' names, and their order
 
 abbrev pub whole : ℕ → Data
 whole n = json.number (unsigned n)
 
--- an event by which a viewer names thread i + 1
+-- an event from which a viewer takes the name of thread i + 1
 abbrev pub name_data : ℕ → List ℕ → Data
 name_data i name = object (member (codes "args") (object (member (codes "name") (string name) no_members))
     (member (codes "name") (string (codes "thread_name"))
@@ -219,10 +221,11 @@ tail_text = codes "\n]}\n"
 
 -- ## the whole
 
--- turns from one on, and what stands behind them: the stretches in which the tasks are, and the end
+-- the turns from one on, and what comes after them: the stretches in which the tasks still are, and the end
+-- of the text
 unfoldable pub drawn_text : Kept → ℕ → List TurnSight → List ℕ
 drawn_text k turn turns = turns_text k turns ++ (rests_text (turn + length turns) (kept_at_end k turns).stretches ++ tail_text)
 
--- the run from a state with at most so many turns, of tasks with these names
+-- the timeline of the run from a state with at most this many turns, with these names of tasks
 unfoldable pub timeline_text : List (List ℕ) → Scenario → ℕ → State → List ℕ
 timeline_text names x left s = head_text names ++ drawn_text (kept_none (length names) s.turn) s.turn (sights x left s)

@@ -1,5 +1,5 @@
--- What a picture tells of a run beside its columns (docs/FORMATS.md, Picture; this project's own): the calls of each task, the arrows
--- between lanes, and what befell tasks in words.
+-- What a picture says of a run beside its columns (docs/FORMATS.md, Picture; this project's own): the calls
+-- of each task, the arrows between lanes, and in words what happened to tasks.
 use Rattle.std.specs.Prelude.{ℕ, ◌+◌, ◌-◌, ◌==◌, Bool, true, false, nat_lt, filter, if◌then◌else◌, List, [], ◌∷◌, ◌++◌, map, replicate, slice_index_or, slice_set, codes, decimal, Option, Some, None}
 use Rattle.std.specs.List.{flat_map}
 use Rattle.kernel_abi.specs.declared.Ending.{Ending}
@@ -19,7 +19,7 @@ use Rattle.run_lanes.specs.Words.{TurnSight}
 
 -- ## the calls of tasks
 
--- the call that a task has open is this one
+-- the call that a task has open has this number
 abbrev pub has_asked : ℕ → Option AskedCall → Bool
 has_asked call None = false
 has_asked call (Some asked) = asked.call == call
@@ -32,21 +32,21 @@ abbrev pub by : ℕ → Option AskedCall → Option AskedBy
 by i None = None
 by i (Some asked) = Some (i, asked)
 
--- who has a call open, of tasks from the i-th on
+-- the task that has this call open, among those from the i-th on
 unfoldable pub client_of : ℕ → ℕ → List TaskCalls → Option AskedBy
 client_of call i [] = None
 client_of call i (c ∷ calls) = if has_asked call c.asked then by i c.asked else client_of call (i + 1) calls
 
--- the first of the longest ones
+-- the longer of two calls; the first one if they are equal
 abbrev pub longer : Option Longest → Longest → Longest
 longer None l = l
 longer (Some k) l = if nat_lt k.turns l.turns then l else k
 
--- a task offers one more
+-- the task offers one more call
 abbrev pub offered : ℕ → ℕ → ℕ → TaskCalls → TaskCalls
 offered call server turn c = record { count = raised c.count 1; asked = Some record { call = call; server = server; since = turn }; longest = c.longest }
 
--- the one that it had open is closed in a turn
+-- the call that the task had open is closed in a turn
 abbrev pub closed : ℕ → AskedCall → TaskCalls → TaskCalls
 closed turn asked c = record { count = c.count; asked = None; longest = Some (longer c.longest record { server = asked.server; from = asked.since; turns = turn - asked.since }) }
 
@@ -60,7 +60,7 @@ abbrev pub closed_by : ℕ → List TaskCalls → Option AskedBy → List TaskCa
 closed_by turn calls None = calls
 closed_by turn calls (Some c) = slice_set calls c.0 (closed turn c.1 (calls_of calls c.0))
 
--- after a note of a turn
+-- the calls of the tasks after a note of a turn
 abbrev pub calls_after : ℕ → List TaskCalls → Note → List TaskCalls
 calls_after turn calls (note.Offer call client server) = slice_set calls client (offered call server turn (calls_of calls client))
 calls_after turn calls (note.Close call how) = closed_by turn calls (client_of call 0 calls)
@@ -68,7 +68,7 @@ calls_after turn calls _ = calls
 
 -- ## arrows
 
--- a call that is taken, from its client at the offer to its server
+-- the arrow of a call that is taken, from its client at the offer to its server
 abbrev pub taken_by : ℕ → Option AskedBy → List Arrow
 taken_by turn None = []
 taken_by turn (Some c) = record { way = way.Call; from = c.0; at = c.1.since; to = c.1.server; until = turn } ∷ []
@@ -76,7 +76,7 @@ taken_by turn (Some c) = record { way = way.Call; from = c.0; at = c.1.since; to
 abbrev pub back : ℕ → ArrowKind → AskedBy → List Arrow
 back turn w c = record { way = w; from = c.1.server; at = turn; to = c.0; until = turn } ∷ []
 
--- one that is closed, from its server back to its client; none where the client ended it
+-- the arrow of a call that is closed, from its server back to its client; none if the client ended it
 abbrev pub closed_arrow : ℕ → Ending → AskedBy → List Arrow
 closed_arrow turn ending.Reply c = back turn way.Answer c
 closed_arrow turn ending.ReplyFault c = back turn way.Break c
@@ -92,7 +92,7 @@ arrows_of turn calls (note.Take call copied) = taken_by turn (client_of call 0 c
 arrows_of turn calls (note.Close call how) = ended_by turn how (client_of call 0 calls)
 arrows_of turn calls _ = []
 
--- ## what befell tasks: faults and births
+-- ## what happened to tasks: faults and births
 
 -- a note, and its turn
 abbrev pub TurnNote : Type 0

@@ -35,7 +35,7 @@ word_of health.Well w = wait_word w
 word_of health.Stopped w = word.Stopped
 word_of (health.Faulted fault) w = word.Faulted
 
--- the words in order, from 0 on
+-- the number of an activity in their order, from 0 on
 abbrev pub word_number : Activity → ℕ
 word_number word.Runs = 0
 word_number word.Ready = 1
@@ -48,11 +48,11 @@ word_number word.Stopped = 6
 abbrev pub is_same : Activity → Activity → Bool
 is_same w v = word_number w == word_number v
 
--- what a task is in a state
+-- what a task does in a state, if the turn is not its own
 abbrev pub waiting : State → ℕ → Activity
 waiting s i = word_of (task_at s i).health (wait_of (call_of s i) (listen_of s i))
 
--- the turn is that task's
+-- the turn is this task's
 abbrev pub is_of : Turned → ℕ → Bool
 is_of Idle i = false
 is_of (Ran c at) i = c == i
@@ -73,12 +73,12 @@ pub record TurnSight : Type 0 where
 abbrev pub sight : Scenario → State → TurnSight
 sight x s = record { turn = s.turn; words = words_in x s; notes = (turn Calls x s).notes }
 
--- a turn that is made unless the run ends before it
+-- a turn that is made, unless the run ends before it
 abbrev pub unless : Option End → TurnSight → List TurnSight → List TurnSight
 unless (Some e) first more = []
 unless None first more = first ∷ more
 
--- the turns of the run from a state, with at most so many
+-- the turns of the run from a state, at most this many
 unfoldable pub sights : Scenario → ℕ → State → List TurnSight
 sights x zero s = []
 sights x (suc left) s = unless (ending x (suc left) s) (sight x s) (sights x left (turn Calls x s).state)

@@ -1,4 +1,4 @@
-//! What a task does in a turn, in one word.
+//! What a task does in a turn, as one of seven activities.
 ghost use Rattle.std.specs.Prelude.{◌≡◌, ◌≤◌, length};
 ghost use Rattle.run_lanes.specs.Timeline.{word_name};
 ghost use Rattle.run_lanes.specs.Words.{is_same, word_number, word_of};
@@ -9,11 +9,11 @@ use task_table::{Phase, Wait};
 /// What a task does in a turn.
 #[derive(Clone, Copy, PartialEq, Eq)]
 pub enum Activity {
-    /// The turn is its own.
+    /// The turn is the task's own.
     Runs,
     /// It is well and waits for nothing but its turn.
     Ready,
-    /// It is the client of a call that is offered and not taken.
+    /// It is the client of a call that is offered but not taken.
     Offers,
     /// It is the client of a call that is taken.
     Awaits,
@@ -24,7 +24,7 @@ pub enum Activity {
 }
 
 impl Activity {
-    /// Its place in the order of the words, from 0 on.
+    /// Its number in the order of the activities, from 0 on.
     pub fn number(&self) -> u8
         ensures { result ≡ word_number self.now }
     {
@@ -45,7 +45,7 @@ impl Activity {
         self.number() == other.number()
     }
 
-    /// The word itself.
+    /// Its name.
     pub fn name(&self) -> &'static str
         ensures name { result.now ≡ word_name self.now }
         ensures short { length result.now ≤ 7 }
@@ -62,7 +62,7 @@ impl Activity {
     }
 }
 
-/// What a task is that has this health and waits for that.
+/// The activity of a task with this health that waits for this.
 pub fn word_of(health: Health, wait: Wait) -> Activity
     ensures { result ≡ word_of health wait }
 {

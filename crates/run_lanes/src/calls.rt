@@ -5,14 +5,14 @@ ghost use Rattle.run_lanes.specs.Told.{arrows_of, by, calls_after, client_of, cl
 use kernel_abi::{Ending, Note};
 use lane_picture::{Arrow, ArrowKind, AskedCall, Longest, TaskCalls};
 
-/// Nothing is offered yet.
+/// The calls of a task that has offered none yet.
 pub const NO_CALLS: TaskCalls = TaskCalls {
     count: 0,
     asked: None,
     longest: None,
 };
 
-// The call that a task has open is this one.
+// Whether the call that a task has open has this number.
 fn has_asked(call: u32, asked: &Option<AskedCall>) -> bool
     ensures { result ≡ has_asked call asked.now }
 {
@@ -45,7 +45,7 @@ fn client_of(calls: &[TaskCalls], call: u32) -> Option<(u16, AskedCall)>
     None
 }
 
-// The first of the longest ones.
+// The longer of two calls; the first one if they are equal.
 fn longer(longest: Option<Longest>, other: Longest) -> Longest
     ensures { result ≡ longer longest other }
 {
@@ -61,7 +61,7 @@ fn longer(longest: Option<Longest>, other: Longest) -> Longest
     }
 }
 
-// A task offers one more.
+// The calls of a task that offers one more.
 fn offered(call: u32, server: u16, turn: u32, calls: &TaskCalls) -> TaskCalls
     ensures { result ≡ offered call server turn calls.now }
 {
@@ -76,7 +76,7 @@ fn offered(call: u32, server: u16, turn: u32, calls: &TaskCalls) -> TaskCalls
     }
 }
 
-// The one that it had open is closed.
+// The calls of a task whose open call is closed.
 fn closed(turn: u32, asked: &AskedCall, calls: &TaskCalls) -> TaskCalls
     ensures { result ≡ closed turn asked.now calls.now }
 {
@@ -92,7 +92,7 @@ fn closed(turn: u32, asked: &AskedCall, calls: &TaskCalls) -> TaskCalls
     }
 }
 
-/// The calls after a note of a turn.
+/// Brings the calls up to date with a note of a turn.
 pub fn renew(turn: u32, note: &Note, calls: &mut [TaskCalls])
     requires few { length calls.old ≤ 65536 }
     ensures { calls.new ≡ calls_after turn calls.old note.now }
@@ -121,7 +121,8 @@ pub fn renew(turn: u32, note: &Note, calls: &mut [TaskCalls])
     }
 }
 
-// From the server of a call that is closed back to its client; none where the client ended it.
+// The arrow of a call that is closed, from its server back to its client; none if the client ended
+// it.
 fn closed_arrow(turn: u32, ending: Ending, client: u16, asked: &AskedCall) -> Option<Arrow>
     ensures { option_to_list result ≡ closed_arrow turn ending (client, asked.now) }
 {
@@ -139,8 +140,8 @@ fn closed_arrow(turn: u32, ending: Ending, client: u16, asked: &AskedCall) -> Op
     })
 }
 
-/// The arrow of a note of a turn, if it has one: of a call that is taken, from the turn of its
-/// offer on, and of one that is closed.
+/// The arrow of a note of a turn, if it has one: that of a call that is taken, which starts in the
+/// turn of its offer, or that of a call that is closed.
 pub fn arrow_of(turn: u32, calls: &[TaskCalls], note: &Note) -> Option<Arrow>
     requires few { length calls.now ≤ 65536 }
     ensures { option_to_list result ≡ arrows_of turn calls.now note.now }

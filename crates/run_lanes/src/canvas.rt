@@ -1,5 +1,5 @@
-//! What is kept of a run for its picture (docs/FORMATS.md, Picture). Memory is taken before the
-//! first turn.
+//! What is kept of a run for its picture (docs/FORMATS.md, Picture). All memory is allocated before
+//! the first turn.
 ghost use Rattle.std.specs.Prelude.{◌≤◌, [], IfOk};
 ghost use Rattle.run_lanes.specs.Painted.{Painted, Paints};
 
@@ -13,7 +13,7 @@ use kernel_abi::Note;
 use outside_io::Failed;
 use std::alloc::{AllocError, Global};
 
-// What befell tasks is told of so many.
+// What happened to tasks is written for this many faults and births.
 const MOST_EVENTS: usize = 10;
 
 /// What was counted of the turns so far.
@@ -26,11 +26,11 @@ pub struct Canvas {
 }
 
 impl Canvas {
-    /// Before the first turn, of so many tasks.
+    /// A canvas before the first turn, for this many tasks.
     ///
     /// # Errors
     ///
-    /// Only want of memory.
+    /// Only if memory runs out.
     pub fn open(alloc: Global, tasks: usize) -> Result<Canvas, AllocError>
         requires { tasks ≤ 65536 }
         ensures { IfOk result (λ c. Painted tasks c []) }

@@ -1,5 +1,5 @@
-//! The cells of columns of turns, one column behind the other (docs/FORMATS.md, Picture): a turn
-//! more, and neighbours that become one.
+//! The cells of columns of turns, column after column (docs/FORMATS.md, Picture): adding a turn,
+//! and making one column of two neighbours.
 ghost use Rattle.std.specs.Prelude.{◌≡◌, ◌≤◌, ◌<◌, ◌+◌, ◌*◌, ℕ, ◌∷◌, [], length, map, slice_index_or};
 ghost use Rattle.std.specs.List.{list_any, range_with_len};
 ghost use Rattle.lane_picture.specs.declared.parts.Cell.{Cell as ACell};
@@ -13,17 +13,17 @@ use crate::lanes::word_at;
 use kernel_abi::Note;
 use lane_picture::Cell;
 
-/// There is memory for so many.
+/// There is memory for this many columns.
 pub const MOST_COLUMNS: usize = 1200;
 
-/// A column in which there is no turn.
+/// The cell of a column without turns.
 pub const NO_CELL: Cell = Cell {
     words: [0; 7],
     faulted: false,
     born: false,
 };
 
-// Each count and the one of its kind.
+// Adds each count to the one of its kind.
 fn add_counts(counts: &mut [u32], more: &[u32])
     requires { length more.now ≡ length counts.old }
     ensures { counts.new ≡ map (λ w. both (slice_index_or counts.old w 0)
@@ -34,7 +34,7 @@ fn add_counts(counts: &mut [u32], more: &[u32])
     }
 }
 
-// Two columns one behind the other.
+// The cell of two columns, one after the other.
 fn joined(first: &Cell, second: &Cell) -> Cell
     ensures { result ≡ joined first.now second.now }
 {
@@ -47,7 +47,7 @@ fn joined(first: &Cell, second: &Cell) -> Cell
     }
 }
 
-// A turn more, in which a task does this.
+// Counts one more turn, in which the task does this.
 fn count(cell: &mut Cell, word: Activity)
     ensures { cell.new ≡ counted cell.old word }
 {
@@ -55,7 +55,7 @@ fn count(cell: &mut Cell, word: Activity)
     cell.words[w] = cell.words[w].saturating_add(1);
 }
 
-// What each task does in a turn more of the column that begins at a cell.
+// Counts what each task does in one more turn of the column that begins at a cell.
 fn count_words(cells: &mut [Cell], at: usize, tasks: usize, words: &[Activity])
     requires room { at + tasks ≤ length cells.old }
     ensures { Changed cells.old cells.new at tasks (λ i c. counted c (word_at words.now i)) }
@@ -65,7 +65,7 @@ fn count_words(cells: &mut [Cell], at: usize, tasks: usize, words: &[Activity])
     }
 }
 
-// A note of a turn in that column.
+// Marks a note of a turn in that column.
 fn mark(cells: &mut [Cell], at: usize, tasks: usize, note: &Note)
     requires room { at + tasks ≤ length cells.old }
     ensures { Changed cells.old cells.new at tasks (λ i c. marked (note.now ∷ []) i c) }
@@ -87,7 +87,7 @@ fn mark(cells: &mut [Cell], at: usize, tasks: usize, note: &Note)
     }
 }
 
-// The notes of a turn in that column.
+// Marks the notes of a turn in that column.
 fn mark_all(cells: &mut [Cell], at: usize, tasks: usize, notes: &[Note])
     requires room { at + tasks ≤ length cells.old }
     ensures { Changed cells.old cells.new at tasks (λ i c. marked notes.now i c) }
@@ -97,8 +97,7 @@ fn mark_all(cells: &mut [Cell], at: usize, tasks: usize, notes: &[Note])
     }
 }
 
-/// A turn more in the column that begins at a cell, with what each task does in it and the notes of
-/// it.
+/// Adds a turn to the column that begins at a cell, with what each task does in it and its notes.
 pub fn add_turn(cells: &mut [Cell], at: usize, tasks: usize, words: &[Activity], notes: &[Note])
     requires room { at + tasks ≤ length cells.old }
     ensures { Changed cells.old cells.new at tasks (turned words.now notes.now) }
@@ -107,7 +106,7 @@ pub fn add_turn(cells: &mut [Cell], at: usize, tasks: usize, words: &[Activity],
     mark_all(cells, at, tasks, notes);
 }
 
-// It comes from outside.
+// Whether a note is of something that came from outside.
 fn is_outside(note: &Note) -> bool
     ensures { result ≡ is_outside note.now }
 {
@@ -117,14 +116,14 @@ fn is_outside(note: &Note) -> bool
     }
 }
 
-/// With these notes of a turn, something came from outside in it.
+/// Whether something came from outside in a turn with these notes.
 pub fn comes_from_outside(notes: &[Note]) -> bool
     ensures { result ≡ list_any is_outside notes.now }
 {
     notes.iter().any(is_outside)
 }
 
-// The column that begins at a cell becomes the one from another cell on and the next one behind it.
+// Makes the column that begins at a cell from the one that begins at another cell and the next one.
 fn join_columns(cells: &mut [Cell], at: usize, from: usize, tasks: usize)
     requires order { at ≤ from }
     requires room { from + tasks + tasks ≤ length cells.old }
@@ -137,7 +136,7 @@ fn join_columns(cells: &mut [Cell], at: usize, from: usize, tasks: usize)
     }
 }
 
-// No turns from a cell on.
+// Empties the cells from one on.
 fn clear(cells: &mut [Cell], from: usize)
     ensures as_many { length cells.new ≡ length cells.old }
     ensures before { (j : ℕ) (d : ACell) → j < from →
@@ -150,7 +149,7 @@ fn clear(cells: &mut [Cell], from: usize)
     }
 }
 
-// Neighbouring columns become one, in the first half of the memory.
+// Makes one column of each two neighbours, in the first half of the memory.
 fn join_all(cells: &mut [Cell], tasks: usize)
     requires room { length cells.old ≡ most_columns * tasks }
     ensures as_many { length cells.new ≡ length cells.old }
@@ -164,7 +163,7 @@ fn join_all(cells: &mut [Cell], tasks: usize)
     }
 }
 
-/// Neighbouring columns become one, and behind them there are no turns.
+/// Makes one column of each two neighbours. The columns after them are empty.
 pub fn halve(cells: &mut [Cell], tasks: usize)
     requires room { length cells.old ≡ most_columns * tasks }
     ensures as_many { length cells.new ≡ length cells.old }
@@ -179,7 +178,7 @@ pub fn halve(cells: &mut [Cell], tasks: usize)
     clear(cells, MOST_COLUMNS / 2 * tasks);
 }
 
-/// The same of the numbers of turns in which something came from outside.
+/// The same for the numbers of turns in which something came from outside.
 pub fn halve_outside(outside: &mut [u32])
     requires room { length outside.old ≡ most_columns }
     ensures as_many { length outside.new ≡ length outside.old }

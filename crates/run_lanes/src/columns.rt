@@ -1,5 +1,5 @@
-//! What each task does in each column of turns (docs/FORMATS.md, Picture). Memory is taken once:
-//! where the 1,201st column would begin, neighbouring columns become one, in place.
+//! What each task does in each column of turns (docs/FORMATS.md, Picture). Memory is allocated
+//! once. When the 1,201st column would begin, each two neighbours become one column, in place.
 ghost use Rattle.std.specs.Prelude.{◌≡◌, ◌≤◌, ◌<◌, ◌*◌, vec_len};
 
 use crate::activity::Activity;
@@ -8,7 +8,7 @@ use kernel_abi::Note;
 use lane_picture::Cell;
 use std::alloc::{AllocError, Global};
 
-/// The cells of so many tasks in each column, and in how many of its turns something came from
+/// The cells of all tasks in each column, and in how many turns of each column something came from
 /// outside.
 #[derive(Drop)]
 pub struct Columns {
@@ -34,11 +34,11 @@ impl Columns {
     ghost use Rattle.run_lanes.specs.Counted.{Changed, both, turned};
     ghost use Rattle.run_lanes.specs.Words.{TurnSight};
 
-    /// Before the first turn, of so many tasks.
+    /// The columns before the first turn, for this many tasks.
     ///
     /// # Errors
     ///
-    /// Only want of memory.
+    /// Only if memory runs out.
     pub fn open(alloc: Global, tasks: usize) -> Result<Columns, AllocError>
         requires { tasks ≤ 65536 }
         ensures tasks { IfOk result (λ c. c.tasks ≡ tasks) }
@@ -56,7 +56,7 @@ impl Columns {
         })
     }
 
-    // Where all columns have their turns, neighbours become one.
+    // Makes one column of each two neighbours, if all columns are full.
     fn make_room(&mut self)
         ensures free { self.new.column < 1200 }
         ensures tasks { self.new.tasks ≡ self.old.tasks }
@@ -72,7 +72,7 @@ impl Columns {
         }
     }
 
-    // The cells of a turn more.
+    // Adds a turn to the cells.
     fn add_cells(&mut self, words: &[Activity], notes: &[Note])
         requires free { self.old.column < 1200 }
         ensures tasks { self.new.tasks ≡ self.old.tasks }
@@ -92,7 +92,7 @@ impl Columns {
         );
     }
 
-    // Whether something came from outside in it.
+    // Counts the turn if something came from outside in it.
     fn add_outside(&mut self, notes: &[Note])
         requires free { self.old.column < 1200 }
         ensures tasks { self.new.tasks ≡ self.old.tasks }
@@ -112,7 +112,7 @@ impl Columns {
         }
     }
 
-    // The place of the turn behind it.
+    // Moves on to the place of the next turn.
     fn advance(&mut self)
         requires free { self.old.column < 1200 }
         ensures tasks { self.new.tasks ≡ self.old.tasks }
@@ -130,7 +130,7 @@ impl Columns {
         }
     }
 
-    /// A turn more, with what each task does in it and the notes of it.
+    /// Adds a turn, with what each task does in it and its notes.
     pub fn add(&mut self, words: &[Activity], notes: &[Note])
         ensures tasks { self.new.tasks ≡ self.old.tasks }
         ensures added { (turn : ℕ) (turns : List TurnSight) → length turns < 1000000000 →
@@ -160,7 +160,7 @@ impl Columns {
         }
     }
 
-    /// The cells of the columns in use, one column behind the other.
+    /// The cells of the columns in use, column after column.
     pub fn all_cells(&self) -> &[Cell]
         ensures { (turns : List TurnSight) → Columned self.now (length turns) turns →
             result.now ≡ cells self.now.tasks turns }

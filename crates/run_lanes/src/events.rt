@@ -1,4 +1,4 @@
-//! What befell tasks, in words (docs/FORMATS.md, Picture).
+//! What happened to tasks, in words (docs/FORMATS.md, Picture).
 ghost use Rattle.std.specs.Prelude.{◌≡◌, ◌++◌, [], ◌∷◌, ℕ, List, IfOk, codes, decimal, filter, map, option_to_list, string_bytes, vec_capacity};
 ghost use Rattle.run_lanes.specs.First.{IsFirst};
 ghost use Rattle.run_lanes.specs.Names.{fault_name};
@@ -21,7 +21,7 @@ fn event_of(turn: u32, note: &Note) -> Option<(u32, Note)>
     }
 }
 
-/// A turn more, with the notes of it.
+/// Adds a turn's faults and births.
 pub fn add_events(turn: u32, notes: &[Note], events: &mut First<(u32, Note)>)
     ensures { (most : ℕ) (xs : List TurnNote) →
         IsFirst most events.old.kept.items (vec_capacity events.old.kept) events.old.all xs →
@@ -33,7 +33,7 @@ pub fn add_events(turn: u32, notes: &[Note], events: &mut First<(u32, Note)>)
     }
 }
 
-// The name of a task; past the last one none.
+// The name of a task; past the last one it is empty.
 fn name_of(names: &[String], task: u16) -> &str
     ensures { result.now ≡ name_of (map string_bytes names.now) task }
 {
@@ -45,7 +45,7 @@ fn name_of(names: &[String], task: u16) -> &str
     }
 }
 
-// What happened to a task of that name in a turn.
+// What happened in a turn to the task with this name.
 fn told(alloc: Global, turn: u32, name: &str, what: &str) -> Result<String, AllocError>
     ensures { IfOk result (λ s. string_bytes s ≡ codes "turn " ++ decimal turn ++ codes ": "
         ++ name.now ++ what.now) }
@@ -70,7 +70,7 @@ fn push_born(generation: u8, line: &mut Line)
     push_decimal(line, u64::from(generation));
 }
 
-// What is told of a note of a turn.
+// The text of a note of a turn.
 #[tactic(auto, unfolding(crate::specs::Told::event_text))]
 fn event_text(alloc: Global, names: &[String], turn: u32, note: &Note) -> Result<String, AllocError>
     ensures { IfOk result (λ s. string_bytes s ≡ event_text (map string_bytes names.now)
@@ -90,11 +90,11 @@ fn event_text(alloc: Global, names: &[String], turn: u32, note: &Note) -> Result
     }
 }
 
-/// What is told of events.
+/// The texts of events.
 ///
 /// # Errors
 ///
-/// Only want of memory.
+/// Only if memory runs out.
 pub fn event_texts(
     alloc: Global,
     names: &[String],

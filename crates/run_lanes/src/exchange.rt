@@ -1,5 +1,5 @@
-//! The calls of each task as turns are seen, and the first arrows between lanes. Memory is taken
-//! before the first turn.
+//! The calls of each task as turns are seen, and the first arrows between lanes. All memory is
+//! allocated before the first turn.
 ghost use Rattle.std.specs.Prelude.{◌≡◌, ◌≤◌, vec_len};
 
 use crate::calls::{NO_CALLS, arrow_of, renew};
@@ -8,7 +8,7 @@ use kernel_abi::Note;
 use lane_picture::{Arrow, TaskCalls};
 use std::alloc::{AllocError, Global};
 
-// More are not drawn.
+// No more arrows than these are drawn.
 const MOST_ARROWS: usize = 300;
 
 /// The calls of each task, and the arrows of all.
@@ -26,11 +26,11 @@ impl Exchange {
     ghost use Rattle.run_lanes.specs.First.{IsFirst};
     ghost use Rattle.run_lanes.specs.Told.{arrows_of, arrows_of_notes, calls_after, calls_at_end_of, no_calls_of};
 
-    /// Before the first turn, of so many tasks.
+    /// The calls and arrows before the first turn, for this many tasks.
     ///
     /// # Errors
     ///
-    /// Only want of memory.
+    /// Only if memory runs out.
     pub fn open(alloc: Global, tasks: usize) -> Result<Exchange, AllocError>
         requires { tasks ≤ 65536 }
         ensures calls { IfOk result (λ e. e.calls.items ≡ no_calls_of tasks) }
@@ -42,7 +42,7 @@ impl Exchange {
         Ok(Exchange { calls, arrows })
     }
 
-    // A note of a turn.
+    // Takes in a note of a turn.
     fn hear(&mut self, turn: u32, note: &Note)
         ensures calls { self.new.calls.items ≡ calls_after turn self.old.calls.items note.now }
         ensures arrows { (most : ℕ) (xs : List AnArrow) →
@@ -56,7 +56,7 @@ impl Exchange {
         renew(turn, note, &mut self.calls);
     }
 
-    /// A turn more, with the notes of it.
+    /// Takes in a turn, with its notes.
     pub fn add(&mut self, turn: u32, notes: &[Note])
         ensures calls { self.new.calls.items ≡ calls_at_end_of turn self.old.calls.items notes.now }
         ensures arrows { (most : ℕ) (xs : List AnArrow) →

@@ -1,10 +1,11 @@
-//! The first ones of what comes one by one, and how many came. Memory is taken before.
+//! The first of several values that come one after another, and how many came. All memory is
+//! allocated beforehand.
 ghost use Rattle.std.specs.Prelude.{ℕ, List, [], ◌∷◌, ◌++◌, IfOk, option_to_list, vec_capacity};
 ghost use Rattle.run_lanes.specs.First.{IsFirst};
 
 use std::alloc::{AllocError, Global};
 
-/// The first ones, and how many came, as far as a number of 64 bits says it.
+/// The first values, and how many came, counted up to 2^64 - 1.
 #[derive(Drop)]
 pub struct First<T> {
     pub kept: Vec<T>,
@@ -12,11 +13,11 @@ pub struct First<T> {
 }
 
 impl<T: Drop> First<T> {
-    /// Nothing yet, with memory for so many.
+    /// No values yet, with memory for this many.
     ///
     /// # Errors
     ///
-    /// Only want of memory.
+    /// Only if memory runs out.
     pub fn open(alloc: Global, most: usize) -> Result<First<T>, AllocError>
         ensures { IfOk result (λ f. IsFirst most f.kept.items (vec_capacity f.kept) f.all []) }
     {
@@ -24,7 +25,7 @@ impl<T: Drop> First<T> {
         Ok(First { kept, all: 0 })
     }
 
-    /// One more. Where there is no memory for it, it is only counted.
+    /// Takes one more value. If there is no memory left for it, it is only counted.
     pub fn push(&mut self, value: T)
         ensures { (most : ℕ) (xs : List T) →
             IsFirst most self.old.kept.items (vec_capacity self.old.kept) self.old.all xs →
@@ -37,7 +38,7 @@ impl<T: Drop> First<T> {
         }
     }
 
-    /// One more, if there is one.
+    /// Takes one more value, if there is one.
     pub fn push_some(&mut self, value: Option<T>)
         ensures { (most : ℕ) (xs : List T) →
             IsFirst most self.old.kept.items (vec_capacity self.old.kept) self.old.all xs →

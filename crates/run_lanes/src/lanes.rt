@@ -1,5 +1,5 @@
-//! What is kept of the turns so far: of each task what it has done and since when, and the call
-//! that it offered last.
+//! What is kept of the turns so far: for each task, what it has been doing and since when, and the
+//! call that it offered last.
 ghost use Rattle.std.specs.Prelude.{◌≡◌, IfOk};
 ghost use Rattle.run_lanes.specs.Timeline.{all_renewed, client_from, kept_none, is_of_call, offers_after, renewed, server_in, server_thread_of, word_at};
 
@@ -7,7 +7,7 @@ use crate::activity::Activity;
 use kernel_abi::Note;
 use std::alloc::{AllocError, Global};
 
-/// What a task has done since a turn.
+/// What a task has been doing since a turn.
 #[derive(Clone, Copy)]
 pub struct LaneStretch {
     pub word: Activity,
@@ -21,7 +21,7 @@ pub struct Offer {
     pub server: u16,
 }
 
-/// A place for each task, made once for all turns.
+/// A place for each task. They are made once, for all turns.
 #[derive(Drop)]
 pub struct Lanes {
     pub stretches: Vec<LaneStretch>,
@@ -31,11 +31,11 @@ pub struct Lanes {
 impl Lanes {
     ghost use Rattle.run_lanes.specs.Kept.{kept_of};
 
-    /// Before the first turn, of so many tasks.
+    /// The lanes before the first turn, for this many tasks.
     ///
     /// # Errors
     ///
-    /// Only want of memory.
+    /// Only if memory runs out.
     pub fn open(alloc: Global, tasks: usize, turn: u32) -> Result<Lanes, AllocError>
         ensures { IfOk result (λ l. kept_of l ≡ kept_none tasks turn) }
     {
@@ -50,7 +50,7 @@ impl Lanes {
 }
 
 impl LaneStretch {
-    /// What a task has done after a turn in which it did this.
+    /// What a task has been doing, after a turn in which it did this.
     pub fn renewed(&self, turn: u32, word: Activity) -> LaneStretch
         ensures { result ≡ renewed turn self.now word }
     {
@@ -62,7 +62,7 @@ impl LaneStretch {
     }
 }
 
-/// What a task does, where these are the words of all; past their end it is ready.
+/// What a task does, if these are the activities of all tasks; past their end it is ready.
 pub fn word_at(words: &[Activity], i: usize) -> Activity
     ensures { result ≡ word_at words.now i }
 {
@@ -73,7 +73,7 @@ pub fn word_at(words: &[Activity], i: usize) -> Activity
     }
 }
 
-/// What the tasks have done after a turn in which they did this.
+/// Brings what the tasks have been doing up to date with a turn in which they did this.
 pub fn renew_all(turn: u32, words: &[Activity], stretches: &mut [LaneStretch])
     ensures { stretches.new ≡ all_renewed turn stretches.old words.now }
 {
@@ -82,7 +82,7 @@ pub fn renew_all(turn: u32, words: &[Activity], stretches: &mut [LaneStretch])
     }
 }
 
-/// What the tasks offered last, after a note.
+/// Brings the calls that the tasks offered last up to date with a note.
 pub fn hear(note: &Note, offers: &mut [Option<Offer>])
     ensures { offers.new ≡ offers_after offers.old note.now }
 {
@@ -104,7 +104,8 @@ pub fn hear(note: &Note, offers: &mut [Option<Offer>])
     }
 }
 
-/// The thread of the client of a call: the first task that offered it last, else 0.
+/// The thread of the client of a call: that of the first task that offered it last; 0 if there is
+/// none.
 pub fn client_thread(offers: &[Option<Offer>], call: u32) -> u64
     ensures { result ≡ client_from call 0 offers.now }
 {
@@ -116,7 +117,7 @@ pub fn client_thread(offers: &[Option<Offer>], call: u32) -> u64
     0
 }
 
-/// The thread of its server.
+/// The thread of the call's server.
 pub fn server_thread(offers: &[Option<Offer>], call: u32) -> u64
     ensures { result ≡ server_in call offers.now }
 {

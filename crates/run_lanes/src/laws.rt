@@ -1,4 +1,4 @@
-//! What the stretches of a task are, and the columns of a picture. Nothing runs here.
+//! What the stretches of a task are, and what the columns of a picture are. Nothing runs here.
 ghost use Rattle.std.specs.Prelude.{◌≡◌, ◌≤◌, ◌<◌, ◌⊎◌, ◌*◌, ℕ, List, length, sum};
 ghost use Rattle.std.specs.List.{flat_map, range_with_len};
 ghost use Rattle.run_lanes.specs.Columns.{cell_of, column, column_turns, columns, most_columns};
@@ -6,9 +6,9 @@ ghost use Rattle.run_lanes.specs.Stretches.{Alternate, laid_out, stretches, told
 ghost use Rattle.run_lanes.specs.Timeline.{nothing_yet};
 ghost use Rattle.run_lanes.specs.Words.{TurnSight};
 
-/// The stretches of a task tile the turns: one behind the other they are what it does, turn by
-/// turn, so they have as many turns, and two neighbours have different words. A timeline tells just
-/// these of it. (docs/FORMATS.md, Timeline.)
+/// The stretches of a task tile the turns. One after another they are what the task does, turn by
+/// turn. So they have as many turns, and two neighbours have different activities. A timeline has
+/// exactly these stretches of it. (docs/FORMATS.md, Timeline.)
 pub fn stretches_tile_the_turns()
     ensures tile { (i : ℕ) (turns : List TurnSight) →
         laid_out (stretches (words_of i turns)) ≡ words_of i turns }
@@ -19,9 +19,10 @@ pub fn stretches_tile_the_turns()
         told turn (nothing_yet turn) (words_of i turns) ≡ stretches (words_of i turns) }
 {}
 
-/// The columns of a picture tile the turns: one behind the other they are the turns, at most 1,200,
-/// of as many turns each as the least power of two with which they suffice; and in each of them the
-/// words of a task sum up to its turns. (docs/FORMATS.md, Picture.)
+/// The columns of a picture tile the turns. One after another they are the turns, and there are at
+/// most 1,200 of them. The number of turns in a column is the least power of two with which these
+/// suffice. In each column the counts of a task's activities add up to the turns of the column.
+/// (docs/FORMATS.md, Picture.)
 pub fn columns_tile_the_turns()
     ensures tile { (turns : List TurnSight) →
         flat_map (column turns) (range_with_len 0 (columns (length turns))) ≡ turns }

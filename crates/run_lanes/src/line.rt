@@ -1,5 +1,5 @@
-//! Events of a timeline (docs/FORMATS.md, Timeline), each a line in a buffer of 160 bytes that is
-//! empty before. It begins with the `,` and the LF that end the line before it.
+//! Events of a timeline (docs/FORMATS.md, Timeline). Each is a line in a buffer of 160 bytes, which
+//! is empty before. It begins with the `,` and the LF that end the line before it.
 ghost use Rattle.std.specs.Prelude.{◌≡◌, ◌≤◌, ◌+◌, ◌++◌, ◌<◌, [], length, codes};
 ghost use Rattle.arrayvec.specs.ArrayString.{array_string_len};
 ghost use Rattle.trace_text.specs.Text.{fed_name, handled_name};
@@ -28,7 +28,7 @@ fn push_place(thread: u64, turn: u32, out: &mut Line)
     out.push_str("}");
 }
 
-/// A task does the same for so many turns from one on.
+/// A task does the same for this many turns, from a turn on.
 #[tactic(auto, unfolding(crate::specs::Timeline::stretch_text))]
 pub fn stretch_line(thread: u64, word: Activity, turns: u32, from: u32, out: &mut Line)
     requires { out.old.bytes ≡ [] }
@@ -55,7 +55,7 @@ pub fn order_line(thread: u64, out: &mut Line)
     out.push_str("}");
 }
 
-// The front of what happens at once, up to its name.
+// The beginning of an event of one moment, up to its name.
 fn begin_instant(out: &mut Line)
     requires { out.old.bytes ≡ [] }
     ensures bytes { out.new.bytes ≡ codes ",\n{\"name\":\"" }
@@ -64,7 +64,7 @@ fn begin_instant(out: &mut Line)
     out.push_str(",\n{\"name\":\"");
 }
 
-// What stands behind its name.
+// What follows the name of such an event.
 fn end_instant(thread: u64, turn: u32, out: &mut Line)
     requires { array_string_len out.old + 80 ≤ 160 }
     ensures { out.new.bytes ≡ out.old.bytes ++ codes "\",\"ph\":\"i\",\"pid\":0,\"s\":\"t\""
@@ -97,7 +97,7 @@ fn handled_name(handled: Handled) -> &'static str
     }
 }
 
-// What came of a byte for a device.
+// What happened to a byte for a device.
 fn fed_name(fed: Option<Fed>) -> &'static str
     ensures name { result.now ≡ fed_name fed }
     ensures short { length result.now ≤ 6 }
@@ -199,7 +199,7 @@ fn restart_line(turn: u32, task: u16, generation: u8, out: &mut Line)
     end_instant(thread_of(task), turn, out);
 }
 
-// An arrow of a call, with what stands before its category, and its phase.
+// An arrow of a call, with what comes before its category, and its phase.
 #[tactic(auto, unfolding(crate::specs::Timeline::arrow_text))]
 fn arrow_line(head: &str, call: u32, phase: &str, thread: u64, turn: u32, out: &mut Line)
     requires head { length head.now ≤ 9 }
@@ -217,7 +217,7 @@ fn arrow_line(head: &str, call: u32, phase: &str, thread: u64, turn: u32, out: &
     push_place(thread, turn, out);
 }
 
-/// What is told of a note, if anything is, where these are the calls that the tasks offered last.
+/// What is written of a note, if anything is, when the tasks offered these calls last.
 pub fn note_line(offers: &[Option<Offer>], turn: u32, note: &Note, out: &mut Line)
     requires { out.old.bytes ≡ [] }
     ensures { out.new.bytes ≡ note_text offers.now turn note.now }
@@ -241,7 +241,7 @@ pub fn note_line(offers: &[Option<Offer>], turn: u32, note: &Note, out: &mut Lin
             let thread = client_thread(offers, *call);
             arrow_line("\"bp\":\"e\",", *call, "f", thread, turn, out);
         }
-        // nothing to be seen
+        // these do not show in a timeline
         Note::Ret { .. } | Note::Listen { .. } | Note::Borrow { .. } => {}
         Note::IrqStatus { .. } | Note::Find { .. } => {}
         Note::Insn { .. } | Note::Idle | Note::Low { .. } | Note::High { .. } => {}

@@ -101,7 +101,7 @@ fn unaligned_name(number: u32) -> Option<&'static str>
     }
 }
 
-/// A system call by its name, or by its number where it has no name.
+/// A system call by its name, or by its number if it has no name.
 #[tactic(auto, unfolding(crate::specs::Names::syscall_name))]
 pub fn push_call(number: u32, out: &mut Line)
     requires room { array_string_len out.old + 60 ≤ 160 }
@@ -191,7 +191,7 @@ fn push_named(word: &str, name: &str, x: u32, out: &mut Line)
     push_plain(name, x, out);
 }
 
-// A fault by a server, with the reason and the server's id.
+// A fault that a server made, with the reason and the server's id.
 fn push_reply_fault(name: Option<&'static str>, fault: &Fault, out: &mut Line)
     requires short { IfSome name (λ name. length name.now ≤ 19) }
     requires room { array_string_len out.old + 60 ≤ 160 }
@@ -226,7 +226,7 @@ fn push_panic(r4: u32, r5: u32, out: &mut Line)
     push_spaced_hex(out, r5);
 }
 
-/// A fault in words, or by its numbers where one of them has no name.
+/// A fault in words, or by its numbers if one of them has no name.
 #[tactic(auto, unfolding(crate::specs::Names::fault_name, crate::specs::Names::fault_text))]
 pub fn push_fault(fault: &Fault, out: &mut Line)
     requires room { array_string_len out.old + 60 ≤ 160 }

@@ -20,7 +20,7 @@ use board_run::end_name;
 use lane_picture::{LanePicture, draw};
 use std::alloc::{AllocError, Global};
 
-// Turns up to the end of the run, as a canvas sees them.
+// Makes the turns up to the end of the run, and shows them to a canvas.
 fn watch_all(board: &mut Board, limit: u32, words: &mut [Activity], canvas: &mut Canvas) -> End
     requires stood { StandsForSome (boxed shown) board.old }
     requires from { turns_of board.old ≤ limit }
@@ -43,8 +43,8 @@ fn watch_all(board: &mut Board, limit: u32, words: &mut [Activity], canvas: &mut
     }
 }
 
-// What a canvas has of turns, with how many there are, the time after them and their end, as a
-// picture.
+// The picture of what a canvas has of turns, with how many there are, the time after them and how
+// they end.
 fn paint(
     alloc: Global,
     title: &str,
@@ -80,13 +80,13 @@ fn paint(
     draw(alloc, &picture)
 }
 
-/// Turns up to the end of the run, and its picture as the bytes of an SVG file (docs/FORMATS.md,
-/// Picture), with this title and these names of tasks. Memory is taken before the first turn, in
-/// line with the tasks, and behind the last one.
+/// Makes the turns up to the end of the run, and returns its picture as the bytes of an SVG file
+/// (docs/FORMATS.md, Picture), with this title and these names of tasks. Memory is allocated before
+/// the first turn, in proportion to the number of tasks, and after the last turn.
 ///
 /// # Errors
 ///
-/// Only want of memory.
+/// Only if memory runs out.
 pub fn draw_run(
     alloc: Global,
     board: &mut Board,

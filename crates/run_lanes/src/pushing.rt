@@ -1,4 +1,4 @@
-//! Events go to a sink, one push each. After a failing push nothing more is pushed.
+//! Pushes events to a sink, one push each. After a failing push nothing more is pushed.
 ghost use Rattle.std.specs.Prelude.{◌≡◌, ◌<◌, ◌+◌, ◌++◌, ◌^◌, IfOk, length, string_bytes};
 ghost use Rattle.std.specs.List.{flat_map};
 ghost use Rattle.outside_io.specs.Outside.{HasCause, Pushes};
@@ -10,7 +10,7 @@ use crate::line::{Line, note_line, order_line, stretch_line};
 use kernel_abi::Note;
 use outside_io::{Failed, Sink};
 
-// A stretch of a task that ends before a turn, unless it has no turn.
+// Pushes a stretch of a task that ends before a turn, unless it has no turn.
 fn push_ended<S: Sink>(turn: u32, i: usize, stretch: LaneStretch, out: &mut S) -> Result<(), Failed>
     requires few { i + 1 < 2 ^ 64 }
     ensures bytes { Pushes (S.seen out.old).written (S.seen out.new).written
@@ -26,7 +26,7 @@ fn push_ended<S: Sink>(turn: u32, i: usize, stretch: LaneStretch, out: &mut S) -
     out.push(line.as_str().as_bytes())
 }
 
-// The same where the task does something else in that turn.
+// The same, if the task does something else in that turn.
 fn push_if_over<S: Sink>(
     turn: u32,
     i: usize,
@@ -45,7 +45,7 @@ fn push_if_over<S: Sink>(
     push_ended(turn, i, stretch, out)
 }
 
-/// The stretches that are over where each task does this in a turn.
+/// Pushes the stretches that end, if the tasks do this in a turn.
 pub fn push_overs<S: Sink>(
     turn: u32,
     stretches: &[LaneStretch],
@@ -62,7 +62,7 @@ pub fn push_overs<S: Sink>(
     Ok(())
 }
 
-/// The stretches in which the tasks are, where the run ends before a turn.
+/// Pushes the stretches in which the tasks are, if the run ends before a turn.
 pub fn push_rests<S: Sink>(turn: u32, stretches: &[LaneStretch], out: &mut S) -> Result<(), Failed>
     ensures bytes { Pushes (S.seen out.old).written (S.seen out.new).written
         (rests_text turn stretches.now) result }
@@ -74,7 +74,7 @@ pub fn push_rests<S: Sink>(turn: u32, stretches: &[LaneStretch], out: &mut S) ->
     Ok(())
 }
 
-// What is told of a note, if anything is.
+// Pushes what is written of a note, if anything is.
 fn push_note<S: Sink>(
     turn: u32,
     note: &Note,
@@ -93,7 +93,8 @@ fn push_note<S: Sink>(
     out.push(line.as_str().as_bytes())
 }
 
-/// What is told of the notes of a turn, each of which is heard.
+/// Pushes what is written of the notes of a turn, and brings the calls that the tasks offered last
+/// up to date with each note.
 pub fn push_notes<S: Sink>(
     turn: u32,
     notes: &[Note],
@@ -112,7 +113,7 @@ pub fn push_notes<S: Sink>(
     Ok(())
 }
 
-// The place of a thread in the order of the threads.
+// Pushes the place of a thread in the order of the threads.
 fn push_order<S: Sink>(thread: usize, out: &mut S) -> Result<(), Failed>
     ensures bytes { Pushes (S.seen out.old).written (S.seen out.new).written (order_text thread)
         result }
@@ -123,7 +124,7 @@ fn push_order<S: Sink>(thread: usize, out: &mut S) -> Result<(), Failed>
     out.push(line.as_str().as_bytes())
 }
 
-// Of each of so many threads.
+// Pushes the places of this many threads.
 fn push_orders<S: Sink>(threads: usize, out: &mut S) -> Result<(), Failed>
     ensures bytes { Pushes (S.seen out.old).written (S.seen out.new).written (orders_text threads)
         result }
@@ -146,7 +147,7 @@ fn push_outside<S: Sink>(out: &mut S) -> Result<(), Failed>
     out.push(OUTSIDE.as_bytes())
 }
 
-// Lines that were made before.
+// Pushes lines that were made before.
 fn push_lines<S: Sink>(lines: &[String], out: &mut S) -> Result<(), Failed>
     ensures bytes { Pushes (S.seen out.old).written (S.seen out.new).written
         (flat_map string_bytes lines.now) result }
@@ -158,7 +159,7 @@ fn push_lines<S: Sink>(lines: &[String], out: &mut S) -> Result<(), Failed>
     Ok(())
 }
 
-/// What stands before the turns, with the lines that name the tasks.
+/// Pushes what comes before the turns, with the lines that name the tasks.
 pub fn push_head<S: Sink>(lines: &[String], out: &mut S) -> Result<(), Failed>
     ensures bytes { Pushes (S.seen out.old).written (S.seen out.new).written
         (outside_text ++ flat_map string_bytes lines.now ++ orders_text (length lines.now + 1))
@@ -170,7 +171,7 @@ pub fn push_head<S: Sink>(lines: &[String], out: &mut S) -> Result<(), Failed>
     push_orders(lines.len() + 1, out)
 }
 
-/// What stands behind them.
+/// Pushes what comes after the turns.
 #[tactic(auto, unfolding(crate::specs::Timeline::tail_text))]
 pub fn push_tail<S: Sink>(out: &mut S) -> Result<(), Failed>
     ensures bytes { Pushes (S.seen out.old).written (S.seen out.new).written tail_text result }

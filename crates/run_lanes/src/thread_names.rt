@@ -1,5 +1,5 @@
-//! The lines that name the tasks' threads. They are made before the run, since no memory is taken
-//! in it.
+//! The lines that name the tasks' threads. They are made before the run, because no memory is
+//! allocated during it.
 ghost use Rattle.std.specs.Prelude.{◌≡◌, ◌<◌, ◌+◌, ◌^◌, ◌++◌, IfOk, codes, length, map, string_bytes};
 ghost use Rattle.std.specs.List.{range_with_len};
 ghost use Rattle.serde_json.specs.View.{view};
@@ -44,7 +44,7 @@ fn name_line(alloc: Global, i: usize, name: &str) -> Result<String, AllocError>
 ///
 /// # Errors
 ///
-/// Only want of memory.
+/// Only if memory runs out.
 pub fn name_lines(alloc: Global, names: &[String]) -> Result<Vec<String>, AllocError>
     ensures { IfOk result (λ v. map string_bytes v.items ≡ map
         (name_text (map string_bytes names.now)) (range_with_len 0 (length names.now))) }

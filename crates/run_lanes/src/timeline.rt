@@ -26,7 +26,7 @@ use std::alloc::{AllocError, Global};
 /// Why a timeline was not written whole.
 #[derive(Clone, Copy, Debug, PartialEq, Eq)]
 pub enum TimelineFault {
-    /// There was no memory. Nothing was pushed, and no turn was made.
+    /// Memory ran out. Nothing was pushed, and no turn was made.
     Memory,
     /// A push failed.
     Failed,
@@ -48,7 +48,7 @@ impl From<Failed> for TimelineFault {
     }
 }
 
-/// A sink is given the stretches that are over in a turn, and then its notes.
+/// Pushes to a sink the stretches that end in a turn, and then the turn's notes.
 impl<S: Sink> Watcher<S> for Lanes {
     ghost saw = { λ l o turns k p. SeesText (kept_of l) (S.seen o) turns (kept_of k) (S.seen p) };
 
@@ -70,7 +70,7 @@ impl<S: Sink> Watcher<S> for Lanes {
     fn sees_in_parts() {}
 }
 
-// What stands behind the turns: the stretches in which the tasks are, and the end of the text.
+// Pushes what comes after the turns: the stretches in which the tasks are, and the end of the text.
 fn push_end<S: Sink>(turn: u32, lanes: &Lanes, out: &mut S) -> Result<(), Failed>
     ensures bytes { Pushes (S.seen out.old).written (S.seen out.new).written
         (rests_text turn lanes.now.stretches.items ++ tail_text) result }
@@ -80,7 +80,7 @@ fn push_end<S: Sink>(turn: u32, lanes: &Lanes, out: &mut S) -> Result<(), Failed
     push_tail(out)
 }
 
-// Turns up to the end of the run, with all that is told of them.
+// Makes the turns up to the end of the run, and pushes all that is written of them.
 fn draw<S: Sink>(
     board: &mut Board,
     limit: u32,
@@ -108,7 +108,7 @@ fn draw<S: Sink>(
     Ok(end)
 }
 
-// The same behind what stands before the turns.
+// The same, after what comes before the turns.
 fn draw_whole<S: Sink>(
     board: &mut Board,
     limit: u32,
@@ -137,14 +137,14 @@ fn draw_whole<S: Sink>(
     draw(board, limit, words, lanes, out)
 }
 
-/// Turns up to the end of the run, and its timeline (docs/FORMATS.md, Timeline), in which each task
-/// has one of the names: an event is a line, and a push. After a failing push nothing more is
-/// pushed, and no further turn is made.
+/// Makes the turns up to the end of the run, and pushes its timeline (docs/FORMATS.md, Timeline),
+/// in which the tasks have these names. Each event is a line, and one push. After a failing push
+/// nothing more is pushed, and no further turn is made.
 ///
 /// # Errors
 ///
-/// `Memory` where there was none for the names and for what is kept of each task: then nothing was
-/// pushed, and no turn was made. `Failed` only where a push failed.
+/// `Memory` if there is none for the names and for what is kept of each task. Then nothing was
+/// pushed, and no turn was made. `Failed` only if a push failed.
 pub fn write_timeline<S: Sink>(
     alloc: Global,
     board: &mut Board,
@@ -166,7 +166,7 @@ pub fn write_timeline<S: Sink>(
         IfOk result (λ _. Stands (boxed shown) x board.new (run Calls x (limit - s.turn) s).last) }
     ensures within { turns_of board.new ≤ limit }
 
-    // Where there was no memory, nothing happened.
+    // If memory ran out, nothing happened.
     ensures nothing { IfErr result (λ e. e ≡ fault.Memory → out.new ≡ out.old) }
     ensures nowhere { IfErr result (λ e. e ≡ fault.Memory → board.new ≡ board.old) }
     ensures later { (S.seen out.old).faults ≤ (S.seen out.new).faults }

@@ -1,4 +1,4 @@
-//! The loop over turns, each of which is seen with what every task does in it.
+//! The loop over turns. Each turn is seen, with what every task does in it.
 ghost use Rattle.std.specs.Prelude.{◌≡◌, ◌≤◌, ◌<◌, ◌+◌, ◌-◌, ℕ, List, ◌++◌, ◌∷◌, [], map, length, slice_index_or, if◌then◌else◌, IfOk, OnOk, OnErr, MatchResult};
 ghost use Rattle.std.specs.List.{range_with_len};
 ghost use Rattle.task_table.specs.model.State.{State};
@@ -21,16 +21,17 @@ use outside_io::Failed;
 
 /// What sees the turns of a run, and gives to `out` what it makes of them.
 ///
-/// An implementation says what it is by two relations: what becomes of it and of `out` as turns are
-/// seen, and what may become of them where that fails.
+/// An implementation has two relations: how it and `out` change as turns are seen, and how they may
+/// change if that fails.
 pub trait Watcher<O> {
-    /// From this watcher and output, all of these turns were seen, and they are then those.
+    /// All of these turns were seen. The first watcher and output are those before, the second ones
+    /// those after.
     ghost saw: { Self → O → List TurnSight → Self → O → Type 0 };
 
-    /// The seeing of these turns failed on the way.
+    /// These turns were being seen, and that failed.
     ghost broke: { Self → O → List TurnSight → Self → O → Type 0 };
 
-    /// A turn, with what each task does in it and the notes of it.
+    /// Sees a turn, with what each task does in it and its notes.
     fn see(
         &mut self,
         turn: u32,
@@ -47,8 +48,8 @@ pub trait Watcher<O> {
               notes = notes.now;
             } ∷ []) self.new out.new) };
 
-    /// Where nothing is seen, nothing changes, and turns may be seen in parts. A failure after some
-    /// is one of all. It does nothing, and is a law.
+    /// A law; the function does nothing. If nothing is seen, nothing changes, and turns may be seen
+    /// in parts. A failure after some turns is a failure of all of them.
     fn sees_in_parts()
         ensures nothing { (w : Self) (o : O) → saw w o [] w o }
         ensures parts { (u v w : Self) (o p q : O) (a b : List TurnSight) → saw u o a v p →
@@ -57,14 +58,14 @@ pub trait Watcher<O> {
             broke v p b w q → broke u o (a ++ b) w q };
 }
 
-/// What a task is between turns.
+/// What a task does between turns.
 fn waiting(task: &TaskView) -> Activity
     ensures { (s : State) (i : ℕ) → IsTask s i task.now → result ≡ waiting s i }
 {
     word_of(task.health, task.wait)
 }
 
-// What a task is between turns, by its index.
+// What a task does between turns, by its index.
 fn word_at(board: &Board, i: usize) -> Activity
     ensures { (x : Scenario) (s : State) → Stands (boxed shown) x board.now s → i < length s.tasks →
         result ≡ waiting s i }
@@ -75,7 +76,7 @@ fn word_at(board: &Board, i: usize) -> Activity
     }
 }
 
-// What each task is between turns, in the place of what stood in a list as long.
+// Writes what each task does between turns over a list of the same length.
 fn look(board: &Board, words: &mut [Activity])
     ensures len { length words.new ≡ length words.old }
     ensures words { (x : Scenario) (s : State) → Stands (boxed shown) x board.now s →
@@ -87,7 +88,7 @@ fn look(board: &Board, words: &mut [Activity])
     }
 }
 
-// Whose turn it was.
+// Marks the task whose turn it was.
 fn mark(turned: Turned, words: &mut [Activity])
     ensures len { length words.new ≡ length words.old }
     ensures marked { (k : ℕ) (d : Said) → k < length words.old →
@@ -105,12 +106,12 @@ fn mark(turned: Turned, words: &mut [Activity])
     }
 }
 
-/// Turns up to the end of the run, each of which is seen. The list has a word for each task. After
-/// a failure to see no further turn is made.
+/// Makes the turns up to the end of the run, and shows each to the watcher. The list has an
+/// activity for each task. After the watcher fails, no further turn is made.
 ///
 /// # Errors
 ///
-/// Only where the watcher failed.
+/// Only if the watcher failed.
 pub fn watch<O, W: Watcher<O>>(
     board: &mut Board,
     limit: u32,
@@ -132,7 +133,7 @@ pub fn watch<O, W: Watcher<O>>(
     ensures turns { (x : Scenario) (s : State) → Stands (boxed shown) x board.old s →
         OnOk result (turns_of board.new ≡ s.turn + length (sights x (limit - s.turn) s)) }
 
-    // Where the watcher failed, the turns so far were the first ones of the run.
+    // If the watcher failed, the turns so far were the first ones of the run.
     ensures broken { (x : Scenario) (s : State) → Stands (boxed shown) x board.old s →
         OnErr result (BreaksSeeing (Paired W.broke) x (limit - s.turn) s (watcher.old, out.old)
         (watcher.new, out.new)) }

@@ -1,5 +1,5 @@
-//! Stored runs in two parts: each is cut at five of its turns, its state is saved there, and what
-//! is told of the run that goes on from that state is compared with what the whole run tells from
+//! Stored runs in two parts. Each run is cut at five of its turns, and its state is saved there.
+//! What the run writes that goes on from that state is compared with what the whole run writes from
 //! that turn on.
 
 use crate::with_devices::with_two;
@@ -22,8 +22,8 @@ const CUT: [&str; 6] = [
 /// Room for an image, and for a state.
 const ROOM: usize = 1_000_000;
 
-/// A stored run: its files, an image of its own among them, its script, and what its words say
-/// behind these two.
+/// A stored run: its files, among them its image, its script, and what its words say after these
+/// two.
 #[derive(Clone, Copy)]
 struct Stored<'a> {
     parts: &'a [Part<'a>],
@@ -33,7 +33,7 @@ struct Stored<'a> {
     steps: u64,
 }
 
-/// What the program answers to a line of words.
+/// What the program writes for a line of words.
 fn text_of(
     alloc: Global,
     parts: &[Part<'_>],
@@ -78,7 +78,7 @@ fn is_rest(whole: &str, turn: u64, rest: &str) -> bool {
     left.next().is_none()
 }
 
-/// The turn of the state that stands under `cut.state`.
+/// The turn of the state in the file `cut.state`.
 fn turn_of(alloc: Global, files: &mut MemFiles) -> u64 {
     match read_all(alloc, files, "cut.state", ROOM) {
         Ok(bytes) => number_at(&bytes, 4),
@@ -86,7 +86,7 @@ fn turn_of(alloc: Global, files: &mut MemFiles) -> u64 {
     }
 }
 
-/// The number that four bytes from a place on spell, the lowest first.
+/// The number that four bytes from a place on spell, lowest byte first.
 fn number_at(bytes: &[u8], at: usize) -> u64 {
     let mut number = 0_u64;
     for byte in bytes.iter().skip(at).take(4).rev() {
@@ -95,7 +95,7 @@ fn number_at(bytes: &[u8], at: usize) -> u64 {
     number
 }
 
-/// Whether the run, cut after so many turns, goes on as the whole one.
+/// Whether the run, cut after this many turns, goes on as the whole run does.
 fn goes_on(
     alloc: Global,
     stored: &Stored<'_>,
@@ -124,7 +124,7 @@ fn goes_on(
     Ok(is_rest(whole, turn, rest.as_str()))
 }
 
-/// How many of five cuts of a run go on as the whole one.
+/// How many of five cuts of a run go on as the whole run does.
 fn count_cuts(alloc: Global, stored: &Stored<'_>, files: &mut MemFiles) -> Result<u64, AllocError> {
     let run = ["run", stored.image, stored.script, stored.rest];
     let whole = text_of(alloc, stored.parts, &run, files)?;
@@ -138,13 +138,13 @@ fn count_cuts(alloc: Global, stored: &Stored<'_>, files: &mut MemFiles) -> Resul
     Ok(agreed)
 }
 
-/// The number behind `--steps`.
+/// The number after `--steps`.
 fn steps_in(rest: &str) -> u64 {
     let (_, behind) = rest.split_once("--steps ").unwrap_or(("", ""));
     first_word(behind).parse::<u64>().unwrap_or(0)
 }
 
-/// The words of a run of an image or of an application, with a script, and what stands behind.
+/// The words of a run of an image or of an application, with a script, and what follows them.
 fn run_in(line: &str) -> Option<(&str, &str, &str, &str)> {
     let (command, line) = line.split_once(' ')?;
     let (subject, line) = line.split_once(' ')?;
@@ -155,7 +155,7 @@ fn run_in(line: &str) -> Option<(&str, &str, &str, &str)> {
     Some((command, subject, script, rest))
 }
 
-/// How many of five cuts of a case go on as the whole run, where it has one.
+/// How many of five cuts of a case go on as the whole run does, if the case has a run.
 fn count_case(alloc: Global, case: &str) -> Result<u64, AllocError> {
     let parts = parts_of(alloc, case.split_once("\n+ ").unwrap_or(("", "")).1)?;
     let Some((command, subject, script, rest)) = run_in(contents(&parts, "words").unwrap_or(""))
@@ -183,7 +183,7 @@ fn count_case(alloc: Global, case: &str) -> Result<u64, AllocError> {
     count_cuts(alloc, &stored, &mut files)
 }
 
-/// How many cuts of the cases of a file go on as the whole runs.
+/// How many cuts of the cases of a file go on as the whole runs do.
 fn compare_file(rt: &HostRuntime, path: &str) -> io::Result<()> {
     let text = fs::read_to_string(rt, path)?;
     let (_, cases) = text.trim_end().split_once("\n= ").unwrap_or(("", ""));
@@ -196,7 +196,7 @@ fn compare_file(rt: &HostRuntime, path: &str) -> io::Result<()> {
     println!(rt; "{path}: {agreed} cuts go on")
 }
 
-/// Cuts the runs of the stored cases, and counts those that go on as the whole ones.
+/// Cuts the runs of the stored cases, and counts the cuts that go on as the whole runs do.
 pub fn compare_all(rt: &HostRuntime) -> io::Result<()> {
     for path in CUT {
         compare_file(rt, path)?;

@@ -1,13 +1,13 @@
-//! Runs each of the 65,536 halfwords as the first instruction of an image, one turn each, with
-//! `--all`, and counts how the runs end and which instructions are told. The numbers that it is to
-//! print come from a second, slow emulator in Python, whose reading of the rules is its own.
+//! Runs each of the 65,536 halfwords as the first instruction of an image, for one turn and with
+//! `--all`. Counts how the runs end and which instructions the traces have. The expected numbers
+//! come from a second, slow emulator in Python, written from its own reading of the rules.
 use crate::images;
 use outside_io::MemSink;
 use std::alloc::{AllocError, Global};
 use std::io;
 
-/// An image of one task (docs/FORMATS.md, Image), whose one region is 256 bytes of flash that it
-/// may read and execute: the halfword, then zeros.
+/// An image of one task (docs/FORMATS.md, Image) with one region, 256 bytes of flash that it may
+/// read and execute: the halfword, then zeros.
 fn image(halfword: u16) -> [u8; 300] {
     let head: [u8; 44] = [
         0x48, 0x42, 0x49, 0x31, 1, 0, 1, 0, 0, 1, 0, 0, 0, 0, 0, 0, 1, 0, 0, 0, 0, 1, 1, 0, 1, 0,
@@ -20,8 +20,8 @@ fn image(halfword: u16) -> [u8; 300] {
     bytes
 }
 
-/// How the runs so far ended, and their lines of instructions: how many, their bytes, and a
-/// checksum of all these in their order.
+/// How the runs so far ended, and their lines of instructions: how many there are, how many bytes
+/// they have, and a checksum of all of them in order.
 #[derive(Clone, Copy)]
 struct Counts {
     bound: u64,
@@ -32,7 +32,8 @@ struct Counts {
 }
 
 impl Counts {
-    /// Adds the ending that the status and the line tell together, and says whether it is one.
+    /// Adds the ending that the status and the line together mean, and returns whether they mean
+    /// one.
     fn add_ending(&mut self, status: u8, line: &str) -> bool {
         match (status, line) {
             (0, "end bound 1 0") => self.bound = self.bound.saturating_add(1),
@@ -51,8 +52,8 @@ impl Counts {
         }
     }
 
-    /// Adds what a run told: the instruction of turn 0, and the ending, which is the first line
-    /// after the notes of that turn. Says whether the ending is one that is counted.
+    /// Adds the text of a run: the instruction of turn 0, and the ending, which is the first line
+    /// after the notes of that turn. Returns whether the ending is one that is counted.
     fn add_run(&mut self, status: u8, text: &str) -> bool {
         for line in text.lines() {
             if line.starts_with("0 insn ") {
@@ -65,7 +66,7 @@ impl Counts {
     }
 }
 
-/// Adds the run of the halfword's image, and says whether its ending is one that is counted.
+/// Adds the run of the halfword's image, and returns whether its ending is one that is counted.
 fn run(alloc: Global, halfword: u16, counts: &mut Counts) -> Result<bool, AllocError> {
     let line = "run a.img e.txt --steps 1 --all";
     let mut out = MemSink::open(alloc, 1000, &[])?;

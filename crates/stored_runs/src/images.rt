@@ -1,6 +1,6 @@
-//! Runs of images with the empty script: of two that gcc compiled from C (data/crc32.c,
-//! data/bytecode.c), to the numbers of turns at which another emulator of the processor told the
-//! same registers and the same memory.
+//! Runs of two images with the empty script. gcc compiled them from C (data/crc32.c,
+//! data/bytecode.c). Each run has a number of turns after which another emulator of the processor
+//! had the same registers and the same memory.
 use crate::{hold, push_line};
 use outside_io::{MemFiles, MemSink};
 use std::alloc::{AllocError, Global};
@@ -13,7 +13,8 @@ const RUNS: [(&str, &str); 2] = [
     ("bytecode.img", "run a.img e.txt --steps 463331 --mem"),
 ];
 
-/// The status of a run of the image, which the line names `a.img`, with the empty script, `e.txt`.
+/// The status of a run of an image with the empty script. The line calls the image `a.img` and the
+/// script `e.txt`.
 pub(crate) fn run(
     alloc: Global,
     image: &[u8],
@@ -28,8 +29,8 @@ pub(crate) fn run(
     Ok(hubris_main(alloc, &words, &mut files, out))
 }
 
-/// Runs the image of a file, and writes what the program tells, and its status where it does not
-/// end well.
+/// Runs the image of a file, and writes what the program writes, and its status if it does not end
+/// well.
 fn run_file(rt: &HostRuntime, name: &str, line: &str) -> io::Result<()> {
     let image = fs::read(rt, name)?;
     let mut out = MemSink::open(rt.alloc(), 1_000_000, &[])?;

@@ -1,9 +1,9 @@
 //! A task that shares nothing, in surroundings drawn at random: other tasks, priorities and
-//! scripts. After as many turns of its own it has the same health, registers, flags and bytes in
-//! each.
+//! scripts. After the same number of own turns it has the same health, registers, flags and bytes
+//! in each.
 //!
-//! A case is one of `main`'s whose part `turns` has a line a run: the number of the task's own
-//! turns, and of all turns.
+//! A case is one of `main`'s. Its part `turns` has a line for each run: the number of the task's
+//! own turns, and the number of all turns.
 
 use crate::{Part, contents, files_of, first_line, parts_of, push_line, push_word};
 use outside_io::MemSink;
@@ -11,17 +11,17 @@ use std::alloc::{AllocError, Global};
 use std::{fs, io, str};
 use trace_cli::hubris_main;
 
-/// What stands before the first `end`, or the whole text.
+/// What comes before the first `end`, or the whole text.
 fn before<'a>(text: &'a str, end: &str) -> &'a str {
     text.split_once(end).unwrap_or((text, "")).0
 }
 
-/// What stands behind the first `front`, or nothing.
+/// What comes after the first `front`, or nothing.
 fn behind<'a>(text: &'a str, front: &str) -> &'a str {
     text.split_once(front).unwrap_or(("", "")).1
 }
 
-/// What the last lines of a run tell of task 1 and of nobody else: its health, its registers and
+/// What the last lines of a run say of task 1 and of nothing else: its health, its registers and
 /// flags, and its RAM.
 fn own_of(alloc: Global, text: &str) -> Result<String, AllocError> {
     let task = before(before(behind(text, "\ntask 1 "), "\ntask "), "\nmem ");
@@ -33,7 +33,7 @@ fn own_of(alloc: Global, text: &str) -> Result<String, AllocError> {
     Ok(own)
 }
 
-/// What task 1 has after so many turns, or nothing where they were not run.
+/// What task 1 has after this many turns, or nothing if they were not run.
 fn played(alloc: Global, parts: &[Part<'_>], turns: &str) -> Result<String, AllocError> {
     let mut words = Vec::new(alloc);
     push_line(&mut words, "go app.toml script.txt --mem --steps")?;
@@ -44,7 +44,8 @@ fn played(alloc: Global, parts: &[Part<'_>], turns: &str) -> Result<String, Allo
     own_of(alloc, str::from_utf8(out.text()).unwrap_or(""))
 }
 
-/// How many runs of a surrounding leave task 1 what those of the first one did, which are kept.
+/// How many runs of a case leave task 1 with what the runs of the first case left it. That is kept
+/// in `first`.
 fn count_alike(alloc: Global, case: &str, first: &mut Vec<String>) -> Result<u64, AllocError> {
     let parts = parts_of(alloc, behind(case, "\n+ "))?;
     let mut alike = 0_u64;

@@ -1,18 +1,26 @@
-//! Hands the program stored files, malformed and hostile ones among them, and counts the cases in
-//! which it answers what a second reading of the rules, in a language of its own, answers; then
-//! runs a task that shares nothing beside others, cuts runs in two, and runs two images compiled by
-//! gcc, and each halfword.
+//! Hands the program stored files, among them malformed and hostile ones. Counts the cases in which
+//! it answers what a second reading of the rules answers, which is written in another language.
+//! Then it runs a task that shares nothing beside others, cuts runs in two, and runs two images
+//! compiled by gcc and each halfword.
 //!
-//! A case begins with a line `= STATUS NAME`. Each of its parts begins with a line `+ KEY`:
-//! `words`, the command line after the program's name, or `each word`, the same with one word a
-//! line, or neither where not even the program's name is handed over; `failing calls` and `failing
-//! pushes`, the numbers of the reads and puts, and of the pushes, that fail; `hex NAME`, a file as
-//! bytes, where `00*9` is nine of one; `room NAME`, a file with room for so many bytes, and those
-//! that it holds; `player NAME` and `server NAME`, the source of a task that makes the calls of a
-//! table, and the table; `repeated NAME`, a file in which the lines between a line `< N` and a line
-//! `>` stand N times, `@` being the number of the time; `devices`, which devices are handed in;
-//! `left NAME`, the bytes that stand there in the end, `left text NAME` the same as lines and `left
-//! sum NAME` by their checksum; and any other key is the name of a file that stands there as it is.
+//! A case begins with a line `= STATUS NAME`. Each of its parts begins with a line `+ KEY`. The
+//! keys are:
+//!
+//! - `words`: the command line after the program's name; `each word`: the same with one word a
+//!   line. Without either, not even the program's name is handed over.
+//! - `failing calls` and `failing pushes`: the numbers of the reads and puts, and of the pushes,
+//!   that fail.
+//! - `hex NAME`: a file as bytes, where `00*9` is nine of one.
+//! - `room NAME`: a file with room for this many bytes, and the bytes that it holds.
+//! - `player NAME` and `server NAME`: the source of a task that makes the calls of a table, and the
+//!   table.
+//! - `repeated NAME`: a file in which the lines between a line `< N` and a line `>` are there N
+//!   times; `@` is the number of the time.
+//! - `devices`: which devices are handed in.
+//! - `left NAME`: the bytes of that file at the end; `left text NAME`: the same as lines; `left sum
+//!   NAME`: their checksum.
+//! - any other key: the name of a file with these contents.
+//!
 //! Last comes `text`, the lines that are wanted, or `sum`, the checksum of the text.
 #![tactic(auto)]
 
@@ -71,7 +79,7 @@ fn contents<'a>(parts: &[Part<'a>], key: &str) -> Option<&'a str> {
 fn is_wanted(parts: &[Part<'_>], text: &[u8]) -> bool {
     match (contents(parts, "text"), contents(parts, "sum")) {
         (Some(""), _) => text.is_empty(),
-        // the last line's end belongs to what parts the cases
+        // the end of the last line belongs to what separates the cases
         (Some(lines), _) => text.split_last() == Some((&b'\n', lines.as_bytes())),
         (None, Some(digits)) => u64::from_str_radix(digits.trim_end(), 16) == Ok(sum(text)),
         (None, None) => false,
@@ -124,7 +132,7 @@ fn numbers(alloc: Global, part: Option<&str>) -> Result<Vec<u64>, AllocError> {
     Ok(numbers)
 }
 
-/// Appends one byte, or of `00*9` nine.
+/// Appends one byte, or nine of it for `00*9`.
 fn push_run(bytes: &mut Vec<u8>, word: &str) -> Result<(), AllocError> {
     let (digits, count) = word.split_once('*').unwrap_or((word, "1"));
     let count = count.parse::<usize>().unwrap_or(0);
@@ -141,19 +149,19 @@ fn push_runs(bytes: &mut Vec<u8>, digits: &str) -> Result<(), AllocError> {
     Ok(())
 }
 
-/// How the contents of a file are told.
+/// In which form a part has the contents of a file.
 #[derive(Clone, Copy)]
 enum Form {
     AsItIs,
     Hex,
     Room,
-    /// with lines that are repeated
+    /// lines, some of them repeated
     Repeated,
-    /// a source of a task whose calls are a table: how it makes them
+    /// the source of a task whose calls are a table: how it makes them
     Calls(&'static str),
 }
 
-/// The keys of parts that tell no file, besides those of what is left.
+/// The keys of parts that are no files, apart from those of what is left.
 const NO_FILES: [&str; 8] = [
     "words",
     "each word",
@@ -165,7 +173,7 @@ const NO_FILES: [&str; 8] = [
     "sum",
 ];
 
-/// The form that the word before a file's name tells.
+/// The form that the word before a file's name means.
 fn form_of(word: &str) -> Form {
     match word {
         "hex" => Form::Hex,
@@ -177,7 +185,7 @@ fn form_of(word: &str) -> Form {
     }
 }
 
-/// How the part with the key tells a file, and the file's name, if it tells one.
+/// The form and the name of the file in the part with this key, if the part is a file.
 fn file_of(key: &str) -> Option<(Form, &str)> {
     if NO_FILES.contains(&key) || key.starts_with("left ") {
         return None;
@@ -208,7 +216,7 @@ fn push_contents(bytes: &mut Vec<u8>, form: Form, contents: &str) -> Result<(), 
     }
 }
 
-/// Holds a file under a name that holds none yet.
+/// Stores a file under a name that has none yet.
 fn hold(files: &mut MemFiles, name: &str, bytes: &[u8], room: usize) -> Result<(), AllocError> {
     if !files.is_held(name) && bytes.len() <= room {
         files.hold(name, bytes, room)?;
@@ -216,7 +224,7 @@ fn hold(files: &mut MemFiles, name: &str, bytes: &[u8], room: usize) -> Result<(
     Ok(())
 }
 
-/// Holds the file of a part, where the part tells one.
+/// Stores the file of a part, if the part is one.
 fn hold_part(alloc: Global, files: &mut MemFiles, part: Part<'_>) -> Result<(), AllocError> {
     let (key, contents) = part;
     let Some((form, name)) = file_of(key) else {
@@ -245,8 +253,8 @@ fn sink_of(alloc: Global, parts: &[Part<'_>]) -> Result<MemSink, AllocError> {
     MemSink::open(alloc, 1_000_000, &failing)
 }
 
-/// Whether bytes are those that are wanted: as the word before the name tells, by their checksum,
-/// as lines, or as digits.
+/// Whether bytes are the wanted ones. The word before the name says how these are given: by their
+/// checksum, as lines, or as digits.
 fn is_as_wanted(alloc: Global, word: &str, wanted: &str, found: &[u8]) -> Result<bool, AllocError> {
     match word {
         "sum" => Ok(u64::from_str_radix(wanted.trim_end(), 16) == Ok(sum(found))),
@@ -259,7 +267,7 @@ fn is_as_wanted(alloc: Global, word: &str, wanted: &str, found: &[u8]) -> Result
     }
 }
 
-/// Whether what is wanted, and no more, stands under the name.
+/// Whether the file of this name has exactly what is wanted.
 fn is_left(
     alloc: Global,
     files: &mut MemFiles,
@@ -273,7 +281,7 @@ fn is_left(
     }
 }
 
-/// Whether each file that the case names stands in the end as it wants.
+/// Whether each file that the case names is at the end as the case wants it.
 fn are_left(alloc: Global, files: &mut MemFiles, parts: &[Part<'_>]) -> Result<bool, AllocError> {
     for part in parts {
         if let Some(key) = part.0.strip_prefix("left ") {
@@ -285,8 +293,8 @@ fn are_left(alloc: Global, files: &mut MemFiles, parts: &[Part<'_>]) -> Result<b
     Ok(true)
 }
 
-/// Whether the program, handed the files and the output, answers with the status at the head and as
-/// the parts want.
+/// Whether the program, handed the files and the output, answers with the status at the head of the
+/// case and as its parts want.
 fn answers(
     alloc: Global,
     head: &str,
@@ -317,7 +325,7 @@ fn passes(alloc: Global, case: &str) -> Result<bool, AllocError> {
     answers(alloc, head, &parts, &mut files, &mut out)
 }
 
-/// Counts the cases that pass, and tells the others.
+/// Counts the cases that pass, and names the others.
 fn count_passing(rt: &HostRuntime, text: &str) -> io::Result<u64> {
     let Some((_, cases)) = text.trim_end().split_once("\n= ") else {
         return Ok(0);

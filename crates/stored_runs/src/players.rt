@@ -1,5 +1,5 @@
-//! Tasks whose calls are a table of eight words a call, for r4 to r11. Where the last word is 255,
-//! the table begins anew; where it is an address, the first four words are stored there.
+//! Tasks whose calls are a table, with eight words for each call, for r4 to r11. If the last word
+//! is 255, the table begins again. If it is an address, the first four words are stored there.
 
 /// How both begin: the words of a call.
 pub const FRONT: &str = "first:  adr r0, rows
@@ -20,8 +20,8 @@ pub const PLAYER: &str = "        svc #0
         b next
 ";
 
-/// The call of a server: whom it names is not the table's first word but the task whose message it
-/// received last.
+/// The call of a server. It names the task whose message it received last, not the table's first
+/// word.
 pub const SERVER: &str = "        cmp r1, #1
         beq take
         mov r4, r12

@@ -1,10 +1,10 @@
-//! Contents in which lines are repeated: those between a line `< N` and a line `>` stand there N
-//! times, `@` being the number of the time, from 0.
+//! Contents in which lines are repeated. Those between a line `< N` and a line `>` are there N
+//! times; `@` is the number of the time, from 0.
 
 use crate::first_line;
 use std::alloc::AllocError;
 
-/// Appends a piece of a line for each time, with the number between any two of them.
+/// Appends a piece of a line for each time, with the number between each two pieces.
 fn push_numbered(bytes: &mut Vec<u8>, lines: &str, number: u32) -> Result<(), AllocError> {
     let alloc = *bytes.allocator();
     let digits = format!(in alloc; "{number}")?;
@@ -18,7 +18,7 @@ fn push_numbered(bytes: &mut Vec<u8>, lines: &str, number: u32) -> Result<(), Al
     Ok(())
 }
 
-/// Appends lines as often as the first line tells, and what follows them.
+/// Appends lines as often as the first line says, and what follows them.
 fn push_block(bytes: &mut Vec<u8>, block: &str) -> Result<(), AllocError> {
     let (count, rest) = first_line(block);
     let (lines, after) = rest.split_once("\n>").unwrap_or((rest, ""));
@@ -28,7 +28,7 @@ fn push_block(bytes: &mut Vec<u8>, block: &str) -> Result<(), AllocError> {
     bytes.extend_from_slice(after.as_bytes())
 }
 
-/// Appends the contents that the text tells.
+/// Appends the contents that the text describes.
 pub fn push_repeated(bytes: &mut Vec<u8>, text: &str) -> Result<(), AllocError> {
     for (k, block) in text.split("\n< ").enumerate() {
         if k == 0 {

@@ -4,7 +4,7 @@ use outside_io::{MemFiles, MemSink};
 use std::alloc::{AllocError, Global};
 use trace_cli::hubris_main_with;
 
-/// With a console and a port, as `main` has them.
+/// Runs the program with a console and a port, as `main` does.
 pub fn with_two(
     alloc: Global,
     words: &[String],

@@ -1,4 +1,4 @@
--- What an answer of the program says of the words, of the files and of the sink.
+-- What an answer of the program says about the words, the files and the sink.
 use Rattle.std.specs.Prelude.{◌≡◌, ◌≢◌, ◌≤◌, ◌⊎◌, ℕ, false, List, [], ◌++◌, length, slice_index_or, Option, Some, None}
 use Rattle.std.specs.Io.KnownBytes.{Appends}
 use Rattle.kernel_abi.specs.Devices.{DeviceData}
@@ -19,21 +19,22 @@ use Rattle.trace_cli.specs.Sources.{File, MayBe, Are, MayBeRefused, Reaches, Tak
 use Rattle.trace_cli.specs.Verdict.{Verdict, usage, refused, refused_line, unread, unread_line, resumed, saved_bytes, run_of, rest_of_run, Does, IsVerdict}
 use Rattle.trace_cli.specs.Ready.{StartsWell, IsSpelled}
 
--- ## why a verdict was given on a job (the files: before and after the call; the devices: those of a run)
+-- ## why a job has a verdict (the files: before and after the call; the devices: those of a run)
 
--- the answers to the lines that came of the front of a file, where those are carried out over the run of a scenario
+-- the answers to the lines that came from the front of a file and were carried out over the run of a scenario
 pub record IsBegun (x : Scenario) (contents : Option (List ℕ)) (told : List ℕ) : Type 0 where
   pub front : List ℕ
   pub held : WhereSeen contents (IsFront front)
   pub is : told ≡ begun_text x opened front
 
--- What was told before a file could not be read, where the contents of the files before it are these: nothing, but where `live`
--- reads its third one the answers to the lines that came.
+-- What was written before a file could not be read, when the files before it have these contents. It is
+-- nothing, except for the third file of `live`: then it is the answers to the lines that came.
 abbrev pub WasTold : List DeviceData → Asked → (List ℕ → Option (List ℕ)) → List (List ℕ) → List ℕ → Type 0
 WasTold devices (live image script name) seen contents told = (told ≡ []) ⊎ ((length contents ≡ 2) × IsBegun (scenario_in devices contents) (seen name) told)
 WasTold devices job seen contents told = told ≡ []
 
--- each file before is accepted, and a read of this one failed, by the count and the name of the last failing call
+-- Each earlier file is accepted, and a read of this one failed. The count of failed reads says so, and the
+-- name of the last failing call.
 pub record IsUnread (devices : List DeviceData) (job : Asked) (before after : FilesSeen) (f : File) : Type 0 where
   pub contents : List (List ℕ)
   pub reached : Reaches (MayBe before.contents) devices job contents f
@@ -42,7 +43,8 @@ pub record IsUnread (devices : List DeviceData) (job : Asked) (before after : Fi
   pub told : List ℕ
   pub was_told : WasTold devices job before.contents contents told
 
--- each file before is accepted, and this one may hold contents that are refused so; where they are seen, it is those
+-- each earlier file is accepted, and this one may hold contents that are refused like this; if its contents
+-- are seen, they are refused like this
 pub record IsRefused (devices : List DeviceData) (job : Asked) (seen : List ℕ → Option (List ℕ)) (f : File) (why : Why) : Type 0 where
   pub contents : List (List ℕ)
   pub reached : Reaches (MayBe seen) devices job contents f
@@ -57,15 +59,15 @@ pub data JobReason (devices : List DeviceData) (job : Asked) (before after : Fil
   refuses : (f : File) (why : Why) → IsRefused devices job before.contents f why → v ≡ refused f.name why → JobReason devices job before after v
   does : (contents : List (List ℕ)) → IsAccepted devices job before.contents contents → Does devices job contents v → JobReason devices job before after v
 
--- ## and on words
+-- ## why words have a verdict
 
 pub data CommandReason (devices : List DeviceData) (words : List (List ℕ)) (before after : FilesSeen) (v : Verdict) : Type 0 where
   no_job : is_accepted words ≡ false → v ≡ usage → CommandReason devices words before after v
   of_job : (job : Asked) → job_in words ≡ Some job → JobReason devices job before after v → CommandReason devices words before after v
 
--- ## what became of a verdict
+-- ## what happened to a verdict
 
--- other names keep what is seen of them
+-- what is seen under all other names stays
 abbrev pub OthersStay : (List ℕ → Option (List ℕ)) → (List ℕ → Option (List ℕ)) → List ℕ → Type 0
 OthersStay seen seen' name = (other : List ℕ) → other ≢ name → seen' other ≡ seen other
 
@@ -79,28 +81,29 @@ abbrev pub HasSpoiled : (List ℕ → Option (List ℕ)) → (List ℕ → Optio
 HasSpoiled seen seen' None = ⊥
 HasSpoiled seen seen' (Some (name, bytes)) = WhereSeen (seen' name) (λ all. (seen name ≡ Some all) ⊎ IsFront all bytes) × OthersStay seen seen' name
 
--- nothing was pushed and nothing was put, for want of memory
+-- nothing was pushed and nothing was put, because memory ran out
 pub record IsShort (before after : FilesSeen) (w w' : SinkSeen) (r : ℕ) : Type 0 where
   pub status : r ≡ 5
   pub written : w'.written ≡ w.written
   pub faults : w'.faults ≡ w.faults
   pub files : after.contents ≡ before.contents
 
--- The file was put and the text pushed whole, under the verdict's status; or, under 4, a push failed after the file was put
--- and a front of the text pushed; or, under 4, the put failed and nothing was pushed; or memory is short.
+-- One of four: the file was put and the text pushed whole, under the verdict's status; the file was put, then
+-- a push failed and a front of the text was pushed, under status 4; the put failed and nothing was pushed,
+-- under status 4; or memory is short.
 pub data Tells (before after : FilesSeen) (w w' : SinkSeen) (v : Verdict) (r : ℕ) : Type 0 where
   whole : r ≡ v.status → HasPut before.contents after.contents v.put → Appends w.written w'.written v.text → Tells before after w w' v r
   cut : r ≡ 4 → Rose w.faults w'.faults → HasPut before.contents after.contents v.put → AppendsFront w.written w'.written v.text → Tells before after w w' v r
   spoiled : r ≡ 4 → Rose before.put_faults after.put_faults → HasSpoiled before.contents after.contents v.put → w'.written ≡ w.written → Tells before after w w' v r
   short : IsShort before after w w' r → Tells before after w w' v r
 
--- ## what an audit says of it
+-- ## what `audit` says of it
 
--- the status of a run that was told to its end
+-- the status of a run that was written to its end
 abbrev pub IsOfRun : ℕ → Type 0
 IsOfRun r = (r ≡ 0) ⊎ (r ≡ 6)
 
--- where `run` or `go` told a run to its end, an audit finds its text good (docs/FORMATS.md, Audit)
+-- if `run` or `go` wrote a run to its end, `audit` accepts its text (docs/FORMATS.md, Audit)
 abbrev pub TellsGood : Asked → Verdict → ℕ → Type 0
 TellsGood (run image script steps detail) v r = IsOfRun r → IsGoodText v.text
 TellsGood (go app script steps detail) v r = IsOfRun r → IsGoodText v.text
@@ -120,12 +123,12 @@ TellsGood (picture image script out steps names) v r = Unit {0}
 TellsGood (lcov app script out steps) v r = Unit {0}
 TellsGood (help about) v r = Unit {0}
 
--- where the words ask for a job
+-- the same for words, if they ask for a job
 abbrev pub TellsGoodIn : Option Asked → Verdict → ℕ → Type 0
 TellsGoodIn None v r = Unit {0}
 TellsGoodIn (Some job) v r = TellsGood job v r
 
--- ## the answer to a job, and to words: some verdict, for its reason, was told, or memory is short
+-- ## the answer to a job, and to words: a verdict with its reason was written, or memory is short
 
 abbrev pub AnswersJob : List DeviceData → Asked → FilesSeen → FilesSeen → SinkSeen → SinkSeen → ℕ → Type 0
 AnswersJob devices job before after w w' r = IsShort before after w w' r ⊎ ((v : Verdict) × JobReason devices job before after v × Tells before after w w' v r × TellsGood job v r)
@@ -135,8 +138,8 @@ Answers devices words before after w w' r = IsShort before after w w' r ⊎ ((v 
 
 -- ## by status
 
--- 0, 6, 7 and 8: the job was done, its file put and its text pushed whole, under the status of its verdict; an audit finds the
--- text of a run good
+-- 0, 6, 7 and 8: the job was done, its file put and its text pushed whole, under the status of its verdict;
+-- `audit` accepts the text of a run
 pub record HasDone (devices : List DeviceData) (words : List (List ℕ)) (before after : FilesSeen) (w w' : SinkSeen) (r : ℕ) : Type 0 where
   pub job : Asked
   pub command : job_in words ≡ Some job
@@ -152,7 +155,7 @@ pub record HasDone (devices : List DeviceData) (words : List (List ℕ)) (before
 abbrev pub IsDone : ℕ → Type 0
 IsDone r = (r ≡ 0) ⊎ ((r ≡ 6) ⊎ ((r ≡ 7) ⊎ (r ≡ 8)))
 
--- 1: the line of the file that is refused
+-- 1: the line for a file that is refused
 pub record HasRefused (devices : List DeviceData) (words : List (List ℕ)) (seen : List ℕ → Option (List ℕ)) (w w' : SinkSeen) : Type 0 where
   pub job : Asked
   pub command : job_in words ≡ Some job
@@ -161,7 +164,7 @@ pub record HasRefused (devices : List DeviceData) (words : List (List ℕ)) (see
   pub is : IsRefused devices job seen file why
   pub line : Appends w.written w'.written (refused_line file.name why.0 why.1)
 
--- 3: the line of the file that cannot be read, behind what was told before
+-- 3: the line for a file that cannot be read, after what was written before it
 pub record HasUnread (devices : List DeviceData) (words : List (List ℕ)) (before after : FilesSeen) (w w' : SinkSeen) : Type 0 where
   pub job : Asked
   pub command : job_in words ≡ Some job
@@ -169,8 +172,8 @@ pub record HasUnread (devices : List DeviceData) (words : List (List ℕ)) (befo
   pub is : IsUnread devices job before after file
   pub line : Appends w.written w'.written (is.told ++ unread_line file.name)
 
--- 4: the file was put, if there is one, and a front of the text that was to be told was pushed; or its put failed, and
--- nothing was pushed
+-- 4: the file was put, if there is one, and a front of the text was pushed; or its put failed, and nothing
+-- was pushed
 abbrev pub IsCut : FilesSeen → FilesSeen → SinkSeen → SinkSeen → Verdict → Type 0
 IsCut before after w w' v =
     (Rose w.faults w'.faults × HasPut before.contents after.contents v.put × AppendsFront w.written w'.written v.text)
@@ -181,9 +184,10 @@ pub record HasFront (devices : List DeviceData) (words : List (List ℕ)) (befor
   pub reason : CommandReason devices words before after verdict
   pub front : IsCut before after w w' verdict
 
--- ## where the contents are seen
+-- ## when the contents are seen
 
--- the verdict on them, or a read failed and that is seen
+-- A read failed, and the line for that file was written. `Answered`: this verdict was written, or a read failed
+-- like that.
 pub record HasUnreadSeen (devices : List DeviceData) (words : List (List ℕ)) (before after : FilesSeen) (w w' : SinkSeen) (r : ℕ) : Type 0 where
   pub job : Asked
   pub command : job_in words ≡ Some job
@@ -194,33 +198,35 @@ pub record HasUnreadSeen (devices : List DeviceData) (words : List (List ℕ)) (
 abbrev pub Answered : List DeviceData → List (List ℕ) → FilesSeen → FilesSeen → SinkSeen → SinkSeen → Verdict → ℕ → Type 0
 Answered devices words before after w w' v r = Tells before after w w' v r ⊎ HasUnreadSeen devices words before after w w' r
 
--- for each verdict on the words and the contents that are seen
+-- for each verdict on the words and the seen contents: that verdict was written, or the line for a read that
+-- failed
 abbrev pub AnswersEach : List DeviceData → List (List ℕ) → FilesSeen → FilesSeen → SinkSeen → SinkSeen → ℕ → Type 0
 AnswersEach devices words before after w w' r = (v : Verdict) → IsVerdict devices words before.contents v → Answered devices words before after w w' v r
 
--- where no count of faults rose: the file was put and the whole text pushed under its status, or memory is short
+-- if no count of faults rose: the file was put and the whole text pushed under its status, or memory is short
 abbrev pub IsComplete : FilesSeen → FilesSeen → SinkSeen → SinkSeen → Verdict → ℕ → Type 0
 IsComplete before after w w' v r =
     ((r ≡ v.status) × HasPut before.contents after.contents v.put × Appends w.written w'.written v.text) ⊎ IsShort before after w w' r
 
--- ## runs that are saved and gone on with
+-- ## runs that are saved and continued
 
--- that a file cannot be read was told of this job
+-- the line for a file that cannot be read was written for this job
 pub record TellsUnread (devices : List DeviceData) (job : Asked) (before after : FilesSeen) (w w' : SinkSeen) (r : ℕ) : Type 0 where
   pub file : File
   pub is : IsUnread devices job before after file
   pub tells : Tells before after w w' (unread is.told file.name) r
 
--- it is the run from a state that these bytes spell
+-- the verdict is the run from a state that these bytes spell
 pub record IsFromSpelled (m : ℕ) (detail : Detail) (x : Scenario) (bytes : List ℕ) (v : Verdict) : Type 0 where
   pub state : State
   pub spelled : IsSpelled x bytes state
   pub is : v ≡ resumed m detail x state
 
--- What is told where `resume` is asked for with files of these names. Where its image and its script are seen and accepted, their run
--- starts well and no more turns are asked for than a run may have; or that a file cannot be read was told, or memory is short. Where
--- all its files are, what is told is the run from each state that the last of them spells. That a state is spelled there may rest on
--- the start of the run, which is sane.
+-- What is written when `resume` is asked for with files of these names. First: if its image and its script
+-- are seen and accepted, their run starts well and no more turns are asked for than a run may have. Second:
+-- if all its files are seen and accepted, the text is the run from each state that the last of them spells.
+-- To show that a state is spelled there, one may use that the start of the run is sane. In both cases it may
+-- be instead that a file cannot be read and this was written, or that memory is short.
 pub record TellsResumed (devices : List DeviceData) (image_name script_name state_name : List ℕ) (m : ℕ) (detail : Detail) (before after : FilesSeen) (w w' : SinkSeen) (r : ℕ) : Type 0 where
   pub starts : (image script : List ℕ) → before.contents image_name ≡ Some image → before.contents script_name ≡ Some script → image_refusal image ≡ None → script_refusal script ≡ None
       → (StartsWell (scenario_of (image_data_of image) script devices) × (m ≤ 1000000000)) ⊎ (TellsUnread devices (resume image_name script_name state_name m detail) before after w w' r ⊎ IsShort before after w w' r)
@@ -228,14 +234,14 @@ pub record TellsResumed (devices : List DeviceData) (image_name script_name stat
       → let x = scenario_in devices contents in
       (Sane x.setup (start_of x) → IsFromSpelled m detail x (slice_index_or contents 2 []) v) → Tells before after w w' v r ⊎ TellsUnread devices (resume image_name script_name state_name m detail) before after w w' r
 
--- of another job nothing is said
+-- of any other job this says nothing
 abbrev pub TellsEach : List DeviceData → Asked → FilesSeen → FilesSeen → SinkSeen → SinkSeen → ℕ → Type 0
 TellsEach devices (resume image script state m detail) before after w w' r = TellsResumed devices image script state m detail before after w w' r
 TellsEach devices job before after w w' r = Unit {0}
 
--- Where `resume` is asked for with the image and the script of a run, up to turn m, from the state that `save` puts of that run
--- up to turn n, which is of no turn behind m: what is told is the text of `run` up to turn m without the lines of turns before
--- the saved one.
+-- `resume` is asked for with the image and the script of a run, up to turn m, and with the state that `save`
+-- puts of that run up to turn n. That state is of turn m or an earlier one. Then the text is that of `run` up
+-- to turn m, without the lines of turns before the saved one.
 abbrev pub GoesOn : List DeviceData → List (List ℕ) → FilesSeen → FilesSeen → SinkSeen → SinkSeen → ℕ → Type 0
 GoesOn devices words before after w w' r =
     (image_name script_name state_name image script : List ℕ) (m n : ℕ) (detail : Detail)

@@ -1,4 +1,4 @@
--- The image that is built of files.
+-- The image that is built from files.
 use Rattle.std.specs.Prelude.{◌≡◌, ℕ, ◌+◌, Bool, true, List, [], ◌∷◌, ◌++◌, length, map, slice_get, Option, Some, None}
 use Rattle.text_lines.specs.Text.{lines_of}
 use Rattle.thumb_asm.specs.Listed.{insn_lines, labels_in, labels_of, placed}
@@ -19,16 +19,16 @@ use Rattle.trace_cli.specs.FileFaults.{IsNamedFaultOf}
 
 -- ## where the instructions and the labels of sources lie
 
--- those of the i-th task's source
+-- the instructions of the i-th task's source
 abbrev pub lines_at : AppData → ℕ → List ℕ → List InsnLine
 lines_at app i source = insn_lines (placed (flash_base app i) (lines_of source))
 
--- those of sources in their order, of which the first is the i-th
+-- those of several sources in order; the first is the i-th task's
 abbrev pub lines_from : AppData → ℕ → List (List ℕ) → List (List InsnLine)
 lines_from app i [] = []
 lines_from app i (source ∷ sources) = lines_at app i source ∷ lines_from app (i + 1) sources
 
--- the labels of the i-th task's source, and those of sources in their order, of which the first is the i-th
+-- the labels of the i-th task's source, and those of several sources in order; the first is the i-th task's
 abbrev pub labels_at : AppData → ℕ → List ℕ → Names
 labels_at app i source = labels_of (placed (flash_base app i) (lines_of source))
 
@@ -36,7 +36,7 @@ abbrev pub labels_from : AppData → ℕ → List (List ℕ) → Names
 labels_from app i [] = []
 labels_from app i (source ∷ sources) = labels_at app i source ++ labels_from app (i + 1) sources
 
--- what is kept
+-- what is kept of each source
 abbrev pub kept_lines : SourceLines → List (List InsnLine)
 kept_lines l = map (λ v. v.items) l.lists.items
 
@@ -47,12 +47,12 @@ pub record KeepsNone (l : SourceLines) : Type 0 where
   pub lines : kept_lines l ≡ []
   pub labels : kept_labels l ≡ []
 
--- where it is wanted, it is that of these sources
+-- if it is wanted, what is kept is that of these sources
 pub record AreLines (app : AppData) (sources : List (List ℕ)) (l : SourceLines) : Type 0 where
   pub lines : l.wanted ≡ true → kept_lines l ≡ lines_from app 0 sources
   pub labels : l.wanted ≡ true → kept_labels l ≡ labels_from app 0 sources
 
--- the lines and the labels of a source more are kept, where they are wanted
+-- the lines and the labels of one more source are kept, if they are wanted
 pub record HasListed (lines : List InsnLine) (labels : Names) (l l' : SourceLines) : Type 0 where
   pub wanted : l'.wanted ≡ l.wanted
   pub listed : l.wanted ≡ true → kept_lines l' ≡ kept_lines l ++ lines ∷ []
@@ -65,7 +65,7 @@ pub record TakesEach (seen : List ℕ → Option (List ℕ)) (files : List File)
   pub takes : Takes (MayBe seen) files contents
   pub all : length files ≡ length contents
 
--- those before were accepted, and this is why the next one was not accepted
+-- the earlier files were accepted, and this is why the next one was not
 pub record IsNamedFaultAfter (before after : FilesSeen) (files : List File) (contents : List (List ℕ)) (named_fault : NamedFault) : Type 0 where
   pub takes : Takes (MayBe before.contents) files contents
   pub file : File
@@ -80,14 +80,14 @@ pub record HasNext (seen : List ℕ → Option (List ℕ)) (name : List ℕ) (so
   pub accepted_sources : HasAccepted (sources ++ bytes ∷ []) after
   pub listed : HasListed (lines_at (described before) (next_task before) bytes) (labels_at (described before) (next_task before) bytes) l l'
 
--- it has accepted those of all tasks
+-- it has accepted the sources of all tasks
 pub record HasAll (seen : List ℕ → Option (List ℕ)) (app : AppData) (builder : Builder) (l : SourceLines) : Type 0 where
   pub sources : List (List ℕ)
   pub each : TakesEach seen (source_files app) sources
   pub accepted_sources : HasAccepted sources builder
   pub lines : AreLines app sources l
 
--- an image was built of the application and of the files of its sources
+-- an image was built from the application and the files of its sources
 pub record IsImageOf (seen : List ℕ → Option (List ℕ)) (app : AppData) (image : ImageData) (l : SourceLines) : Type 0 where
   pub sources : List (List ℕ)
   pub each : TakesEach seen (source_files app) sources
@@ -95,14 +95,14 @@ pub record IsImageOf (seen : List ℕ → Option (List ℕ)) (app : AppData) (im
   pub sound : Sound image
   pub lines : AreLines app sources l
 
--- an image was built of the application's files: its own holds these bytes, and then come the sources
+-- an image was built from the application's files: its own has these bytes, and the sources follow
 pub record IsImage (seen : List ℕ → Option (List ℕ)) (app : List ℕ) (image : ImageData) : Type 0 where
   pub bytes : List ℕ
   pub sources : List (List ℕ)
   pub each : TakesEach seen (files_to_build app bytes) (bytes ∷ sources)
   pub is : IsBuilt (bytes ∷ sources) image
 
--- so it was, with where the instructions and the labels of its sources lie
+-- the same, with where the instructions and the labels of the sources lie
 pub record IsBuiltApp (seen : List ℕ → Option (List ℕ)) (name : List ℕ) (wanted : Bool) (app : AppData) (image : ImageData) (l : SourceLines) : Type 0 where
   pub bytes : List ℕ
   pub sources : List (List ℕ)

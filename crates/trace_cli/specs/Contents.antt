@@ -22,7 +22,7 @@ use Rattle.debug_core.specs.Reading.{commands_or_fault}
 use Rattle.trace_audit.specs.Texts as trace
 use Rattle.trace_audit.specs.Judgements.{first_cause}
 
--- the number of a cause, and the place as it is told
+-- the number of a cause, and the place as the line of the refusal has it
 abbrev pub Why : Type 0
 Why = ℕ × List ℕ
 
@@ -30,7 +30,7 @@ abbrev pub or_later : Option Why → Option Why → Option Why
 or_later None later = later
 or_later (Some why) later = Some why
 
--- a cause at a place of a number: a byte of an image, a line of a text
+-- a cause at a place that is a number: a byte of an image, or a line of a text
 abbrev pub at_number : ℕ × ℕ → Why
 at_number p = (p.0, decimal p.1)
 
@@ -38,7 +38,7 @@ abbrev pub fault_in : {T W : Type 0} → Result T W → Option W
 fault_in (Ok value) = None
 fault_in (Err why) = Some why
 
--- the most bytes of an image, of a script, of an application, of a source, of a saved state or of commands
+-- the most bytes of an image, a script, an application, a source, a saved state or commands
 abbrev pub file_limit : ℕ
 file_limit = 2097152
 
@@ -46,13 +46,13 @@ file_limit = 2097152
 abbrev pub trace_limit : ℕ
 trace_limit = 16777216
 
--- a file of more bytes than its limit is refused by its length; of others its definition decides
+-- a file that is longer than its limit is refused for its length; otherwise its definition decides
 abbrev pub unless_long : ℕ → List ℕ → Option Why → Option Why
 unless_long limit bytes refusal = if nat_lt limit (length bytes) then Some (at_number (0, limit)) else refusal
 
 -- ## an image
 
--- where there is no image
+-- the image to use when there is none
 abbrev pub no_picture : ImageData
 no_picture = record { fault_bits = 0; ram = 0; tasks = []; lines = []; flash = [] }
 
@@ -68,13 +68,13 @@ image_refusal bytes = unless_long file_limit bytes (option_map at_number (fault_
 unfoldable pub image_data_of : List ℕ → ImageData
 image_data_of bytes = image_in (image_or_fault bytes)
 
--- what an image fixes for ever
+-- what an image fixes once and for all
 abbrev pub setup_of_image : ImageData → Setup
 setup_of_image image = opened.setup_of_image image
 
 -- ## a script
 
--- where there is no script
+-- the script to use when there is none
 abbrev pub no_script : ScriptData
 no_script = record { every = None; events = [] }
 
@@ -86,13 +86,13 @@ script_in (Err why) = no_script
 unfoldable pub script_refusal : List ℕ → Option Why
 script_refusal bytes = unless_long file_limit bytes (option_map at_number (fault_in (script_or_fault bytes)))
 
--- what accepted bytes say
+-- the script that accepted bytes say
 unfoldable pub script_of : List ℕ → ScriptData
 script_of bytes = script_in (script_or_fault bytes)
 
 -- ## an application
 
--- where there is no application
+-- the application to use when there is none
 abbrev pub no_app : AppData
 no_app = record { flash = 0; ram = 0; fault = []; tasks = []; regions = []; devices = []; interrupts = [] }
 
@@ -104,17 +104,17 @@ app_in (Err why) = no_app
 unfoldable pub application_of : List ℕ → AppData
 application_of bytes = app_in (read_app bytes)
 
--- how many bytes are needed, as far as a number of 64 bits says it
+-- how many bytes are needed, at most 2^64 - 1
 abbrev pub need_text : ℕ → List ℕ
 need_text needed = decimal (min needed (2 ^ 64 - 1))
 
--- the board has no room for its memory: flash first (docs/FORMATS.md, Building)
+-- the board has no room for the application's memory; flash is looked at first (docs/FORMATS.md, Building)
 abbrev pub room_refusal : AppData → Option Why
 room_refusal app = if nat_lt app.flash (flash_needed app) then Some (21, codes "flash:" ++ need_text (flash_needed app))
     else if nat_lt app.ram (ram_needed app) then Some (21, codes "ram:" ++ need_text (ram_needed app))
     else None
 
--- why an application is refused, if it is: its description (docs/FORMATS.md, Application), or its plan
+-- why an application is refused, if it is: for its description (docs/FORMATS.md, Application) or its plan
 unfoldable pub app_refusal : List ℕ → Option Why
 app_refusal bytes = unless_long file_limit bytes (or_later (fault_in (read_app bytes)) (room_refusal (application_of bytes)))
 
@@ -123,16 +123,17 @@ app_refusal bytes = unless_long file_limit bytes (or_later (fault_in (read_app b
 abbrev pub at_line : Cause × ℕ → Why
 at_line p = at_number (cause_number p.0, p.1)
 
--- how many bytes it is assembled to
+-- how many bytes a source is assembled to
 abbrev pub code_length : AppData → ℕ → List ℕ → ℕ
 code_length app i source = size_from (flash_base app i) (lines_of source)
 
--- it is assembled to more bytes than the task's flash has
+-- a source is assembled to more bytes than the task's flash has
 abbrev pub code_refusal : AppData → ℕ → List ℕ → Option Why
 code_refusal app i source =
     if nat_lt (task_at app i).flash (code_length app i source) then Some (at_number (15, code_length app i source)) else None
 
--- why the i-th task's source is refused, if it is: the assembler's first cause (docs/FORMATS.md, Assembler), or its length
+-- why the i-th task's source is refused, if it is: for the assembler's first cause (docs/FORMATS.md,
+-- Assembler) or its length
 unfoldable pub source_refusal : AppData → ℕ → List ℕ → Option Why
 source_refusal app i source = unless_long file_limit source (or_later (option_map at_line (source_cause app i source)) (code_refusal app i source))
 
@@ -144,12 +145,12 @@ trace_refusal bytes = unless_long trace_limit bytes (option_map at_number (first
 
 -- ## a saved state
 
--- it is of a turn behind the bound
+-- a saved state is of a turn after the bound
 abbrev pub turn_refusal : ℕ → List ℕ → Option Why
 turn_refusal bound bytes = if nat_lt bound (header_at bytes).turn then Some (at_number (8, 4)) else None
 
--- why a saved state is refused as one of a run of this image beside these devices, from which it is to go on up to a bound, if it is
--- (docs/FORMATS.md, Saved state)
+-- Why a saved state is refused, if it is. It is one of a run of this image with these devices, which is to go
+-- on from it up to a bound (docs/FORMATS.md, Saved state).
 unfoldable pub state_refusal : List DeviceData → ImageData → ℕ → List ℕ → Option Why
 state_refusal devices image bound bytes =
     unless_long file_limit bytes (or_later (option_map at_number (state_fault (expected_of (setup_of_image image) devices) bytes)) (turn_refusal bound bytes))
@@ -162,15 +163,16 @@ commands_refusal bytes = unless_long file_limit bytes (option_map at_number (fau
 
 -- ## names of tasks
 
--- the application has another number of tasks
+-- the application has a different number of tasks
 abbrev pub tasks_refusal : ℕ → AppData → Option Why
 tasks_refusal tasks app = if length app.tasks == tasks then None else Some (22, codes "task")
 
--- why an application is refused as one that names so many tasks, if it is: its description (docs/FORMATS.md, Application), or its number of tasks
+-- Why an application is refused that is to name this many tasks, if it is: for its description
+-- (docs/FORMATS.md, Application) or its number of tasks.
 unfoldable pub names_refusal : ℕ → List ℕ → Option Why
 names_refusal tasks bytes = unless_long file_limit bytes (or_later (fault_in (read_app bytes)) (tasks_refusal tasks (application_of bytes)))
 
--- the names that it gives them
+-- the names that it gives the tasks
 abbrev pub names_in : List ℕ → List (List ℕ)
 names_in bytes = map (λ t. t.name) (application_of bytes).tasks
 
@@ -180,7 +182,7 @@ names_in bytes = map (λ t. t.name) (application_of bytes).tasks
 abbrev pub most_arriving : ℕ
 most_arriving = 256
 
--- a script is no arrival that has more events, or an `every`
+-- a script that has more events, or an `every`, is no arrival
 abbrev pub arrival_fault : ScriptData → Option Why
 arrival_fault script = if nat_lt most_arriving (length script.events) then Some (at_number (5, 0))
     else if is_some script.every then Some (at_number (6, 0))
@@ -194,6 +196,6 @@ arrival_refusal bytes = or_later (script_refusal bytes) (arrival_fault (script_o
 abbrev pub scenario_of : ImageData → List ℕ → List DeviceData → Scenario
 scenario_of image script devices = record { setup = setup_of_image image; script = script_of script; devices = devices }
 
--- the run of the sample of a seed, of which this is the image: it has no device
+-- the run of the sample of a seed, which has this image and no devices
 abbrev pub sample_scenario : ℕ → ImageData → Scenario
 sample_scenario seed image = record { setup = setup_of_image image; script = sample_script seed; devices = [] }

@@ -9,7 +9,7 @@ use Rattle.trace_cli.specs.Contents.{Why}
 use Rattle.outside_io.specs.Seen.{FilesSeen}
 use Rattle.trace_cli.specs.Sources.{File, MayBe, MayBeRefused}
 
--- a read failed, by the count, and of this name where that is seen
+-- a read failed: the count says so, and the name of the last failing call, if it is seen, is this one
 pub record IsCannotRead (before after : FilesSeen) (name : List ℕ) : Type 0 where
   pub rose : Rose before.read_faults after.read_faults
   pub named : WhereSeen after.last_failing (λ n. n ≡ short_name name)
@@ -20,20 +20,20 @@ pub record MayBeLong (seen : List ℕ → Option (List ℕ)) (name : List ℕ) (
   pub held : MayBe seen name bytes
   pub long : limit < length bytes
 
--- the bytes are refused so, or memory is short
+-- the bytes are refused for this reason, or memory is short
 abbrev pub IsFaultFor : Option Why → FileFault → Type 0
 IsFaultFor refusal file_faults.Memory = ⊤
 IsFaultFor refusal file_faults.CannotRead = ⊥
 IsFaultFor refusal (file_faults.Refused cause place) = refusal ≡ Some (cause, string_bytes place)
 
--- the file cannot be read, may hold contents that are longer than the limit, or memory is short
+-- the file cannot be read, or may hold contents that are longer than the limit, or memory is short
 abbrev pub CannotTake : FilesSeen → FilesSeen → List ℕ → ℕ → FileFault → Type 0
 CannotTake before after name limit file_faults.Memory = ⊤
 CannotTake before after name limit file_faults.CannotRead = IsCannotRead before after name
 CannotTake before after name limit (file_faults.Refused cause place) =
     (cause ≡ 0) × (string_bytes place ≡ decimal limit) × MayBeLong before.contents name limit
 
--- the file cannot be read, may hold contents that are refused so, or memory is short
+-- the file cannot be read, or may hold contents that are refused for this reason, or memory is short
 abbrev pub IsFaultOf : FilesSeen → FilesSeen → File → FileFault → Type 0
 IsFaultOf before after f file_faults.Memory = ⊤
 IsFaultOf before after f file_faults.CannotRead = IsCannotRead before after f.name

@@ -34,14 +34,14 @@ use Rattle.trace_cli.specs.FileFaults.{IsNamedFaultOf}
 use Rattle.trace_cli.specs.declared.source_lines.SourceLines.{SourceLines}
 use Rattle.trace_cli.specs.Building.{AreLines, IsBuiltApp, IsNamedFaultAfter}
 
--- an image is that which the file of this name spells
+-- the image is what the file of this name spells
 pub record IsImageFile (seen : List ℕ → Option (List ℕ)) (name : List ℕ) (image : ImageData) : Type 0 where
   pub bytes : List ℕ
   pub held : MayBe seen name bytes
   pub accepted : image_refusal bytes ≡ None
   pub is : image ≡ image_data_of bytes
 
--- a script is that which the file of this name holds
+-- the script is what the file of this name holds
 pub record IsScriptFile (seen : List ℕ → Option (List ℕ)) (name : List ℕ) (script : ScriptData) : Type 0 where
   pub bytes : List ℕ
   pub held : MayBe seen name bytes
@@ -56,23 +56,25 @@ pub record IsSet {X : Type 0} {H : X → Type 0} (shown : Shows X H) (devices : 
   pub stands : Stands shown (scenario_of image script devices) b (start_of (scenario_of image script devices))
   pub turns : turns_of b ≡ 0
 
--- an image and a script of these names are accepted, and the board stands for the start of their run with these devices
+-- the image and the script of these names are accepted, and the board stands for the start of their run with
+-- these devices
 pub record IsRunSet {X : Type 0} {H : X → Type 0} (shown : Shows X H) (devices : List DeviceData) (image script : List ℕ) (seen : List ℕ → Option (List ℕ)) (b : Board X H) : Type 0 where
   pub image_data : ImageData
   pub of_image : IsImageFile seen image image_data
   pub set : IsSet shown devices seen image_data script b
 
--- the job takes this image, then this script, and then some more files
+-- the job takes this image, then this script, and then perhaps more files
 pub record TakesImage (devices : List DeviceData) (job : Asked) (image script : List ℕ) : Type 0 where
   pub more : List ℕ → List File
   pub files : (first : List ℕ) → files_of devices job first ≡ image_file image ∷ script_file script ∷ more first
 
--- the job takes this image and then this script, and answers their run by this verdict
+-- the job takes this image and then this script, and answers their run with this verdict
 pub record RunsImage (devices : List DeviceData) (job : Asked) (image script : List ℕ) (verdict : Scenario → Verdict) : Type 0 where
   pub files : (first : List ℕ) → files_of devices job first ≡ image_file image ∷ script_file script ∷ []
   pub does : (contents : List (List ℕ)) → Does devices job contents (verdict (scenario_in devices contents))
 
--- the job takes this image, this script and the names of the tasks, and answers their run by this verdict on the names and on it
+-- the job takes this image, this script and the names of the tasks, and this is its verdict on the names and
+-- the run
 pub record RunsNamed (devices : List DeviceData) (job : Asked) (image script : List ℕ) (names : Option (List ℕ)) (verdict : List (List ℕ) → Scenario → Verdict) : Type 0 where
   pub files : (first : List ℕ) → files_of devices job first ≡ image_file image ∷ script_file script ∷ names_files (image_tasks first) names
   pub does : (contents : List (List ℕ)) → Does devices job contents (verdict (names_by names contents) (scenario_in devices contents))
@@ -81,31 +83,32 @@ pub record RunsNamed (devices : List DeviceData) (job : Asked) (image script : L
 pub record TakesApp (devices : List DeviceData) (job : Asked) (app script : List ℕ) : Type 0 where
   pub files : (first : List ℕ) → files_of devices job first ≡ files_to_build app first ++ script_file script ∷ []
 
--- the job takes the files of this application and then this script, and answers their run by this verdict on the application, its sources
--- and it
+-- the job takes the files of this application and then this script, and this is its verdict on the
+-- application, its sources and the run
 pub record RunsApp (devices : List DeviceData) (job : Asked) (app script : List ℕ) (verdict : AppData → List (List ℕ) → Scenario → Verdict) : Type 0 where
   pub files : (first : List ℕ) → files_of devices job first ≡ files_to_build app first ++ script_file script ∷ []
   pub does : (contents : List (List ℕ)) (image : ImageData) → IsBuilt contents image
       → Does devices job contents (verdict (described contents) (sources_in contents) (scenario_of image (script_in contents) devices))
 
--- these are the names that the application of this name has, which is accepted as one of so many tasks
+-- the application of this name is accepted as one that names this many tasks, and these are its names
 pub record IsNamesFile (seen : List ℕ → Option (List ℕ)) (tasks : ℕ) (name : List ℕ) (names : List (List ℕ)) : Type 0 where
   pub bytes : List ℕ
   pub held : MayBe seen name bytes
   pub accepted : names_refusal tasks bytes ≡ None
   pub is : names ≡ names_in bytes
 
--- these are the names of so many tasks: their places, or those of the application of this name
+-- these are the names of this many tasks: their places, or those of the application of this name
 abbrev pub AreNames : (List ℕ → Option (List ℕ)) → ℕ → Option (List ℕ) → List (List ℕ) → Type 0
 AreNames seen tasks None names = names ≡ task_names tasks
 AreNames seen tasks (Some name) names = IsNamesFile seen tasks name names
 
--- why there are none: that application is not accepted, or memory is short
+-- why there are no names: that application is not accepted, or memory is short
 abbrev pub IsNamesFault : FilesSeen → FilesSeen → ℕ → Option (List ℕ) → NamedFault → Type 0
 IsNamesFault before after tasks None h = h ≡ named_faults.Memory
 IsNamesFault before after tasks (Some name) h = IsNamedFaultOf before after (names_file tasks name) h
 
--- each file of the job is accepted, and the board stands for the start of the run that it answers by this verdict
+-- each file of the job is accepted, and the board stands for the start of the run that the job answers with
+-- this verdict
 pub record IsReady {X : Type 0} {H : X → Type 0} (shown : Shows X H) (devices : List DeviceData) (job : Asked) (seen : List ℕ → Option (List ℕ)) (verdict : Scenario → Verdict) (b : Board X H) : Type 0 where
   pub contents : List (List ℕ)
   pub accepted : TakesAll (MayBe seen) devices job contents
@@ -114,19 +117,19 @@ pub record IsReady {X : Type 0} {H : X → Type 0} (shown : Shows X H) (devices 
   pub stands : Stands shown scenario b (start_of scenario)
   pub turns : turns_of b ≡ 0
 
--- the run of a scenario starts sane, its image and its script are no larger than any that is read
+-- the run of a scenario starts sane, and its image and its script are no larger than those that can be read
 pub record StartsWell (x : Scenario) : Type 0 where
   pub sane : Sane x.setup (start_of x)
   pub tasks : length x.setup.tasks ≤ 512
   pub ram : x.setup.ram ≤ 262144
   pub events : (turn : ℕ) → length (events_of x.script turn) ≤ 9
 
--- so does that of the image and the script which are seen under these names
+-- the same of the image and the script that are seen under these names
 abbrev pub StartsSeen : List DeviceData → (List ℕ → Option (List ℕ)) → List ℕ → List ℕ → Type 0
 StartsSeen devices seen image_name script_name =
     (image script : List ℕ) → seen image_name ≡ Some image → seen script_name ≡ Some script → StartsWell (scenario_of (image_data_of image) script devices)
 
--- the file that is not accepted is this image or this script; or their run starts well
+-- this image or this script is the file that is not accepted, or their run starts well
 abbrev pub StartsUnless : List DeviceData → FilesSeen → FilesSeen → List ℕ → List ℕ → NamedFault → Type 0
 StartsUnless devices before after image script named_fault =
     IsNamedFaultOf before after (image_file image) named_fault ⊎ (IsNamedFaultOf before after (script_file script) named_fault ⊎ StartsSeen devices before.contents image script)
@@ -138,13 +141,15 @@ pub record IsSpelled (x : Scenario) (bytes : List ℕ) (s : State) : Type 0 wher
   pub counted : IsCounted s
   pub sites : sites s.devices ≡ sites x.devices
 
--- the run starts sane, and the board stands for the state that these bytes are read as, and for each that they spell
+-- the run starts sane, and the board stands for the state that is read from these bytes, and for each state
+-- that they spell
 pub record IsLoaded {X : Type 0} {H : X → Type 0} (shown : Shows X H) (x : Scenario) (bytes : List ℕ) (b : Board X H) : Type 0 where
   pub start : Sane x.setup (start_of x)
   pub stands : Stands shown x b (state_in x.setup x.devices bytes)
   pub each : (s : State) → IsSpelled x bytes s → Stands shown x b s
 
--- so of the bytes of the file of this name, which are accepted as a state from which this run is to go on up to a bound
+-- the same of the bytes of the file of this name, which are accepted as a state from which this run is to go
+-- on up to a bound
 pub record IsStateSet {X : Type 0} {H : X → Type 0} (shown : Shows X H) (devices : List DeviceData) (seen : List ℕ → Option (List ℕ)) (image : ImageData) (script : ScriptData) (name : List ℕ) (bound : ℕ) (b : Board X H) : Type 0 where
   pub bytes : List ℕ
   pub held : MayBe seen name bytes
@@ -152,8 +157,8 @@ pub record IsStateSet {X : Type 0} {H : X → Type 0} (shown : Shows X H) (devic
   pub loaded : IsLoaded shown (opened.scenario_of image script devices) bytes b
   pub turns : turns_of b ≤ bound
 
--- each file of the job is accepted, its run starts sane, and the board stands for the state from which it goes on, and for each that
--- the bytes spell
+-- Each file of the job is accepted, and its run starts sane. The board stands for the state from which the
+-- run goes on, and for each state that the bytes spell.
 pub record IsResumable {X : Type 0} {H : X → Type 0} (shown : Shows X H) (devices : List DeviceData) (job : Asked) (seen : List ℕ → Option (List ℕ)) (n : ℕ) (detail : Detail) (b : Board X H) : Type 0 where
   pub contents : List (List ℕ)
   pub accepted : TakesAll (MayBe seen) devices job contents
@@ -163,14 +168,15 @@ pub record IsResumable {X : Type 0} {H : X → Type 0} (shown : Shows X H) (devi
   pub each : (s : State) → IsSpelled (scenario_in devices contents) (slice_index_or contents 2 []) s → Stands shown (scenario_in devices contents) b s
   pub turns : turns_of b ≤ n
 
--- commands are those that the file of this name says
+-- the commands are what the file of this name says
 pub record IsCommandsFile (seen : List ℕ → Option (List ℕ)) (name : List ℕ) (commands : List Command) : Type 0 where
   pub bytes : List ℕ
   pub held : MayBe seen name bytes
   pub accepted : commands_refusal bytes ≡ None
   pub is : commands_or_fault bytes ≡ Ok commands
 
--- each file of the job is accepted, and the board stands for the start of the run over which these commands are to be carried out
+-- each file of the job is accepted, and the board stands for the start of the run over which these commands
+-- are carried out
 pub record IsDebugReady {X : Type 0} {H : X → Type 0} (shown : Shows X H) (devices : List DeviceData) (job : Asked) (seen : List ℕ → Option (List ℕ)) (commands : List Command) (b : Board X H) : Type 0 where
   pub contents : List (List ℕ)
   pub accepted : TakesAll (MayBe seen) devices job contents
@@ -185,7 +191,8 @@ pub record IsArrivalFile (seen : List ℕ → Option (List ℕ)) (name : List �
   pub accepted : arrival_refusal bytes ≡ None
   pub is : arrival ≡ script_of bytes
 
--- each file of the job is accepted, and the sweeper is at the start of the run over which these events are to be laid
+-- each file of the job is accepted, and the sweeper is at the start of the run over which these events are
+-- laid
 pub record IsSweepReady {X : Type 0} {H : X → Type 0} (shown : Shows X H) (devices : List DeviceData) (job : Asked) (seen : List ℕ → Option (List ℕ)) (from to limit : ℕ) (mem : Bool) (w : Sweeper X H) : Type 0 where
   pub contents : List (List ℕ)
   pub accepted : TakesAll (MayBe seen) devices job contents
@@ -213,15 +220,16 @@ pub record IsNamedFaultIn (devices : List DeviceData) (job : Asked) (before afte
   pub contents : List (List ℕ)
   pub at : IsNamedFaultAfter before after (files_by devices job contents) contents named_fault
 
--- An application and a script of these names are accepted, and the board stands for the start of their run with these devices; where the
--- instructions and the labels of the sources lie is known, if that is wanted.
+-- The application and the script of these names are accepted, and the board stands for the start of their run
+-- with these devices. If it is wanted, it is known where the instructions and the labels of the sources lie.
 pub record IsAppSet {X : Type 0} {H : X → Type 0} (shown : Shows X H) (devices : List DeviceData) (app script : List ℕ) (seen : List ℕ → Option (List ℕ)) (wanted : Bool) (b : Board X H) (described : AppData) (l : SourceLines) : Type 0 where
   pub image : ImageData
   pub built : IsBuiltApp seen app wanted described image l
   pub set : IsSet shown devices seen image script b
 
--- Each file of the job is accepted, among them the sources of this application, and the board stands for the start of the run that it
--- answers by this verdict; where the instructions of the sources lie is known, if that is wanted.
+-- Each file of the job is accepted, among them the sources of this application. The board stands for the
+-- start of the run that the job answers with this verdict. If it is wanted, it is known where the
+-- instructions of the sources lie.
 pub record IsAppReady {X : Type 0} {H : X → Type 0} (shown : Shows X H) (devices : List DeviceData) (job : Asked) (seen : List ℕ → Option (List ℕ)) (verdict : AppData → List (List ℕ) → Scenario → Verdict) (wanted : Bool) (b : Board X H) (app : AppData) (l : SourceLines) : Type 0 where
   pub sources : List (List ℕ)
   pub ready : IsReady shown devices job seen (verdict app sources) b

@@ -7,10 +7,10 @@ use Rattle.thumb_asm.specs.declared.listing.InsnLine.{InsnLine}
 use Rattle.run_cover.specs.Tracefile.{Section}
 use Rattle.trace_cli.specs.Building.{lines_from}
 
--- the section of each task, where these are the lines of their sources
+-- the section of each task, if these are the lines of their sources
 abbrev pub sections_by : AppData → List (List InsnLine) → List Section
 sections_by app lists = map (λ i. record { name = (task_at app i).source; lines = slice_index_or lists i [] }) (range_with_len 0 (length app.tasks))
 
--- where these are the sources themselves
+-- the same, if these are the sources themselves
 abbrev pub sections : AppData → List (List ℕ) → List Section
 sections app sources = sections_by app (lines_from app 0 sources)

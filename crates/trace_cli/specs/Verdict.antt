@@ -102,7 +102,7 @@ usage = line_alone 2 usage_line
 abbrev pub refused : List ℕ → Why → Verdict
 refused name why = line_alone 1 (refused_line name why.0 why.1)
 
--- a file cannot be read, behind what was told before
+-- a file cannot be read; this comes after what was written before
 abbrev pub unread : List ℕ → List ℕ → Verdict
 unread told name = line_alone 3 (told ++ unread_line name)
 
@@ -119,7 +119,7 @@ level_of detail = if detail.instructions then All else Calls
 abbrev pub run_of : Level → ℕ → Scenario → board.Run
 run_of level n x = board.run level x n (start_of x)
 
--- the memory of its last state, where it is asked for
+-- the memory of its last state, if it is asked for
 abbrev pub memory_if : Bool → Setup → State → List ℕ
 memory_if mem g s = if mem then memory_text g s else []
 
@@ -129,11 +129,11 @@ ran n detail x =
     let r = run_of (level_of detail) n x in
     line_alone (status_of r.end) (trace_text r ++ memory_if detail.memory x.setup r.last)
 
--- the run of a scenario from a state of it up to turn n
+-- the run of a scenario from one of its states up to turn n
 abbrev pub run_from : Level → ℕ → Scenario → State → board.Run
 run_from level n x s = board.run level x (n - s.turn) s
 
--- a run was gone on with from a state of it
+-- a run was continued from one of its states
 abbrev pub resumed : ℕ → Detail → Scenario → State → Verdict
 resumed n detail x s =
     let r = run_from (level_of detail) n x s in
@@ -145,11 +145,11 @@ rest_of_run k n detail x =
     let r = from_turn k (run_of (level_of detail) n x) in
     line_alone (status_of r.end) (trace_text r ++ memory_if detail.memory x.setup r.last)
 
--- the state that a run of at most n turns ends in, as it is spelled
+-- the spelling of the state in which a run of at most n turns ends
 abbrev pub saved_bytes : ℕ → Scenario → List ℕ
 saved_bytes n x = spelling_of_state (reduced (run_of Calls n x).last)
 
--- it was put under a name
+-- that state was put under a name
 abbrev pub saved : List ℕ → ℕ → Scenario → Verdict
 saved out n x = record { status = 0; text = saved_line (length (saved_bytes n x)); put = Some (out, saved_bytes n x) }
 
@@ -170,7 +170,7 @@ sampled n x =
     let r = run_of Calls n x in
     line_alone (status_of r.end) (summary_text r)
 
--- a trace was audited: it holds together, or this is its first line that does not follow
+-- a trace was audited: it holds together, or this is the first line that cannot follow
 abbrev pub audited : trace.Judgement → Verdict
 audited (Yes calls left) = line_alone 0 (yes_line calls left)
 audited (No line) = line_alone 7 (no_line line)
@@ -183,60 +183,62 @@ debugged x commands = line_alone 0 (answers_text x commands)
 abbrev pub lived : Scenario → List ℕ → Verdict
 lived x bytes = line_alone 0 (live_text x opened (take live_limit bytes))
 
--- how often a run executed each instruction, with these labels, where a test tells what of it is known to be code
+-- how often a run executed each instruction, with these labels; the test `known` says what is known to be
+-- code
 abbrev pub covered : ℕ → Scenario → Names → (ℕ → Bool) → Verdict
 covered n x labels known =
     let r = run_of All n x in
     line_alone (status_of r.end) (cover_text x.setup r known labels)
 
--- the test is true just of what is known of that run
+-- the test is true of exactly what is known to be code of that run
 abbrev pub IsKnownIn : ℕ → Scenario → (ℕ → Bool) → Type 0
 IsKnownIn n x known = IsKnownOf x.setup (run_of All n x) known
 
 abbrev pub IsCovered : ℕ → Scenario → Names → Verdict → Type 0
 IsCovered n x labels v = (known : ℕ → Bool) × IsKnownIn n x known × (v ≡ covered n x labels known)
 
--- what is asked of a sweep by the events of an arrival with these bytes
+-- what a sweep is asked for, if its arrival has these bytes
 abbrev pub asking : List ℕ → ℕ → ℕ → ℕ → Bool → Asking
 asking arrival from to limit mem = asked (script_of arrival).events from to limit mem
 
--- runs were made for each arrival time
+-- a run was made for each arrival time
 abbrev pub swept : Scenario → Asking → Verdict
 swept x a = line_alone (if makes_difference x a then 8 else 0) (sweep_text x a)
 
--- the names of so many tasks, where none is known
+-- the name of a task, if no name is known
 abbrev pub task_name : ℕ → List ℕ
 task_name i = codes "task " ++ decimal i
 
 abbrev pub task_names : ℕ → List (List ℕ)
 task_names n = map task_name (range_with_len 0 n)
 
--- the names of an image's tasks, where these are the contents of a job's files: their places, or those of the application in the third one
+-- the names of an image's tasks, if the files of a job have these contents: their places, or those of the
+-- application in the third file
 abbrev pub names_by : Option (List ℕ) → List (List ℕ) → List (List ℕ)
 names_by None contents = task_names (image_tasks (first_of contents))
 names_by (Some name) contents = names_in (slice_index_or contents 2 [])
 
--- a run as a timeline, of tasks with these names
+-- a run was written as a timeline, with these names of tasks
 abbrev pub timed : ℕ → List (List ℕ) → Scenario → Verdict
 timed n names x = line_alone (status_of (run_of Calls n x).end) (timeline_text names x n (start_of x))
 
--- a run as a picture under this title, of tasks with these names: it was put under a name
+-- a run was drawn as a picture, with this title and these names of tasks, and put under a name
 abbrev pub drawn : List ℕ → ℕ → List ℕ → List (List ℕ) → Scenario → Verdict
 drawn out n title names x =
     let bytes = picture_text title names x n (start_of x) in
     record { status = 0; text = drawn_line (length bytes); put = Some (out, bytes) }
 
--- how often a run executed each line of these sections: it was put under a name
+-- how often a run executed each line of these sections was put under a name
 abbrev pub traced : List ℕ → ℕ → List Section → Scenario → Verdict
 traced out n sections x =
     let bytes = run_tracefile (run_of All n x) sections in
     record { status = 0; text = traced_line (length bytes); put = Some (out, bytes) }
 
--- what the commands are, or what one of them takes and answers
+-- what the commands are, or what one of them takes and answers, was written
 abbrev pub helped : Option CommandName → Verdict
 helped about = line_alone 0 (help_text about)
 
--- ## what comes of accepted files with these contents, where a run has these devices: each command by its line
+-- ## what each command makes of accepted files with these contents, if a run has these devices
 
 abbrev pub Does : List DeviceData → Asked → List (List ℕ) → Verdict → Type 0
 Does devices (build app out) contents v = (image : ImageData) × IsBuilt contents image × (v ≡ built out image)
@@ -261,10 +263,10 @@ Does devices (lcov app script out steps) contents v =
     (image : ImageData) × IsBuilt contents image × (v ≡ traced out steps (sections (described contents) (sources_in contents)) (scenario_of image (script_in contents) devices))
 Does devices (help about) contents v = v ≡ helped about
 
--- ## the verdict on words and contents, where they are seen as far as they count and a run has these devices
+-- ## the verdict on words and contents, if they are seen as far as they count and a run has these devices
 
--- Words that are not accepted are answered by the usage line, the first file that is refused by its line, and accepted files
--- by what the job is. There is at most one verdict.
+-- The answer to words that are not accepted is the usage line. The answer to the first file that is refused
+-- is its line. If all files are accepted, the job decides. There is at most one verdict.
 pub data IsVerdict (devices : List DeviceData) (words : List (List ℕ)) (seen : List ℕ → Option (List ℕ)) (v : Verdict) : Type 0 where
   no_job : is_accepted words ≡ false → v ≡ usage → IsVerdict devices words seen v
   refuses : (job : Asked) (contents : List (List ℕ)) (f : File) (bytes : List ℕ) (why : Why) → job_in words ≡ Some job

@@ -7,7 +7,7 @@ use Rattle.command_line.specs.CommandLine.{Asked, build, run, go, list, sample, 
 abbrev pub texts_of : List (String Global) → List (List ℕ)
 texts_of words = map string_bytes words
 
--- the job that the words ask for, where they are accepted
+-- the job that the words ask for, if they are accepted
 abbrev pub job_in : List (List ℕ) → Option Asked
 job_in words = if is_accepted words then job_of words else None
 

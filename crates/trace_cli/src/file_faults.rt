@@ -10,7 +10,7 @@ ghost use Rattle.trace_cli.specs.FileFaults.{IsFaultFor, IsFaultOf, IsNamedFault
 use image_build::BuildFault;
 use std::alloc::{AllocError, Global};
 
-/// Why a file is not accepted: where it is refused, the number of the cause and the place.
+/// Why a file is not accepted. If it is refused, this has the number of the cause and the place.
 #[derive(Drop)]
 pub enum FileFault {
     Memory,
@@ -32,7 +32,7 @@ pub enum NamedFault {
     },
 }
 
-/// A refusal at a place that is a text, where there was memory for it.
+/// A refusal at a place that is a text, if there was memory for the text.
 pub fn refused_at(cause: u8, place: Result<String, AllocError>) -> FileFault
     ensures { (text : List ℕ) → IfOk place (λ p. string_bytes p ≡ text) →
         IsFaultFor (Some (cause, text)) result }
@@ -50,7 +50,7 @@ pub fn refused_at_number(alloc: Global, cause: u8, place: u64) -> FileFault
     refused_at(cause, format!(in alloc; "{place}"))
 }
 
-/// Why an application is refused by its plan.
+/// Why an application is refused for its plan.
 pub fn fault_by_plan(alloc: Global, fault: BuildFault) -> FileFault
     ensures { (app : AppData) → LacksRoom app fault → IsFaultFor (room_refusal app) result }
 {

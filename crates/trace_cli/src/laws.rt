@@ -1,4 +1,4 @@
-//! Laws that stand over the definitions of the program's verdicts. Nothing runs here.
+//! Laws about the definitions of the program's verdicts. Nothing runs here.
 
 ghost use Rattle.std.specs.Prelude.{◌≡◌, ◌≢◌, ◌↔◌, ℕ, List, ◌++◌, Option, Some, None};
 ghost use Rattle.kernel_abi.specs.Devices.{DeviceData};
@@ -12,10 +12,10 @@ ghost use Rattle.trace_cli.specs.Contents.{image_refusal, script_refusal, image_
 ghost use Rattle.trace_cli.specs.Verdict.{Verdict, IsVerdict, line_alone, status_of, level_of, memory_if};
 ghost use Rattle.trace_cli.specs.Answer.{HasPut};
 
-/// Words that ask for `run` of an image with a script, both seen and accepted, have just one
+/// Words that ask for `run` of an image with a script, both seen and accepted, have exactly one
 /// verdict. Its text is the trace of the abstract kernel's run from the start of that image, with
-/// the events of that script, of at most so many turns, and with `--mem` the memory of its last
-/// state; its status is 0, or 6 where the run ended because the supervisor faulted.
+/// the events of that script, of at most this many turns, and with `--mem` the memory of its last
+/// state. Its status is 0, or 6 if the run ended because the supervisor faulted.
 pub fn run_tells_the_abstract_run()
     ensures { (devices : List DeviceData) (words : List (List ℕ)) (seen : List ℕ → Option (List ℕ))
         (image_name script_name image script : List ℕ) (n : ℕ) (detail : Detail) (v : Verdict)
@@ -29,8 +29,8 @@ pub fn run_tells_the_abstract_run()
         (trace_text r ++ memory_if detail.memory x.setup r.last)) }
 {}
 
-/// `build` and then `run` write what `go` writes: where an application was built and put under OUT,
-/// and no other name changed, the run of OUT with a script of another name has the verdict of `go`.
+/// `build` and then `run` write what `go` writes. If an application was built and put under OUT,
+/// and nothing else changed, the run of OUT with a script of another name has the verdict of `go`.
 pub fn build_then_run_is_go()
     ensures { (devices : List DeviceData) (build_words go_words run_words : List (List ℕ))
         (seen seen' : List ℕ → Option (List ℕ)) (app out script : List ℕ) (n : ℕ) (detail : Detail)

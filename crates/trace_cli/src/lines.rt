@@ -11,7 +11,7 @@ use image_list::list;
 use outside_io::Sink;
 use std::alloc::{AllocError, Global};
 
-/// The status of a run that ended so.
+/// The status of a run, by how it ended.
 pub fn status_by(end: End) -> u8
     ensures { result ≡ status_of end }
 {
@@ -21,7 +21,7 @@ pub fn status_by(end: End) -> u8
     }
 }
 
-/// A line alone, in one push.
+/// Pushes a single line, and returns the status that goes with it.
 pub fn tell<S: Sink>(line: &[u8], status: u8, out: &mut S) -> u8
     ensures { (v : Verdict) → v.status ≡ status → v.text ≡ line.now →
         Pushed (S.seen out.old) (S.seen out.new) v result }
@@ -50,7 +50,7 @@ pub fn line_of_unread(alloc: Global, name: &str) -> Result<String, AllocError>
     format!(in alloc; "cannot read {name}\n")
 }
 
-// That a file cannot be read.
+// Writes that a file cannot be read.
 fn tell_unread<S: Sink>(alloc: Global, name: &str, out: &mut S) -> u8
     ensures { Says (S.seen out.old) (S.seen out.new) (unread [] name.now) result }
 {
@@ -78,7 +78,7 @@ fn line_of_refused(alloc: Global, name: &str, cause: u8, place: &str) -> Result<
     Ok(line)
 }
 
-// That a file is refused, with the cause and the place.
+// Writes that a file is refused, with the cause and the place.
 fn tell_refused<S: Sink>(alloc: Global, name: &str, cause: u8, place: &str, out: &mut S) -> u8
     ensures { Says (S.seen out.old) (S.seen out.new) (refused name.now (cause, place.now)) result }
 {
@@ -96,7 +96,7 @@ fn line_of_listing(alloc: Global, image: &Image) -> Result<String, AllocError>
     Ok(line)
 }
 
-/// What an image says.
+/// Writes what an image contains.
 pub fn tell_listing<S: Sink>(alloc: Global, image: &Image, out: &mut S) -> u8
     ensures { Says (S.seen out.old) (S.seen out.new) (listed (picture image.now)) result }
 {
@@ -106,7 +106,7 @@ pub fn tell_listing<S: Sink>(alloc: Global, image: &Image, out: &mut S) -> u8
     }
 }
 
-/// The line of an image of so many bytes that was built.
+/// The line for an image of this many bytes that was built.
 #[tactic(auto, unfolding(crate::specs::Verdict::built_line))]
 pub fn line_of_built(alloc: Global, bytes: usize) -> Result<String, AllocError>
     ensures { IfOk result (λ line. string_bytes line ≡ built_line bytes) }
@@ -114,7 +114,7 @@ pub fn line_of_built(alloc: Global, bytes: usize) -> Result<String, AllocError>
     format!(in alloc; "built {bytes} bytes\n")
 }
 
-/// The line of a state of so many bytes that was put.
+/// The line for a state of this many bytes that was put.
 #[tactic(auto, unfolding(crate::specs::Verdict::saved_line))]
 pub fn line_of_saved(alloc: Global, bytes: usize) -> Result<String, AllocError>
     ensures { IfOk result (λ line. string_bytes line ≡ saved_line bytes) }
@@ -122,7 +122,7 @@ pub fn line_of_saved(alloc: Global, bytes: usize) -> Result<String, AllocError>
     format!(in alloc; "saved {bytes} bytes\n")
 }
 
-/// The line of a picture of so many bytes that was put.
+/// The line for a picture of this many bytes that was put.
 #[tactic(auto, unfolding(crate::specs::Verdict::drawn_line))]
 pub fn line_of_drawn(alloc: Global, bytes: usize) -> Result<String, AllocError>
     ensures { IfOk result (λ line. string_bytes line ≡ drawn_line bytes) }
@@ -130,7 +130,7 @@ pub fn line_of_drawn(alloc: Global, bytes: usize) -> Result<String, AllocError>
     format!(in alloc; "drawn {bytes} bytes\n")
 }
 
-/// The line of a tracefile of so many bytes that was put.
+/// The line for a tracefile of this many bytes that was put.
 #[tactic(auto, unfolding(crate::specs::Verdict::traced_line))]
 pub fn line_of_traced(alloc: Global, bytes: usize) -> Result<String, AllocError>
     ensures { IfOk result (λ line. string_bytes line ≡ traced_line bytes) }
@@ -138,7 +138,7 @@ pub fn line_of_traced(alloc: Global, bytes: usize) -> Result<String, AllocError>
     format!(in alloc; "traced {bytes} bytes\n")
 }
 
-/// What is told of a file that is not accepted.
+/// Writes what there is to say of a file that is not accepted.
 pub fn tell_named_fault<S: Sink>(alloc: Global, named_fault: &NamedFault, out: &mut S) -> u8
     ensures { SaysNamedFault (S.seen out.old) (S.seen out.new) named_fault.now result }
 {

@@ -1,4 +1,4 @@
-//! The names of tasks: their places in an image, or those that an application has.
+//! The names of tasks: their places in an image, or the names that an application gives them.
 ghost use Rattle.std.specs.Prelude.{◌≡◌, ◌≤◌, None, ℕ, List, IfOk, IfErr, length, map, option_map, string_bytes};
 ghost use Rattle.kernel_abi.specs.Devices.{AreFresh};
 ghost use Rattle.app_toml.specs.Sites.{task_of};
@@ -21,7 +21,7 @@ use devices::Device;
 use outside_io::Files;
 use std::alloc::{AllocError, Global};
 
-// The name of a task of an image, which has none: its place.
+// The name of a task of an image. An image has no names, so this is the task's place in it.
 fn task_name(alloc: Global, i: usize) -> Result<String, AllocError>
     ensures { IfOk result (λ name. string_bytes name ≡ task_name i) }
 {
@@ -53,7 +53,7 @@ fn names_of(alloc: Global, tasks: &[TaskSpec]) -> Result<Vec<String>, AllocError
     Ok(names)
 }
 
-// The names of so many tasks that the bytes of an application have.
+// The names of this many tasks, as the bytes of an application have them.
 fn names_in(alloc: Global, tasks: usize, bytes: &[u8]) -> Result<Vec<String>, FileFault>
     requires { length bytes.now ≤ file_limit }
     ensures accepted { IfOk result (λ v. names_refusal tasks bytes.now ≡ None) }
@@ -75,7 +75,7 @@ fn names_in(alloc: Global, tasks: usize, bytes: &[u8]) -> Result<Vec<String>, Fi
     }
 }
 
-// The same of the application under a name.
+// The same for the application under a name.
 fn read_names_in<F: Files>(
     alloc: Global,
     files: &mut F,
@@ -99,7 +99,7 @@ fn read_names_in<F: Files>(
     }
 }
 
-// The names of so many tasks, where an application names them, or their places.
+// The names of this many tasks: those of an application, if one names them, or else their places.
 fn read_names<F: Files>(
     alloc: Global,
     files: &mut F,
@@ -124,8 +124,8 @@ fn read_names<F: Files>(
 }
 
 /// The board at the start of the run of the image and the script under these names, with devices,
-/// and the names of its tasks. It is the run of each job that takes these two files and names of
-/// tasks.
+/// and the names of its tasks. This is the run of each job that takes these two files and the names
+/// of tasks.
 pub fn prepare_named<F: Files>(
     alloc: Global,
     files: &mut F,

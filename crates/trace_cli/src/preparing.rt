@@ -86,7 +86,7 @@ fn set_up<F: Files>(
 }
 
 /// The board at the start of the run of the image and the script under these names, with devices.
-/// It is the run of each job that takes these two files and no more.
+/// This is the run of each job that takes these two files and no more.
 pub fn prepare_run<F: Files>(
     alloc: Global,
     files: &mut F,
@@ -114,8 +114,8 @@ pub fn prepare_run<F: Files>(
 }
 
 /// The board at the start of the run of the application and the script under these names, with
-/// devices, and the application; and where the instructions and the labels of its sources lie, if
-/// that is wanted. It is the run of each job that takes these files.
+/// devices, and the application. If it is wanted, also where the instructions and the labels of its
+/// sources lie. This is the run of each job that takes these files.
 pub fn prepare_app<F: Files>(
     alloc: Global,
     files: &mut F,

@@ -1,4 +1,4 @@
-//! The top call.
+//! The whole program, from its words to its exit status.
 ghost use Rattle.std.specs.Prelude.{◌≡◌, ◌≢◌, ◌≤◌, ℕ, List, [], map, Some, None, false};
 ghost use Rattle.std.specs.Io.KnownBytes.{Appends};
 ghost use Rattle.outside_io.specs.Outside.{Rose};
@@ -30,7 +30,7 @@ use devices::Device;
 use outside_io::{Files, Sink};
 use std::alloc::Global;
 
-// Each command by its job.
+// Does the job, with the function of its command.
 fn answer<F: Files, S: Sink>(
     alloc: Global,
     words: &[String],
@@ -158,26 +158,25 @@ fn answer<F: Files, S: Sink>(
     }
 }
 
-/// The whole program. `words` are those of the command line, the program's name first; lines go to
-/// `out`, one push each; the answer is the exit status. `devices` are those of the run of every
-/// command but `sample`: at most eight, to which nothing has come as yet, each at a place of its
-/// own.
+/// The whole program. `words` are those of the command line, the program's name first. Lines go to
+/// `out`, one push each. The result is the exit status. `devices` are those of the run of every
+/// command but `sample`: at most eight, each at a place of its own, to which nothing has come yet.
 ///
 /// What each command takes, writes and puts is in docs/FORMATS.md, Command line. The status is
 ///
 /// - 0: all was done. What the command writes was written whole, and what it puts is under OUT.
 /// - 1: a file is refused, and `refused <name> <cause> <place>` was written.
 /// - 2: the words are not accepted, and the usage line was written.
-/// - 3: a file cannot be read, and `cannot read <name>` was written; where it is the COMMANDS of
-///   `live`, behind the answers to the lines that came.
-/// - 4: the output failed: the beginning of the text was written, and what is put is under OUT.
-///   Or the put failed: nothing was written, and under OUT are the old contents or the beginning of
+/// - 3: a file cannot be read, and `cannot read <name>` was written. If the file is the COMMANDS of
+///   `live`, this line comes after the answers to the lines that came.
+/// - 4: the output failed: the beginning of the text was written, and what is put is under OUT. Or
+///   the put failed: nothing was written, and under OUT are the old contents or the beginning of
 ///   the new ones.
 /// - 5: memory is short, and nothing was written or put.
-/// - 6: as 0, of `run`, `go`, `resume`, `sample`, `cover` or `timeline`, and the run ended
-///   because the supervisor faulted. Other commands have 0 then too.
-/// - 7: of `audit`: the trace does not hold together, and `no <line>` was written: its first
-///   line, from 1 on, that does not follow.
+/// - 6: as 0, of `run`, `go`, `resume`, `sample`, `cover` or `timeline`, and the run ended because
+///   the supervisor faulted. Other commands answer 0 then too.
+/// - 7: of `audit`: the trace does not hold together, and `no <line>` was written: its first line,
+///   counted from 1, that cannot follow.
 /// - 8: as 0, of a `sweep` in which some arrival time makes a difference.
 pub fn hubris_main_with<F: Files, S: Sink>(
     alloc: Global,
@@ -188,12 +187,12 @@ pub fn hubris_main_with<F: Files, S: Sink>(
 ) -> u8
     requires fresh { AreFresh (map shown devices.items) }
 
-    // Where the words and the seen contents give a verdict, its file was put, and its whole text
-    // was pushed under its status; or the sink's count of faults rose, the status is 4, and a front
-    // of the text was pushed; or the count of failed puts rose, the status is 4, and nothing was
-    // pushed; or memory is short, the status is 5, and nothing was pushed or put; or the count of
-    // failed reads rose, and the same holds of the line of a file that cannot be read, behind what
-    // was told before.
+    // If the words and the seen contents give a verdict, one of these happened. Its file was put,
+    // and its whole text was pushed under its status. Or the sink's count of faults rose, the
+    // status is 4, and a front of the text was pushed. Or the count of failed puts rose, the status
+    // is 4, and nothing was pushed. Or memory is short, the status is 5, and nothing was pushed or
+    // put. Or the count of failed reads rose, and the same holds of the line for a file that cannot
+    // be read, after what was written before.
     ensures seen { AnswersEach (map shown devices.items) (texts_of words.now) (F.seen files.old)
         (F.seen files.new) (S.seen out.old) (S.seen out.new) result }
     ensures complete { ¬ Rose (F.seen files.old).read_faults (F.seen files.new).read_faults →
@@ -204,8 +203,8 @@ pub fn hubris_main_with<F: Files, S: Sink>(
         IsComplete (F.seen files.old) (F.seen files.new) (S.seen out.old) (S.seen out.new) v
         result }
 
-    // What `resume` tells: the run from each state that its file spells, and so from what `save`
-    // puts what is left of the same run.
+    // What `resume` writes: the run from each state that its file spells. So from what `save` puts,
+    // it writes the rest of the same run.
     ensures each { (job : Asked) → job_in (texts_of words.now) ≡ Some job →
         TellsEach (map shown devices.items) job (F.seen files.old) (F.seen files.new)
         (S.seen out.old) (S.seen out.new) result }
@@ -241,7 +240,7 @@ pub fn hubris_main_with<F: Files, S: Sink>(
     answer(alloc, words, files, out, devices)
 }
 
-/// `hubris_main_with` where no run has a device: clause by clause the same.
+/// `hubris_main_with` when no run has a device; its clauses are the same.
 pub fn hubris_main<F: Files, S: Sink>(
     alloc: Global,
     words: &[String],

@@ -1,4 +1,4 @@
-//! A file that is put, and the line that says so.
+//! Puts a file, and writes the line that says so.
 ghost use Rattle.std.specs.Prelude.{◌≡◌, ◌≤◌, Some};
 ghost use Rattle.trace_cli.specs.Answer.{Tells};
 ghost use Rattle.trace_cli.specs.Verdict.{Verdict};
@@ -6,7 +6,7 @@ ghost use Rattle.trace_cli.specs.Verdict.{Verdict};
 use crate::lines::tell;
 use outside_io::{Files, Sink};
 
-/// Puts bytes under a name, and tells this line of them.
+/// Puts bytes under a name, and writes this line about them.
 pub fn put_told<F: Files, S: Sink>(
     bytes: &[u8],
     name: &str,

@@ -1,4 +1,4 @@
-//! Where the instructions and the labels of sources lie, as far as that is wanted.
+//! Where the instructions and the labels of sources lie, if that is wanted.
 ghost use Rattle.std.specs.Prelude.{◌≡◌, ◌<◌, ◌+◌, ◌^◌, OnOk};
 ghost use Rattle.text_lines.specs.Text.{lines_of};
 ghost use Rattle.thumb_asm.specs.Listed.{insn_lines, labels_of, placed};
@@ -7,8 +7,8 @@ ghost use Rattle.trace_cli.specs.Building.{HasListed, KeepsNone};
 use std::alloc::{AllocError, Global};
 use thumb_asm::{InsnLine, Label, instruction_lines, label_lines};
 
-/// The lines of each source that are instructions, and the labels of all, with their addresses;
-/// none is kept where they are not wanted.
+/// The lines of each source that are instructions, and the labels of all sources, with their
+/// addresses. Nothing is kept if it is not wanted.
 #[derive(Drop)]
 pub struct SourceLines {
     pub wanted: bool,
@@ -17,7 +17,7 @@ pub struct SourceLines {
 }
 
 impl SourceLines {
-    /// Of no source yet.
+    /// Starts with no source.
     pub fn none(alloc: Global, wanted: bool) -> SourceLines
         ensures wanted { result.wanted ≡ wanted }
         ensures none { KeepsNone result }
@@ -29,7 +29,7 @@ impl SourceLines {
         }
     }
 
-    /// Adds those of a source whose first line stands at `base`.
+    /// Adds the lines and labels of a source whose first line is at `base`.
     pub fn add(&mut self, alloc: Global, source: &[u8], base: u32) -> Result<(), AllocError>
         requires { base + 1048576 < 2 ^ 32 }
         ensures { OnOk result (HasListed (insn_lines (placed base (lines_of source.now)))

@@ -16,8 +16,7 @@ use outside_io::{Files, ReadAll, read_all};
 use run_script::{Script, ScriptFault};
 use std::alloc::Global;
 
-/// The most bytes of an image, of a script, of an application, of a source, of a saved state or of
-/// commands.
+/// The most bytes of an image, a script, an application, a source, a saved state or commands.
 pub const FILE_LIMIT: u32 = 2_097_152;
 
 /// The contents under a name, of at most `limit` bytes.
@@ -57,7 +56,7 @@ pub fn image_in(alloc: Global, bytes: &[u8]) -> Result<Image, FileFault>
     }
 }
 
-/// The script that the bytes of a file are.
+/// The script that the bytes of a file hold.
 pub fn script_in(alloc: Global, bytes: &[u8]) -> Result<Script, FileFault>
     requires { length bytes.now ≤ file_limit }
     ensures accepted { IfOk result (λ s. script_refusal bytes.now ≡ None) }

@@ -1,4 +1,4 @@
--- Instructions on end within a window of a task's memory.
+-- Instructions one after another within a window of a task's memory.
 use Rattle.words_core.specs.Regs.{stack_pointer, program_counter}
 use Rattle.std.specs.Prelude.{ℕ, ◌≡◌, ◌⊎◌, ◌≤◌, ◌<◌, Bool, List, length, true, false}
 use Rattle.std.specs.List.{list_any}
@@ -21,7 +21,7 @@ use Rattle.board_core.specs.declared.machine.Machine.{Machine}
 use Rattle.board_core.specs.Machine.{MachineHolds, MachineStands}
 use Rattle.board_core.specs.Data.{Shows}
 
--- what a window is while it has these bytes
+-- what a window shows while it has these bytes
 abbrev pub lent_view : Window → List ℕ → List ℕ → List ℕ → List ℕ → View
 lent_view w flash ram area second =
     record {
@@ -44,24 +44,25 @@ lent_view w flash ram area second =
 abbrev pub IsLast : View → Cpu → Type 0
 IsLast v c = Halts (step_effect (refused_by v) (held_by v) c)
 
--- n instructions of at most so many were made, in a window before and after them: at a system call where that is said, and it is said
--- where they stopped at one
+-- n of at most `most` instructions were made; these are the window before and after them. `calls` is true
+-- only if they stopped at a system call, and it is true whenever they did.
 pub record TellsCall (most n : ℕ) (before after : View) (c : Cpu) (calls : Bool) : Type 0 where
   pub short : calls ≡ true → n < most
   pub calling : calls ≡ true → IsAtSyscall after c
   pub told : IsApart before → n < most → calls ≡ is_at_syscall after c
 
--- it made instructions on end within its window
+-- the glider made instructions one after another within its window
 pub record HasWorked (a : Glider) (flash ram area second : List ℕ) (b : Glider) (after area_after second_after : List ℕ) : Type 0 where
   pub glides : Glides (lent_view a.runner.window flash ram area second) a.runner.processor b.made (lent_view a.runner.window flash after area_after second_after) b.runner.processor
   pub within : b.made ≤ a.most
-  -- it stopped before that many only where it had to
+  -- it stopped earlier only where it had to
   pub far : IsApart (lent_view a.runner.window flash ram area second) → b.made < a.most → IsLast (lent_view a.runner.window flash after area_after second_after) b.runner.processor
   pub tells : TellsCall a.most b.made (lent_view a.runner.window flash ram area second) (lent_view a.runner.window flash after area_after second_after) b.runner.processor b.at_syscall
 
--- n instructions on end of a task within a window that fetches from no breakpoint and lacks the byte that is watched, and over it and the devices that it may read, of
--- which as many go on as there may be, and whether the next one is known to be a system call. Where there were some, the task is the
--- current one.
+-- A task made n instructions one after another, within a window or over it and the devices that the task may
+-- read. The window fetches from no breakpoint and lacks the watched byte. As many of them went on as can, up
+-- to `most`, and `calls` says whether the next one is known to be a system call. If there were any, the task
+-- is the current one.
 pub record IsGlided {X : Type 0} {H : X → Type 0} (shown : Shows X H) (stops : Stops) (g : Setup) (m : Machine X H) (c : ℕ) (t : Turn) (most n : ℕ) (calls : Bool) : Type 0 where
   pub window : View
   pub after : View
@@ -74,7 +75,7 @@ pub record IsGlided {X : Type 0} {H : X → Type 0} (shown : Shows X H) (stops :
   pub stays : n ≡ 0 → MachineHolds shown g m t
   pub goes : 0 < n → MachineHolds shown g m record t { state = later record t.state { current = c; devices = devices } c m.glider.runner.processor (with_window t.state.memory window after) n }
 
--- none, since the task fetches from no region of the flash
+-- there were none, because the task fetches from no region of the flash
 pub record HasNoWindow {X : Type 0} {H : X → Type 0} (shown : Shows X H) (g : Setup) (m : Machine X H) (c : ℕ) (t : Turn) (n : ℕ) (calls : Bool) : Type 0 where
   pub none : n ≡ 0
   pub no_call : calls ≡ false
@@ -85,7 +86,7 @@ pub record HasNoWindow {X : Type 0} {H : X → Type 0} (shown : Shows X H) (g : 
 abbrev pub HasGlided : {X : Type 0} {H : X → Type 0} → Shows X H → Stops → Setup → Machine X H → ℕ → Turn → ℕ → ℕ → Bool → Type 0
 HasGlided shown stops g m c t most n calls = IsGlided shown stops g m c t most n calls ⊎ HasNoWindow shown g m c t n calls
 
--- what a machine comes to from a turn in which a task is ready that may read devices by these regions
+-- what a machine reaches from a turn in which this task is ready, and may read devices through these regions
 abbrev pub GlidesFrom : {X : Type 0} {H : X → Type 0} → Shows X H → Stops → List Region → ℕ → ℕ → Machine X H → Machine X H → ℕ → Bool → Type 0
 GlidesFrom shown stops io_regions task most old new made calls =
     (g : Setup) (t : Turn) → MachineStands shown g old t → task < length t.state.tasks → is_ready t.state task ≡ true →

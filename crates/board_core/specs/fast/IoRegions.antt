@@ -4,11 +4,11 @@ use Rattle.region_check.specs.declared.Region.{Region}
 use Rattle.task_table.specs.model.State.{Setup}
 use Rattle.board_core.specs.fast.Sights.{io_regions_of}
 
--- those of the first n tasks
+-- the I/O regions of the first n tasks
 pub record ArePorts (g : Setup) (n : ℕ) (lists : List (List Region)) : Type 0 where
   pub count : length lists ≡ n
   pub each : (c : ℕ) → c < n → get_or lists c [] ≡ io_regions_of g c
 
--- those of all of them
+-- the I/O regions of all tasks
 abbrev pub AllIoRegions : Setup → List (List Region) → Type 0
 AllIoRegions g lists = ArePorts g (length g.tasks) lists

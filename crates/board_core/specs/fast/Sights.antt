@@ -1,4 +1,4 @@
--- What a task sees: a window of its memory, and beside it the devices, by the regions of devices that it may read.
+-- What a task sees: a window of its memory and, beside it, the devices, through the I/O regions of the task.
 use Rattle.std.specs.Prelude.{ℕ, zero, suc, ◌≡◌, ◌⊎◌, ◌%◌, Bool, true, false, ◌&&◌, if◌then◌else◌, List, fold, filter, None, Some, Result, MatchResult}
 use Rattle.std.specs.List.{list_any}
 use Rattle.kernel_abi.specs.Devices.{DeviceData, device_number, devices_loaded}
@@ -15,15 +15,15 @@ use Rattle.task_table.specs.model.State.{Setup}
 use Rattle.task_table.specs.model.Reading.{setup_at}
 use Rattle.board_model.specs.Turn.{is_device, or_zero}
 
--- a region of devices that may be read
+-- a region of devices that may be read: an I/O region
 abbrev pub is_port : Region → Bool
 is_port r = r.rights.device && r.rights.read
 
--- those of a task
+-- the I/O regions of a task
 abbrev pub io_regions_of : Setup → ℕ → List Region
 io_regions_of g c = filter is_port (setup_at g c).regions
 
--- a window, the devices as they stand, and ports to them
+-- a window, the devices, and I/O regions for them
 pub record Sight : Type 0 where
   pub view : View
   pub devices : List DeviceData
@@ -40,11 +40,12 @@ is_read Read = true
 is_read Write = false
 is_read Execute = false
 
--- whether one of the ports has all of n bytes
+-- whether one of the I/O regions has all of n bytes
 abbrev pub in_io_region : List Region → ℕ → ℕ → Bool
 in_io_region io_regions a n = list_any (λ r. spans r a n) io_regions
 
--- where devices lie the bytes of a port may be read, and nothing else may be done; elsewhere it is as within the window
+-- at device addresses the bytes of an I/O region may be read, and nothing else is allowed; elsewhere the
+-- window decides
 abbrev pub refused_at : Sight → Refusals
 refused_at o a n right = if is_device a then given (is_read right && in_io_region o.io_regions a n) a else refused_by o.view a n right
 
@@ -60,7 +61,7 @@ pub record IsFetchedAt (o : Sight) (a half : ℕ) : Type 0 where
   pub may : refused_at o a 2 Execute ≡ None
   pub is : half ≡ held_at o a 2
 
--- a store is one in the window; what was loaded from a device is taken
+-- a store goes to the window; a load from a device takes what it gave
 abbrev pub moved_at : Sight → Move → Sight
 moved_at o (Puts x) = record o { view = write o.view x }
 moved_at o (Takes a n) = if is_device a then record o { devices = devices_loaded o.devices a } else o
@@ -72,18 +73,18 @@ pub record GoesOnWithin (o : Sight) (c : Cpu) (o' : Sight) (c' : Cpu) : Type 0 w
   pub window : GoesOn o.view c o'.view c'
   pub rest : o' ≡ record o { view = o'.view }
 
--- it goes on over the window and the devices, with its moves
+-- it goes on over the window and the devices, and these are its moves
 pub record GoesOnBeside (o : Sight) (c : Cpu) (o' : Sight) (c' : Cpu) : Type 0 where
   pub moves : List Move
   pub effect : step_effect (refused_at o) (held_at o) c ≡ Next c' moves
   pub inside : AreInside o.view moves
   pub after : o' ≡ fold moved_at o moves
 
--- n instructions on end go on, each within the window or over it and the devices
+-- n instructions one after another go on, each within the window or over it and the devices
 abbrev pub Polls : Sight → Cpu → ℕ → Sight → Cpu → Type 0
 Polls o c zero o' c' = (o' ≡ o) × (c' ≡ c)
 Polls o c (suc n) o' c' = (p : Sight) × (d : Cpu) × Polls o c n p d × (GoesOnWithin p d o' c' ⊎ GoesOnBeside p d o' c')
 
--- where PC is even, the next instruction is a system call, faults or reaches beyond what is seen
+-- if PC is even, the next instruction is a system call, faults or reaches beyond what is seen
 abbrev pub IsAtLimit : Sight → Cpu → Type 0
 IsAtLimit o c = reg_at c.regs program_counter % 2 ≡ 0 → Halts (step_effect (refused_at o) (held_at o) c)

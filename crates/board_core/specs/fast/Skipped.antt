@@ -1,4 +1,4 @@
--- Idle turns on end, in which nothing happens and no task runs.
+-- Idle turns one after another, in which nothing happens and no task runs.
 use Rattle.std.specs.Prelude.{ℕ, ◌≡◌, ◌≤◌, ◌<◌, false, [], None}
 use Rattle.task_table.specs.model.State.{State}
 use Rattle.task_table.specs.model.Reading.{chosen}

@@ -1,4 +1,5 @@
--- Where the fast path ends though the task would go on: at breakpoints, and where it would touch a region with a byte that is watched.
+-- Where the fast path ends although the task could go on: at breakpoints, and where the task would touch a
+-- region that has the watched byte.
 use Rattle.std.specs.Prelude.{ℕ, List, Option}
 
 pub record Stops : Type 0 where

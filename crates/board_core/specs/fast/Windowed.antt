@@ -28,8 +28,8 @@ use Rattle.board_model.specs.Script.{Scenario}
 use Rattle.board_model.specs.Turn.{may, refusals, held, cpu_of, turned}
 use Rattle.board_model.specs.Run.{is_down, turn_after, state_after}
 
--- a window of a task: its flash stands in the flash, its data and, beside them, its two areas in the RAM, as memory has them, and
--- the task may use each byte so
+-- A window of a task. Its flash lies in the flash, its data and its two areas lie in the RAM without overlap,
+-- all with the bytes that memory has, and the task has the right to each byte that the window allows.
 pub record IsWindow (g : Setup) (c : ℕ) (m : Memory) (v : View) : Type 0 where
   pub executed : (a : ℕ) → v.flash_base ≤ a → a < v.flash_base + length v.flash → may g c Execute a ≡ true
   pub legible : v.readable ≡ true → (a : ℕ) → v.flash_base ≤ a → a < v.flash_base + length v.flash → may g c Read a ≡ true
@@ -50,13 +50,13 @@ pub record IsWindow (g : Setup) (c : ℕ) (m : Memory) (v : View) : Type 0 where
   pub area : bytes_at m v.area_base (length v.area) ≡ v.area
   pub second : bytes_at m v.second_base (length v.second) ≡ v.second
 
--- what a window has of a region, by base and bytes, is all of it
+-- the window has all of a region: the same base, and as many bytes
 abbrev pub IsAllOf : ℕ → List ℕ → Region → Type 0
 IsAllOf base bytes r = (base ≡ r.base) × (length bytes ≡ r.size)
 
--- a window of a task that has all of the region of the flash that has PC, of that of the RAM that has SP, and of the first two further
--- ones of the RAM that may be read, but of these three none that has the byte that is watched; it fetches from all around PC up to the
--- breakpoints
+-- A window of a task that has whole regions: the one of the flash that has PC, the one of the RAM that has
+-- SP, and the first two other ones of the RAM that may be read. Of these three it leaves out those that have
+-- the watched byte. It fetches from all around PC up to the breakpoints.
 pub record IsWholeWindow (stops : Stops) (g : Setup) (c : ℕ) (m : Memory) (pc sp : ℕ) (v : View) : Type 0 where
   pub is : IsWindow g c m v
   pub regions : WindowRegions
@@ -70,63 +70,64 @@ pub record IsWholeWindow (stops : Stops) (g : Setup) (c : ℕ) (m : Memory) (pc 
   pub second : IsAllOf v.second_base v.second regions.second
   pub second_writable : v.second_writable ≡ regions.second.rights.write
 
--- the next instruction of a task is a system call, faults, is at a breakpoint or reaches beyond a window, of which PC and SP were these
--- when it was opened, and the devices that it may read; and whether it is a call is known
+-- The next instruction of a task is a system call, faults, is at a breakpoint, or reaches beyond a window and
+-- the devices that the task may read. PC and SP had these values when the window was opened. `calls` says
+-- whether the instruction is a system call.
 pub record IsAtEnd (stops : Stops) (g : Setup) (c pc sp : ℕ) (s : State) (calls : Bool) : Type 0 where
   pub window : View
   pub whole : IsWholeWindow stops g c s.memory pc sp window
   pub halts : Halts (step_effect (refused_at (sight_by g c window s.devices)) (held_at (sight_by g c window s.devices)) (cpu_of (task_at s c)))
   pub told : calls ≡ is_at_syscall window (cpu_of (task_at s c))
 
--- that, or the task fetches from no region of the flash
+-- the same, or the task fetches from no region of the flash
 abbrev pub MustStop : Stops → Setup → ℕ → ℕ → ℕ → State → Bool → Type 0
 MustStop stops g c pc sp s calls = IsAtEnd stops g c pc sp s calls ⊎ ((list_any (is_flash_at (register s c program_counter)) (setup_at g c).regions ≡ false) × (calls ≡ false))
 
--- what a task fetches is a system call
+-- the instruction that a task fetches is a system call
 pub record IsCalling (g : Setup) (c : ℕ) (s : State) : Type 0 where
   pub value : ℕ
   pub code : ℕ
   pub is : fetched (refusals g c) (held s) (register s c program_counter) ≡ Ok record { insn = Svc value; code = code }
 
--- what a task sees is a window of its memory, the devices as they stand, and regions of devices that it may read
+-- what a task sees is a window of its memory, the devices as they are, and I/O regions of the task
 pub record IsSight (g : Setup) (c : ℕ) (s : State) (o : Sight) : Type 0 where
   pub window : IsWindow g c s.memory o.view
   pub devices : o.devices ≡ s.devices
   pub io_regions : (r : Region) → Contains o.io_regions r → Contains (setup_at g c).regions r × (is_port r ≡ true)
 
--- the task that is chosen sees so much, and nothing happens in n turns from now on
+-- the chosen task sees this, and nothing happens in the next n turns
 abbrev pub IsUndisturbed : Scenario → State → ℕ → Sight → ℕ → Type 0
 IsUndisturbed x s c o n =
     (chosen x.setup s ≡ Some c) × IsSight x.setup c s o × ((k : ℕ) → k < n → events_of x.script (s.turn + k) ≡ [])
 
--- n turns later, in which a task's processor and the memory alone changed
+-- the state n turns later, in which only a task's processor and the memory have changed
 abbrev pub later : State → ℕ → Cpu → Memory → ℕ → State
 later s c cpu m n =
     record (with_task c record (task_at s c) { registers = cpu.regs.words; flags = cpu.flags } s) { memory = m; turn = s.turn + n }
 
--- a memory where the RAM and the areas of a window have the bytes of another one
+-- a memory with the bytes of another window in its RAM and areas
 abbrev pub with_window : Memory → View → View → Memory
 with_window m v w = with_bytes (with_bytes (with_bytes m v.ram_base w.ram) v.area_base w.area) v.second_base w.second
 
--- who ran last, after n turns of a task
+-- the task that ran last, after n turns of a task
 abbrev pub runner : ℕ → ℕ → ℕ → ℕ
 runner zero c before = before
 runner (suc n) c before = c
 
--- the turn ran the task, whose PC was where a window fetches
+-- the turn ran the task, and its PC was where the window fetches
 abbrev pub IsFetchedIn : View → ℕ → Turned → Type 0
 IsFetchedIn v c Idle = ⊥
 IsFetchedIn v c (Ran task at) = (task ≡ c) × (has_code v at 2 ≡ true)
 
--- an address is that of none of these bytes
+-- an address is outside these bytes
 abbrev pub IsBeyond : ℕ → List ℕ → ℕ → Type 0
 IsBeyond base bytes at = base ≤ at → at < base + length bytes → ⊥
 
--- an address is that of no byte of the RAM or of an area of a window
+-- an address is outside the RAM and the areas of a window
 abbrev pub IsBeside : View → ℕ → Type 0
 IsBeside v at = IsBeyond v.ram_base v.ram at × IsBeyond v.area_base v.area at × IsBeyond v.second_base v.second at
 
--- n turns on end of a task are its instructions over what it sees, of which none is noted
+-- the next n turns are this task's instructions over what it sees, and none of them notes anything
 pub record AreTurns (x : Scenario) (s : State) (c : ℕ) (o : Sight) (n : ℕ) (o' : Sight) (cpu : Cpu) : Type 0 where
   pub state : state_after Calls x n s ≡ later record s { current = runner n c s.current; devices = o'.devices } c cpu (with_window s.memory o.view o'.view) n
   pub beside : (k at : ℕ) → k ≤ n → IsBeside o.view at → byte_at (state_after Calls x k s).memory at ≡ byte_at s.memory at

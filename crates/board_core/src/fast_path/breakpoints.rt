@@ -1,19 +1,19 @@
-//! Breakpoints: how far a task can go on with no look at them, and whether a turn was at one.
+//! Breakpoints: how far a task can go on without looking for them, and whether a turn was at one.
 ghost use Rattle.std.specs.Prelude.{◌≡◌, ◌+◌, ◌≤◌};
 ghost use Rattle.board_core.specs.fast.Breakpoints.{stands, hit_of, IsStretch};
 
 use board_model::Turned;
 use region_check::Region;
 
-/// Bytes of a region of the flash, from an address on, from which a task can fetch with no look at
-/// the breakpoints.
+/// Bytes of a region of the flash, from an address on, from which a task can fetch without looking
+/// for breakpoints.
 #[derive(Clone, Copy)]
 pub struct Stretch {
     pub base: u32,
     pub size: u32,
 }
 
-/// The stretch of a region around PC that holds no breakpoint: all of it, where there are none.
+/// The stretch of a region around PC that holds no breakpoint; the whole region if there are none.
 #[inline(always)]
 pub fn stretch_of(breakpoints: &[u32], region: &Region, pc: u32) -> Stretch
     requires from { region.now.base ≤ pc }
@@ -29,7 +29,7 @@ pub fn stretch_of(breakpoints: &[u32], region: &Region, pc: u32) -> Stretch
     stretch_around(breakpoints, region, pc)
 }
 
-/// The same, also where there are some.
+/// The same, also if there are some.
 #[inline(never)]
 fn stretch_around(breakpoints: &[u32], region: &Region, pc: u32) -> Stretch
     requires from { region.now.base ≤ pc }
@@ -64,7 +64,7 @@ fn stands(breakpoints: &[u32], at: u32) -> bool
     breakpoints.iter().any(|breakpoint| *breakpoint == at)
 }
 
-/// Which task a turn ran, and where its PC was before, where that is a breakpoint.
+/// If the PC of the task that a turn ran was at a breakpoint, that task and the PC.
 pub fn hit_of(breakpoints: &[u32], turned: Turned) -> Option<(u16, u32)>
     ensures { result ≡ hit_of breakpoints.now turned }
 {

@@ -1,4 +1,4 @@
-//! The processor of the current task, which can have a window, the bytes of four of the task's
+//! The processor of the current task, which can have a window: the bytes of four of the task's
 //! regions.
 ghost use Rattle.std.specs.Prelude.{◌≡◌, ◌≤◌, ◌<◌, true, false, length, replicate, []};
 ghost use Rattle.thumb_step.specs.Windows.{Glides, IsApart, Keeps, IsAtSyscall, is_at_syscall, view_of};
@@ -14,17 +14,17 @@ use thumb_exec::lazy_flags::LazyFlags;
 use thumb_step::{Runner, Window};
 use words_core::{Flags, Regs};
 
-/// A processor that makes instructions on end while it has a window, the bytes of a region of flash
-/// and of three of RAM. Between two uses its window has no bytes.
+/// A processor that makes instructions one after another while it has a window: the bytes of one
+/// region of flash and of three of RAM. Between two uses its window has no bytes.
 #[derive(Drop)]
 pub struct Glider {
     pub runner: Runner,
 
-    /// How many instructions there may be at most, and how many there were.
+    /// How many instructions it may make at most, and how many it made.
     pub most: u32,
     pub made: u32,
 
-    /// Whether the next one, where there were fewer, is a system call.
+    /// Whether the next instruction is a system call, if fewer were made.
     pub at_syscall: bool,
 }
 
@@ -40,7 +40,7 @@ pub fn is_apart(window: &Window) -> bool
         && end <= window.ram_base as usize
 }
 
-/// A processor that has no task's context as yet.
+/// A processor that has no task's context yet.
 pub fn no_context() -> Cpu
     ensures registers { result.regs.words ≡ replicate 16 0 }
     ensures flags { result.flags ≡ record { n = false; z = false; c = false; v = false } }
@@ -81,8 +81,7 @@ pub fn no_window(alloc: Global) -> Window
     }
 }
 
-/// A window is to have the bytes of these four regions, and instructions are fetched from a stretch
-/// of the first.
+/// Aims a window at these four regions. Instructions are fetched from a stretch of the first one.
 #[inline(always)]
 pub fn aim_window(
     window: &mut Window,
@@ -114,7 +113,7 @@ pub fn aim_window(
 }
 
 impl Glider {
-    /// One that never had a window.
+    /// A glider that has never had a window.
     pub fn new(alloc: Global) -> Glider
         ensures flash { result.runner.window.flash.items ≡ [] }
         ensures ram { result.runner.window.ram.items ≡ [] }
@@ -133,8 +132,8 @@ impl Glider {
         }
     }
 
-    /// It is to make so many instructions at most, within these four regions, each of them fetched
-    /// from a stretch of the first.
+    /// Prepares for at most this many instructions within these four regions, each fetched from a
+    /// stretch of the first one.
     pub fn aim(
         &mut self,
         flash: &Region,
@@ -160,7 +159,7 @@ impl Glider {
         self.most = most;
     }
 
-    /// The instructions, where the stretch lies within the flash, and the flash below the RAM.
+    /// Makes the instructions, if the stretch lies within the flash, and the flash below the RAM.
     fn glide(&mut self) -> u32
         ensures glides { Glides (view_of self.old.runner.window) self.old.runner.processor result
             (view_of self.new.runner.window) self.new.runner.processor }
@@ -179,8 +178,8 @@ impl Glider {
         self.run()
     }
 
-    /// The same, where it is known that they do. It is a function of its own, so that LLVM has the
-    /// runner's loop in it.
+    /// The same, when this is known. It is a function of its own, so that LLVM puts the runner's
+    /// loop into it.
     #[inline(never)]
     fn run(&mut self) -> u32
         requires apart { IsApart (view_of self.old.runner.window) }
@@ -192,7 +191,7 @@ impl Glider {
         ensures fixed { Keeps (view_of self.old.runner.window) (view_of self.new.runner.window) }
         ensures most { self.new.most ≡ self.old.most }
 
-        // It stopped at a system call where it says so, and says so where it did.
+        // If it says that it stopped at a system call, it did; and it says so whenever it did.
         ensures short { self.new.at_syscall ≡ true → result < self.old.most }
         ensures calls { self.new.at_syscall ≡ true →
             IsAtSyscall (view_of self.new.runner.window) self.new.runner.processor }
@@ -206,9 +205,9 @@ impl Glider {
         made
     }
 
-    /// The instructions, where the window has flash and RAM, and these are its areas. Most tasks
-    /// have none: then the window's own are emptied, which is one store each, where two swaps are
-    /// twelve.
+    /// Makes the instructions when the window has flash and RAM, with these two areas. Most tasks
+    /// have no areas. The window's own are then emptied, which is one store each, while two swaps
+    /// are twelve.
     #[inline(always)]
     fn work_beside(&mut self, area: &mut Vec<u8>, second: &mut Vec<u8>)
         ensures did { HasWorked self.old self.old.runner.window.flash.items

@@ -1,5 +1,5 @@
-//! The processor of the current task while it has a window and, beside it, the devices of which the
-//! task may read some.
+//! The processor of the current task while it has a window and, beside it, devices, some of which
+//! the task may read.
 ghost use Rattle.std.specs.Prelude.{◌≡◌, ◌/◌, ◌≤◌, ◌<◌, Some, MatchOption, true, false, []};
 ghost use Rattle.words_core.specs.Regs.{reg_at, program_counter};
 ghost use Rattle.region_check.specs.declared.Right.TheVariants.{Execute};
@@ -26,7 +26,7 @@ use thumb_insn::{Decoded, Insn};
 use thumb_step::Window;
 use words_core::PROGRAM_COUNTER;
 
-/// What a task sees that may read devices: a window and, beside it, the devices.
+/// What a task sees if it may read devices: a window and, beside it, the devices.
 #[derive(Drop)]
 pub struct Seen {
     pub window: Window,
@@ -36,23 +36,23 @@ pub struct Seen {
     pub io_regions: Vec<Region>,
 }
 
-/// A processor that makes instructions on end over a window and the devices. Between two uses it
-/// sees no device and no port, and its window has no bytes.
+/// A processor that makes instructions one after another over a window and the devices. Between two
+/// uses it has no devices and no I/O regions, and its window has no bytes.
 #[derive(Drop)]
 pub struct Poller {
     pub processor: Cpu,
     pub seen: Seen,
 
-    /// How many instructions there may be at most, and how many there were.
+    /// How many instructions it may make at most, and how many it made.
     pub most: u32,
     pub made: u32,
 
-    /// Whether the next one, where there were fewer, is a system call.
+    /// Whether the next instruction is a system call, if fewer were made.
     pub at_syscall: bool,
 }
 
 impl Seen {
-    /// Whether a port has all of n bytes.
+    /// Whether one of the I/O regions has all of n bytes.
     #[inline(always)]
     fn in_io_region(&self, addr: u32, n: u32) -> bool
         ensures { result ≡ in_io_region self.now.io_regions.items addr n }
@@ -60,7 +60,7 @@ impl Seen {
         self.io_regions.iter().any(|port| port.spans(addr, n))
     }
 
-    /// A load where devices lie.
+    /// A load at a device address.
     #[inline(never)]
     fn load_device(&self, addr: u32, n: u32) -> Result<u32, u32>
         requires size { IsSize n }
@@ -76,8 +76,8 @@ impl Seen {
         }
     }
 
-    /// The halfword at an address, where it may be executed, by how many places the stretch of the
-    /// window has for one.
+    /// The halfword at an address, if it may be executed. `places` is how many places the stretch
+    /// of the window has for a halfword.
     #[inline(always)]
     fn code_half(&self, addr: u32, places: u32) -> Option<u16>
         requires apart { IsApart (view_of self.now.window) }
@@ -142,13 +142,13 @@ impl Bus for Seen {
         }
     }
 
-    /// There are devices, else it would not be here.
+    /// There are devices, or the poller would not be used.
     #[inline(always)]
     fn takes(&self) -> bool {
         true
     }
 
-    /// Loads of several words go word by word.
+    /// Loads of several words are made one word at a time.
     #[inline(always)]
     fn gives(&self, _addr: u32, _count: u32, _right: Right) -> bool {
         false
@@ -175,7 +175,7 @@ impl Taker for Poller {
 }
 
 impl Poller {
-    /// One that never had a window.
+    /// A poller that has never had a window.
     pub fn new(alloc: Global) -> Poller
         ensures devices { data_of shown result.seen.devices ≡ [] }
         ensures io_regions { result.seen.io_regions.items ≡ [] }
@@ -194,8 +194,8 @@ impl Poller {
         }
     }
 
-    /// One instruction over the window and the devices, where it goes on; else nothing changes, and
-    /// the answer is false.
+    /// Makes one instruction over the window and the devices. If it cannot go on, nothing changes
+    /// and the result is false.
     #[inline(always)]
     fn step(&mut self, places: u32) -> bool
         requires apart { IsApart (view_of self.old.seen.window) }
@@ -215,14 +215,14 @@ impl Poller {
         if narrow_to(first, self) {
             return true;
         }
-        // Wide ones are rare, and are looked for here for speed, as a runner does.
+        // Wide instructions are rare. The test for them is here for speed, as in a runner.
         if first / 2048 >= 29 {
             return self.step_wide(at, first, places);
         }
         false
     }
 
-    /// The same where this first halfword begins a wide instruction.
+    /// The same, if this first halfword begins a wide instruction.
     #[inline(never)]
     fn step_wide(&mut self, at: u32, first: u16, places: u32) -> bool
         requires apart { IsApart (view_of self.old.seen.window) }
@@ -247,7 +247,8 @@ impl Poller {
         }
     }
 
-    /// Instructions on end, at most so many, as long as each goes on. How many there were.
+    /// Makes instructions one after another, at most `most`, as long as each goes on. Returns how
+    /// many it made.
     #[inline(never)]
     fn run(&mut self, most: u32) -> u32
         requires apart { IsApart (view_of self.old.seen.window) }
@@ -266,7 +267,7 @@ impl Poller {
         most - left
     }
 
-    /// Instructions on end, where the stretch lies within the flash, and the flash below the RAM.
+    /// Makes the instructions, if the stretch lies within the flash, and the flash below the RAM.
     fn glide(&mut self) -> u32
         ensures polls { Polls (sight_of shown self.old.seen) self.old.processor result
             (sight_of shown self.new.seen) self.new.processor }

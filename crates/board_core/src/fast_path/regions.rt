@@ -1,5 +1,4 @@
-//! Which regions of a task make a window: that of its code, that of its stack, and two further
-//! ones.
+//! Which regions of a task make up a window: that of its code, that of its stack, and two areas.
 ghost use Rattle.std.specs.Prelude.{◌≡◌, ◌&&◌, ◌*◌, ◌<◌, Option, Some, true, false, None, IfSome, MatchOption, Contains};
 ghost use Rattle.std.specs.List.{list_any};
 ghost use Rattle.board_core.specs.fast.Reached.{is_flash_at, is_ram_at, is_area, is_second, IsStackRegion, IsAreaRegion, IsSecondRegion, AreReached, MakeWindow, no_region, unwatched, without_watched};
@@ -12,14 +11,14 @@ use crate::space::AddressSpace;
 use mem_banks::RAM;
 use region_check::{Region, Rights};
 
-/// Whether a region of the flash has the instruction at an address, and may be executed.
+/// Whether this region of the flash may be executed and has the instruction at an address.
 fn is_flash_at(region: &Region, at: u32) -> bool
     ensures { result ≡ is_flash_at at region.now }
 {
     region.spans(at, 2) && region.rights.execute && !region.rights.device && region.base < RAM
 }
 
-/// Whether a region of the RAM has an address, or ends there, and may be read and written.
+/// Whether this region of the RAM may be read and written, and has an address or ends there.
 fn is_ram_at(region: &Region, at: u32) -> bool
     ensures { result ≡ is_ram_at at region.now }
 {
@@ -31,7 +30,7 @@ fn is_ram_at(region: &Region, at: u32) -> bool
         && region.base >= RAM
 }
 
-/// Whether a region of the RAM may be read, has bytes and is not that of the stack.
+/// Whether this region of the RAM may be read, is not empty, and is not that of the stack.
 fn is_area(region: &Region, stack: &Region) -> bool
     ensures { result ≡ is_area stack.now region.now }
 {
@@ -42,7 +41,7 @@ fn is_area(region: &Region, stack: &Region) -> bool
         && !(region.base == stack.base && region.size == stack.size)
 }
 
-/// No region: it has no bytes, and begins where the RAM does.
+/// The empty region: it has no bytes, and begins where the RAM does.
 fn no_region() -> Region
     ensures none { IsNoRegion (span_of result) }
     ensures is { result ≡ no_region }
@@ -59,7 +58,7 @@ fn no_region() -> Region
     }
 }
 
-/// A region, or none where it has the byte that is watched.
+/// A region; the empty one instead if it has the watched byte.
 #[inline(always)]
 fn unwatched(watched: Option<u32>, region: Region) -> Region
     ensures { result ≡ unwatched watched region }
@@ -70,8 +69,8 @@ fn unwatched(watched: Option<u32>, region: Region) -> Region
     }
 }
 
-/// The regions that make a window: that of the flash which has the instruction at PC, and three of
-/// the RAM, which may be empty.
+/// The regions that make up a window: the one of the flash that has the instruction at PC, and
+/// three of the RAM, which may be empty.
 #[derive(Clone, Copy)]
 pub struct WindowRegions {
     pub flash: Region,
@@ -81,7 +80,7 @@ pub struct WindowRegions {
 }
 
 impl WindowRegions {
-    /// The same, but each of the RAM is an empty one where it has the byte that is watched.
+    /// The same, but with the empty region for each one of the RAM that has the watched byte.
     #[inline(always)]
     fn without(self, watched: Option<u32>) -> WindowRegions
         ensures { result ≡ without_watched watched self }
@@ -95,7 +94,7 @@ impl WindowRegions {
     }
 }
 
-/// One of some regions that is of the flash and has the instruction at an address.
+/// A region of the flash that has the instruction at an address.
 fn flash_at(regions: &[Region], at: u32) -> Option<Region>
     ensures { MatchOption result (list_any (is_flash_at at) regions.now ≡ false)
         (λ r. Contains regions.now r × (is_flash_at at r ≡ true)) }
@@ -108,8 +107,7 @@ fn flash_at(regions: &[Region], at: u32) -> Option<Region>
     None
 }
 
-/// One of some regions that is of the RAM and has an address, or ends there; an empty one where
-/// none is.
+/// A region of the RAM that has an address, or ends there; the empty region if there is none.
 fn ram_at(regions: &[Region], at: u32) -> Region
     ensures { IsStackRegion regions.now at result }
 {
@@ -121,8 +119,8 @@ fn ram_at(regions: &[Region], at: u32) -> Region
     no_region()
 }
 
-/// The first of some regions that is of the RAM, may be read and is not that of the stack; an empty
-/// one where none is.
+/// The first region of the RAM that may be read and is not that of the stack; the empty region if
+/// there is none.
 fn area_of(regions: &[Region], stack: &Region) -> Region
     ensures { IsAreaRegion regions.now stack.now result }
 {
@@ -134,15 +132,15 @@ fn area_of(regions: &[Region], stack: &Region) -> Region
     no_region()
 }
 
-/// Whether a region may be an area and is not this one.
+/// Whether a region can be an area and is not the first one.
 fn is_second(region: &Region, stack: &Region, area: &Region) -> bool
     ensures { result ≡ is_second stack.now area.now region.now }
 {
     is_area(region, stack) && !(region.base == area.base && region.size == area.size)
 }
 
-/// The first of some regions that may be an area and is not the first area; an empty one where none
-/// is. Where there is no first area, there is no second one, so that most tasks are not searched
+/// The first region that can be an area and is not the first area; the empty region if there is
+/// none. If there is no first area, there is no second one either, so most tasks are not searched
 /// again.
 fn second_of(regions: &[Region], stack: &Region, area: &Region) -> Region
     requires { IsAreaRegion regions.now stack.now area.now }
@@ -159,9 +157,8 @@ fn second_of(regions: &[Region], stack: &Region, area: &Region) -> Region
     no_region()
 }
 
-/// The region that has the instruction at PC, that of the stack and two further ones, where the
-/// first of some has that instruction and the second one the stack, as those of a task are laid
-/// out: then neither is looked for.
+/// The window's regions if they are where a plan puts them: the first region has the instruction at
+/// PC and the second one the stack. Then neither has to be searched for.
 #[inline(always)]
 fn laid_out(regions: &[Region], pc: u32, sp: u32) -> Option<WindowRegions>
     ensures { IfSome result (AreReached regions.now pc sp) }
@@ -184,7 +181,7 @@ fn laid_out(regions: &[Region], pc: u32, sp: u32) -> Option<WindowRegions>
     })
 }
 
-/// The same, wherever among them they are.
+/// The same, wherever the regions are.
 #[inline(never)]
 fn looked_up(regions: &[Region], pc: u32, sp: u32) -> Option<WindowRegions>
     ensures { MatchOption result (list_any (is_flash_at pc) regions.now ≡ false)
@@ -203,10 +200,10 @@ fn looked_up(regions: &[Region], pc: u32, sp: u32) -> Option<WindowRegions>
 }
 
 impl AddressSpace {
-    /// The four regions in which a task may make many instructions on end: that of the flash that
-    /// has its PC, that of the RAM that has its stack, and the first two further ones of the RAM
-    /// that it may read. Each of these three may be an empty one, and is where the region has the
-    /// byte that is watched.
+    /// The four regions in which a task may make many instructions: the one of the flash that has
+    /// its PC, the one of the RAM that has its stack, and the first two other ones of the RAM that
+    /// it may read. Each of the last three may be the empty region. It is the empty one if it would
+    /// have the watched byte.
     #[inline(always)]
     pub fn window(
         &self,

@@ -1,4 +1,4 @@
-//! The audit of a trace: from its file to what is told of it.
+//! The audit of a trace: from its file to what is written of it.
 ghost use Rattle.std.specs.Prelude.{◌≡◌, ◌≤◌, List, length, None, IfOk, IfErr, string_bytes};
 ghost use Rattle.kernel_abi.specs.Devices.{DeviceData};
 ghost use Rattle.command_line.specs.CommandLine.{audit as audit_job};
@@ -69,7 +69,7 @@ fn line_of_no(alloc: Global, line: u64) -> Result<String, AllocError>
     Ok(text)
 }
 
-// That a trace holds together.
+// Writes that a trace holds together.
 fn tell_yes<S: Sink>(alloc: Global, calls: u64, left: u64, out: &mut S) -> u8
     ensures { Says (S.seen out.old) (S.seen out.new) (audited (Judgement.Yes calls left)) result }
 {
@@ -79,7 +79,7 @@ fn tell_yes<S: Sink>(alloc: Global, calls: u64, left: u64, out: &mut S) -> u8
     }
 }
 
-// That it does not, and where.
+// Writes that it does not, and where.
 fn tell_no<S: Sink>(alloc: Global, line: u64, out: &mut S) -> u8
     ensures { Says (S.seen out.old) (S.seen out.new) (audited (Judgement.No line)) result }
 {
@@ -89,7 +89,7 @@ fn tell_no<S: Sink>(alloc: Global, line: u64, out: &mut S) -> u8
     }
 }
 
-// What an audit found.
+// Writes what an audit found.
 fn tell_audit<S: Sink>(alloc: Global, verdict: Judgement, out: &mut S) -> u8
     ensures { Says (S.seen out.old) (S.seen out.new) (audited verdict) result }
 {

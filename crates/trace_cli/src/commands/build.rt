@@ -120,7 +120,7 @@ fn take_sources<F: Files>(
     Ok(())
 }
 
-// The image of an application, of which the sources of the tasks are read here.
+// The image of an application. The sources of its tasks are read here.
 fn image_of<F: Files>(
     alloc: Global,
     files: &mut F,
@@ -158,8 +158,8 @@ pub struct BuiltApp {
     pub lines: SourceLines,
 }
 
-/// The application under a name, and its image; and where the instructions and the labels of its
-/// sources lie, if that is wanted.
+/// The application under a name, and its image. If it is wanted, also where the instructions and
+/// the labels of its sources lie.
 pub fn built_app<F: Files>(
     alloc: Global,
     files: &mut F,

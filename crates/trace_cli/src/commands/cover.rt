@@ -1,4 +1,4 @@
-//! How often a run executed each instruction, told.
+//! Writes how often a run executed each instruction.
 ghost use Rattle.std.specs.Prelude.{◌≡◌, ◌≤◌, [], map, false, true};
 ghost use Rattle.kernel_abi.specs.Devices.{AreFresh};
 ghost use Rattle.board_model.specs.Script.{Scenario, start_of};
@@ -19,7 +19,7 @@ use run_cover::{Cover, write_cover};
 use std::alloc::Global;
 use thumb_asm::Label;
 
-// What the run of a board from its start executes, with these labels.
+// Writes what the run of a board from its start executes, with these labels.
 fn cover_board<S: Sink>(
     alloc: Global,
     board: &mut Board,
@@ -94,7 +94,8 @@ fn cover_app<F: Files, S: Sink>(
     }
 }
 
-/// `cover IMAGE SCRIPT --steps N`, or, with labels, of the image that is built of an application.
+/// `cover IMAGE SCRIPT --steps N`; with labels, the same for the image that is built from an
+/// application.
 pub fn cover_files<F: Files, S: Sink>(
     alloc: Global,
     image: &str,

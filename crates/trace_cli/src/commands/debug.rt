@@ -61,7 +61,7 @@ fn read_commands<F: Files>(alloc: Global, files: &mut F, name: &str) -> Result<C
 }
 
 // The board at the start of the run of the image and the script under these names, with devices,
-// and the commands under the third.
+// and the commands under the third name.
 fn prepare_debug<F: Files>(
     alloc: Global,
     files: &mut F,
@@ -97,7 +97,7 @@ fn prepare_debug<F: Files>(
     }
 }
 
-// Commands carried out over the run of a board from its start.
+// Carries commands out over the run of a board from its start.
 fn carry_out<S: Sink>(alloc: Global, board: Board, commands: &Commands, out: &mut S) -> u8
     requires started { (x : Scenario) × Stands (boxed shown) x board (start_of x) }
     ensures { (x : Scenario) → Stands (boxed shown) x board (start_of x) →

@@ -24,7 +24,7 @@ use run_cover::{PlaceCounts, Source, write_tracefile};
 use std::alloc::{AllocError, Global};
 use thumb_asm::InsnLine;
 
-// The lines of the i-th source, none where there is no such list.
+// The lines of the i-th source; none if no lines are kept for it.
 fn lines_of(lines: &SourceLines, i: usize) -> &[InsnLine]
     ensures { result.now ≡ slice_index_or (kept_lines lines.now) i [] }
 {
@@ -54,7 +54,8 @@ fn sources_of<'a>(
     Ok(sources)
 }
 
-// How often the run of a board from its start executes each line of these sources.
+// Counts how often the run of a board from its start executes each line of these sources, and puts
+// the counts.
 fn trace_board<F: Files, S: Sink>(
     alloc: Global,
     board: &mut Board,
@@ -89,7 +90,7 @@ fn trace_board<F: Files, S: Sink>(
     put_told(bytes, name, line.as_bytes(), files, out)
 }
 
-// The same of an application, whose lines are known.
+// The same for an application whose lines are known.
 fn trace_app<F: Files, S: Sink>(
     alloc: Global,
     board: &mut Board,

@@ -17,9 +17,9 @@ use devices::Device;
 use outside_io::{Files, Sink};
 use std::alloc::Global;
 
-// Lines under a name carried out over the run of a board from its start as they come. The line that
-// says that they cannot be read is made before the first of them, since memory may be short then
-// and not later.
+// Carries the lines under a name out over the run of a board from its start, as they come. The line
+// that says that they cannot be read is made before the first of them, because memory may run out
+// then, but not later.
 fn carry_out<F: Files, S: Sink>(
     alloc: Global,
     board: Board,

@@ -1,4 +1,4 @@
-//! An image of either form, put under a name in the second.
+//! An image of either form, put under a name in the second form.
 ghost use Rattle.std.specs.Prelude.{◌≤◌, List};
 ghost use Rattle.kernel_abi.specs.Devices.{DeviceData};
 ghost use Rattle.command_line.specs.CommandLine.{migrate as migrate_job};

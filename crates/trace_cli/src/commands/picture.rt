@@ -17,7 +17,8 @@ use outside_io::{Files, Sink};
 use run_lanes::draw_run;
 use std::alloc::Global;
 
-// The run of a board from its start as a picture under this title, of tasks with these names.
+// Draws the run of a board from its start as a picture, with this title and these names of tasks,
+// and puts it.
 fn draw_board<F: Files, S: Sink>(
     alloc: Global,
     board: &mut Board,

@@ -1,4 +1,4 @@
-//! A run from a saved state: from its files to what is told of it.
+//! A run from a saved state: from its files to what is written of it.
 ghost use Rattle.std.specs.Prelude.{◌≡◌, ◌≤◌, ℕ, List, length, map, None, IfOk, IfErr};
 ghost use Rattle.kernel_abi.specs.Devices.{DeviceData, AreFresh};
 ghost use Rattle.mem_banks.specs.Memory.{AreAllBytes};
@@ -33,7 +33,7 @@ use run_script::Script;
 use snapshot::{StateFault, load};
 use std::alloc::Global;
 
-// Why bytes are refused as a state.
+// Why these bytes are refused as a state.
 fn fault_by_state(alloc: Global, fault: StateFault) -> FileFault
     ensures { (devices : List DeviceData) (image : ImageData) (bound : ℕ) (bytes : List ℕ) →
         length bytes ≤ file_limit
@@ -46,15 +46,15 @@ fn fault_by_state(alloc: Global, fault: StateFault) -> FileFault
     }
 }
 
-// What a slice holds are bytes.
+// The elements of a slice are bytes.
 fn are_bytes(bytes: &[u8])
     ensures { AreAllBytes bytes.now }
 {
     let _len = bytes.len();
 }
 
-// The run of an image that was read, with a script that was read and with devices as they are
-// handed in, starts well.
+// The run of an image and a script that were read, with devices to which nothing has come yet,
+// starts well.
 fn starts_well(image: &Image, script: &Script)
     ensures { (devices : List DeviceData) → AreFresh devices →
         StartsWell (scenario_of (picture image.now) (script_data script.now) devices) }
@@ -64,7 +64,7 @@ fn starts_well(image: &Image, script: &Script)
     are_bytes(image.flash());
 }
 
-// The board in the state that the bytes spell, which is of no turn behind the bound.
+// The board in the state that the bytes spell. That state is of no turn after the bound.
 fn board_in(
     alloc: Global,
     image: &Image,

@@ -1,4 +1,5 @@
-//! The run of a board from the state that it stands for, told: of `run` and `go` from its start.
+//! Writes the run of a board from the state that it stands for; for `run` and `go` that is the
+//! start.
 ghost use Rattle.std.specs.Prelude.{◌≡◌, ◌≤◌, List, map, IfOk, IfErr};
 ghost use Rattle.kernel_abi.specs.Devices.{DeviceData, AreFresh};
 ghost use Rattle.outside_io.specs.Outside.{Pushes, HasCause};
@@ -35,8 +36,8 @@ fn level_of(detail: Detail) -> Level
     }
 }
 
-// A run's trace, and then maybe its memory. From the start of a run an audit finds the whole text
-// good.
+// Pushes a run's trace, and then perhaps its memory. If the run begins at its start, `audit`
+// accepts the whole text.
 fn push_run<S: Sink>(
     board: &mut Board,
     steps: u32,
@@ -64,7 +65,7 @@ fn push_run<S: Sink>(
     Ok(end)
 }
 
-/// The run of a board up to a turn.
+/// Writes the run of a board up to a turn.
 pub fn tell_run<S: Sink>(board: &mut Board, steps: u32, detail: Detail, out: &mut S) -> u8
     requires stood { StandsForSome (boxed shown) board.old }
     requires from { turns_of board.old ≤ steps }
@@ -80,7 +81,7 @@ pub fn tell_run<S: Sink>(board: &mut Board, steps: u32, detail: Detail, out: &mu
     }
 }
 
-// The run of the board that a job came to, or why there is none.
+// Writes the run of the board that was prepared, or why there is none.
 fn run_prepared<S: Sink>(
     alloc: Global,
     prepared: Result<Board, NamedFault>,

@@ -1,4 +1,4 @@
-//! The sample of a seed: from its making to what is told of its run.
+//! The sample of a seed: from its making to what is written of its run.
 ghost use Rattle.std.specs.Prelude.{◌≡◌, ◌≤◌, List, IfOk, IfErr, length, map, string_bytes};
 ghost use Rattle.kernel_abi.specs.Devices.{DeviceData};
 ghost use Rattle.app_toml.specs.Held.{app_of};
@@ -26,7 +26,7 @@ use outside_io::Sink;
 use sample_gen::sample;
 use std::alloc::Global;
 
-// The image of an application and of the sources of its tasks.
+// The image of an application and the sources of its tasks.
 fn image_by(alloc: Global, app: &App, sources: &[String]) -> Result<Image, BuildFault>
     requires { length sources.now ≡ length (app_of app.now).tasks }
     ensures built { IfOk result (λ i. Built (app_of app.now) (map string_bytes sources.now)
@@ -40,8 +40,8 @@ fn image_by(alloc: Global, app: &App, sources: &[String]) -> Result<Image, Build
     builder.finish()
 }
 
-// The board at the start of the run of the sample of a seed, which has no device: only for want of
-// memory there is none.
+// The board at the start of the run of the sample of a seed, which has no devices. It fails only if
+// memory runs out.
 fn prepare_sample(alloc: Global, seed: u32) -> Result<Board, BuildFault>
     ensures ready { IfOk result (IsSampleReady (boxed shown) seed) }
     ensures memory { IfErr result (λ e. e ≡ BuildFault.Memory) }
@@ -58,7 +58,7 @@ fn prepare_sample(alloc: Global, seed: u32) -> Result<Board, BuildFault>
     }
 }
 
-// The run of a board from its start, by its end and the numbers of its notes.
+// Runs a board from its start, and writes how the run ended and how many notes of each kind it had.
 fn tell_sample<S: Sink>(board: &mut Board, steps: u32, out: &mut S) -> u8
     requires stood { StandsForSome (boxed shown) board.old }
     requires fresh { turns_of board.old ≡ 0 }
@@ -72,7 +72,7 @@ fn tell_sample<S: Sink>(board: &mut Board, steps: u32, out: &mut S) -> u8
     }
 }
 
-/// `sample SEED STEPS`. No device is handed in, whatever there is for another job.
+/// `sample SEED STEPS`. Its run has no devices, even if other jobs have some.
 pub fn run_sample<S: Sink>(alloc: Global, seed: u32, steps: u32, out: &mut S) -> u8
     requires few { steps ≤ 1000000000 }
     ensures { (devices : List DeviceData) (before after : FilesSeen) →

@@ -18,7 +18,7 @@ use outside_io::{Files, Sink};
 use snapshot::save;
 use std::alloc::{AllocError, Global};
 
-// The run of a board from its start, of which nothing is told: the bytes of its last state.
+// The bytes of the last state of the run of a board from its start. Nothing is written of that run.
 fn last_bytes(alloc: Global, board: &mut Board, steps: u32) -> Result<Vec<u8>, AllocError>
     requires stood { StandsForSome (boxed shown) board.old }
     requires fresh { turns_of board.old ≡ 0 }

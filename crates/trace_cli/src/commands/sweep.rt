@@ -30,7 +30,7 @@ use sweep_core::Sweeper;
 /// The most events of an arrival.
 const MOST_ARRIVING: usize = 256;
 
-// The script of an arrival that the bytes of a file are.
+// The script of an arrival that the bytes of a file hold.
 fn arrival_in(alloc: Global, bytes: &[u8]) -> Result<Script, FileFault>
     requires { length bytes.now ≤ file_limit }
     ensures accepted { IfOk result (λ s. arrival_refusal bytes.now ≡ None) }
@@ -69,7 +69,7 @@ fn read_arrival<F: Files>(alloc: Global, files: &mut F, name: &str) -> Result<Sc
 }
 
 // The sweeper at the start of the run of the image and the script under these names, with devices,
-// and the arrival under the third.
+// and the arrival under the third name.
 fn prepare_sweep<F: Files>(
     alloc: Global,
     files: &mut F,
@@ -111,7 +111,7 @@ fn prepare_sweep<F: Files>(
     }
 }
 
-// The sweep, from a sweeper at its start.
+// Writes the sweep, from a sweeper at its start.
 fn tell_sweep<S: Sink>(
     sweeper: &mut Sweeper,
     from: u32,

@@ -1,4 +1,4 @@
-//! A run as a timeline, told.
+//! A run, written as a timeline.
 ghost use Rattle.std.specs.Prelude.{◌≡◌, ◌≤◌, length, map, option_map, string_bytes};
 ghost use Rattle.kernel_abi.specs.Devices.{AreFresh};
 ghost use Rattle.board_model.specs.Script.{Scenario, start_of};
@@ -18,7 +18,7 @@ use outside_io::{Files, Sink};
 use run_lanes::{TimelineFault, write_timeline};
 use std::alloc::Global;
 
-// The run of a board from its start as events, of tasks with these names.
+// Writes the run of a board from its start as events, with these names of tasks.
 fn time_board<S: Sink>(
     alloc: Global,
     board: &mut Board,
