@@ -5,15 +5,16 @@
 //!
 //! A case begins with a line `= STATUS NAME`. Each of its parts begins with a line `+ KEY`:
 //! `words`, the command line after the program's name, or `each word`, the same with one word a
-//! line, or neither where not even the program's name is handed over; `failing calls` and `failing
-//! pushes`, the numbers of the reads and puts, and of the pushes, that fail; `hex NAME`, a file as
-//! bytes, where `00*9` is nine of one; `room NAME`, a file with room for so many bytes, and those
-//! that it holds; `player NAME` and `server NAME`, the source of a task that makes the calls of a
-//! table, and the table; `repeated NAME`, a file in which the lines between a line `< N` and a line
-//! `>` stand N times, `@` being the number of the time; `devices`, which devices are handed in;
-//! `left NAME`, the bytes that stand there in the end, `left text NAME` the same as lines and `left
-//! sum NAME` by their checksum; and any other key is the name of a file that stands there as it is.
-//! Last comes `text`, the lines that are wanted, or `sum`, the checksum of the text.
+//! line, or `name and words`, the same with the program's name before them, or none of these where
+//! not even that is handed over; `failing calls` and `failing pushes`, the numbers of the reads and
+//! puts, and of the pushes, that fail; `hex NAME`, a file as bytes, where `00*9` is nine of one;
+//! `room NAME`, a file with room for so many bytes, and those that it holds; `player NAME` and
+//! `server NAME`, the source of a task that makes the calls of a table, and the table; `repeated
+//! NAME`, a file in which the lines between a line `< N` and a line `>` stand N times, `@` being
+//! the number of the time; `devices`, which devices are handed in; `left NAME`, the bytes that
+//! stand there in the end, `left text NAME` the same as lines and `left sum NAME` by their
+//! checksum; and any other key is the name of a file that stands there as it is. Last comes `text`,
+//! the lines that are wanted, or `sum`, the checksum of the text.
 #![tactic(auto)]
 
 mod cuts;
@@ -93,21 +94,23 @@ fn push_line(words: &mut Vec<String>, line: &str) -> Result<(), AllocError> {
     Ok(())
 }
 
-/// Appends the program's name and a word for each line.
+/// Appends a word for each line.
 fn push_each(words: &mut Vec<String>, lines: &str) -> Result<(), AllocError> {
-    push_word(words, "hubris")?;
     for word in lines.split('\n') {
         push_word(words, word)?;
     }
     Ok(())
 }
 
-/// The words of the command line.
+/// The program's name and the words of the command line.
 fn words_of(alloc: Global, parts: &[Part<'_>]) -> Result<Vec<String>, AllocError> {
     let mut words = Vec::new(alloc);
     if let Some(line) = contents(parts, "words") {
         push_line(&mut words, line)?;
     } else if let Some(lines) = contents(parts, "each word") {
+        push_word(&mut words, "hubris")?;
+        push_each(&mut words, lines)?;
+    } else if let Some(lines) = contents(parts, "name and words") {
         push_each(&mut words, lines)?;
     }
     Ok(words)
@@ -154,9 +157,10 @@ enum Form {
 }
 
 /// The keys of parts that tell no file, besides those of what is left.
-const NO_FILES: [&str; 8] = [
+const NO_FILES: [&str; 9] = [
     "words",
     "each word",
+    "name and words",
     "failing calls",
     "failing pushes",
     "turns",
