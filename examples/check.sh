@@ -28,6 +28,9 @@ same "$made/go.txt" "$task/expected.txt" "one-task, go"
 same "$made/mem.txt" "$task/expected-mem.txt" "one-task, go with its memory"
 "$program" run "$made/one-task.img" "$task/empty.txt" --steps 100 --mem > "$made/run.txt" || true
 same "$made/run.txt" "$task/expected-mem.txt" "one-task, build and then run"
+# the greatest numbers that sample takes: such a run goes on until it is stopped
+timeout 1 "$program" sample 4294967295 1000000000 > "$made/sample.txt" && status=0 || status=$?
+[ "$status" = 124 ] || { echo "a sample of the greatest numbers: status $status"; exit 1; }
 loan=examples/client-server
 "$program" go "$loan/app.toml" "$loan/empty.txt" --steps 1000 > "$made/go.txt"
 same "$made/go.txt" "$loan/expected.txt" "client-server, go"

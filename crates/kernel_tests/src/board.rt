@@ -14,7 +14,7 @@ use std::process::Abort;
 use std::test::Fail;
 
 /// An image of one task with 256 bytes of flash, without these.
-pub(crate) const HEAD: [u8; 44] = [
+const HEAD: [u8; 44] = [
     0x48, 0x42, 0x49, 0x31, 1, 0, 1, 0, 0, 1, 0, 0, 0, 0, 0, 0, 1, 0, 0, 0, 0, 1, 1, 0, 1, 0, 0, 8,
     0, 0, 0, 0x20, 0, 0, 0, 8, 0, 1, 0, 0, 5, 0, 0, 0,
 ];

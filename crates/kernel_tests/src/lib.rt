@@ -10,21 +10,11 @@ mod board;
 #[cfg(test)]
 mod choosing;
 #[cfg(test)]
-mod covers;
-#[cfg(test)]
-mod debugging;
-#[cfg(test)]
 mod eight_devices;
 #[cfg(test)]
 mod guide;
 #[cfg(test)]
-mod lanes;
-#[cfg(test)]
 mod memory;
-#[cfg(test)]
-mod saved_states;
-#[cfg(test)]
-mod sweeps;
 #[cfg(test)]
 mod tasks;
 #[cfg(test)]

@@ -1,13 +1,8 @@
-//! Tests of the crates below the kernel, over public calls: files and sinks, the command line, the
-//! plain data of the kernel, devices, words, regions and scripts; lines, instructions, codes, the
-//! assembler and the lines of a trace; what descriptions say, plans of memory, the builder and the
-//! large sample. Nothing else is here.
+//! Tests of the crates below the kernel, over public calls: files and sinks, the plain data of the
+//! kernel, devices, words, regions and scripts; lines, instructions, codes, the assembler and the
+//! lines of a trace; plans of memory, the builder and the large sample. Nothing else is here.
 #![tactic(auto)]
 
-#[cfg(test)]
-mod app_toml_tests;
-#[cfg(test)]
-mod command_line_tests;
 #[cfg(test)]
 mod devices_tests;
 #[cfg(test)]

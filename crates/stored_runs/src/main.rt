@@ -7,7 +7,8 @@
 //! keys are:
 //!
 //! - `words`: the command line after the program's name; `each word`: the same with one word a
-//!   line. Without either, not even the program's name is handed over.
+//!   line; `name and words`: the same with the program's name before them. Without any of these,
+//!   not even the program's name is handed over.
 //! - `failing calls` and `failing pushes`: the numbers of the reads and puts, and of the pushes,
 //!   that fail.
 //! - `hex NAME`: a file as bytes, where `00*9` is nine of one.
@@ -101,21 +102,23 @@ fn push_line(words: &mut Vec<String>, line: &str) -> Result<(), AllocError> {
     Ok(())
 }
 
-/// Appends the program's name and a word for each line.
+/// Appends a word for each line.
 fn push_each(words: &mut Vec<String>, lines: &str) -> Result<(), AllocError> {
-    push_word(words, "hubris")?;
     for word in lines.split('\n') {
         push_word(words, word)?;
     }
     Ok(())
 }
 
-/// The words of the command line.
+/// The program's name and the words of the command line.
 fn words_of(alloc: Global, parts: &[Part<'_>]) -> Result<Vec<String>, AllocError> {
     let mut words = Vec::new(alloc);
     if let Some(line) = contents(parts, "words") {
         push_line(&mut words, line)?;
     } else if let Some(lines) = contents(parts, "each word") {
+        push_word(&mut words, "hubris")?;
+        push_each(&mut words, lines)?;
+    } else if let Some(lines) = contents(parts, "name and words") {
         push_each(&mut words, lines)?;
     }
     Ok(words)
@@ -162,9 +165,10 @@ enum Form {
 }
 
 /// The keys of parts that are no files, apart from those of what is left.
-const NO_FILES: [&str; 8] = [
+const NO_FILES: [&str; 9] = [
     "words",
     "each word",
+    "name and words",
     "failing calls",
     "failing pushes",
     "turns",
