@@ -89,7 +89,7 @@ fn tell_refused<S: Sink>(alloc: Global, name: &str, cause: u8, place: &str, out:
 }
 
 fn line_of_listing(alloc: Global, image: &Image) -> Result<String, AllocError>
-    ensures { IfOk result (λ line. string_bytes line ≡ listing_line (picture image.now)) }
+    ensures { IfOk result (λ line. string_bytes line ≡ listing_line (image_data image.now)) }
 {
     let mut line = list(alloc, image)?;
     line.push_str("\n")?;
@@ -98,7 +98,7 @@ fn line_of_listing(alloc: Global, image: &Image) -> Result<String, AllocError>
 
 /// Writes what an image contains.
 pub fn tell_listing<S: Sink>(alloc: Global, image: &Image, out: &mut S) -> u8
-    ensures { Says (S.seen out.old) (S.seen out.new) (listed (picture image.now)) result }
+    ensures { Says (S.seen out.old) (S.seen out.new) (listed (image_data image.now)) result }
 {
     match line_of_listing(alloc, image) {
         Ok(line) => tell(line.as_bytes(), 0, out),

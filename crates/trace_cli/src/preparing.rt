@@ -70,7 +70,7 @@ fn set_up<F: Files>(
 ) -> Result<Board, NamedFault>
     requires fresh { AreFresh (map shown devices.items) }
     ensures set { IfOk result (IsSet shown (map shown devices.items) (F.seen files.old).contents
-        (picture image.now) script.now) }
+        (image_data image.now) script.now) }
     ensures named_fault { IfErr result
         (IsNamedFaultOf (F.seen files.old) (F.seen files.new) (script_file script.now)) }
     ensures only_reads { OnlyReads (F.seen files.old) (F.seen files.new) }

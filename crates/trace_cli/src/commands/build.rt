@@ -213,7 +213,7 @@ pub fn put_image<F: Files, S: Sink>(
     out: &mut S,
 ) -> u8
     ensures tells { Tells (F.seen files.old) (F.seen files.new) (S.seen out.old) (S.seen out.new)
-        (built name.now (picture image.now)) result }
+        (built name.now (image_data image.now)) result }
     ensures reads { (F.seen files.new).read_faults ≡ (F.seen files.old).read_faults }
     ensures puts { (F.seen files.old).put_faults ≤ (F.seen files.new).put_faults }
 {

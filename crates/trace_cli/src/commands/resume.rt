@@ -57,7 +57,7 @@ fn are_bytes(bytes: &[u8])
 // starts well.
 fn starts_well(image: &Image, script: &Script)
     ensures { (devices : List DeviceData) → AreFresh devices →
-        StartsWell (scenario_of (picture image.now) (script_data script.now) devices) }
+        StartsWell (scenario_of (image_data image.now) (script_data script.now) devices) }
 {
     image.facts();
     script.facts();
@@ -75,14 +75,16 @@ fn board_in(
 ) -> Result<Board, FileFault>
     requires fresh { AreFresh (map shown devices.items) }
     requires few { length bytes.now ≤ file_limit }
-    ensures accepted { IfOk result (λ b. state_refusal (map shown devices.items) (picture image.now)
+    ensures accepted { IfOk result (λ b. state_refusal (map shown devices.items)
+        (image_data image.now)
         bound bytes.now ≡ None) }
     ensures loaded { IfOk result (IsLoaded shown
-        (scenario_of (picture image.now) (script_data script.now) (map shown devices.items))
+        (scenario_of (image_data image.now) (script_data script.now) (map shown devices.items))
         bytes.now) }
     ensures turns { IfOk result (λ b. turns_of b ≤ bound) }
     ensures file_fault { IfErr result
-        (IsFaultFor (state_refusal (map shown devices.items) (picture image.now) bound bytes.now)) }
+        (IsFaultFor (state_refusal (map shown devices.items) (image_data image.now) bound
+        bytes.now)) }
 {
     let board = match load(alloc, image, script, bytes, devices) {
         Ok(board) => board,
@@ -106,11 +108,12 @@ fn set_state<F: Files>(
 ) -> Result<Board, NamedFault>
     requires fresh { AreFresh (map shown devices.items) }
     ensures set { IfOk result (IsStateSet shown (map shown devices.items)
-        (F.seen files.old).contents (picture image.now) (script_data script.now) state.now bound) }
+        (F.seen files.old).contents (image_data image.now) (script_data script.now) state.now
+        bound) }
     ensures named_fault { IfErr result
         (IsNamedFaultOf (F.seen files.old) (F.seen files.new)
-        (state_file (map shown devices.items) (picture image.now) bound state.now)) }
-    ensures starts { StartsWell (scenario_of (picture image.now) (script_data script.now)
+        (state_file (map shown devices.items) (image_data image.now) bound state.now)) }
+    ensures starts { StartsWell (scenario_of (image_data image.now) (script_data script.now)
         (map shown devices.items)) }
     ensures only_reads { OnlyReads (F.seen files.old) (F.seen files.new) }
 {
