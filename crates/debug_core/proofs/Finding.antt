@@ -20,14 +20,15 @@ use Rattle.board_core.specs.declared.changes.Change.{Change}
 use Rattle.board_core.proofs.Changing.{change_told, no_change_in}
 use Rattle.board_core.specs.Data.{Shows}
 use Rattle.board_core.specs.Stands.{Stands, notes_of, turns_of}
+use Rattle.trace_text.specs.declared.kinds.NoteKind.{NoteKind}
+use Rattle.trace_text.specs.Kinds.{is_sought}
 use Rattle.debug_core.specs.declared.answer.Answer.{Answer}
 use Rattle.debug_core.specs.declared.answer.Answer.TheVariants.{Changed, Told}
-use Rattle.debug_core.specs.declared.command.NoteKind.{NoteKind}
 use Rattle.debug_core.specs.declared.command.Sought.{Sought}
 use Rattle.debug_core.specs.declared.command.Sought.TheVariants as sought
 use Rattle.debug_core.specs.declared.replay.Replay.{Replay}
 use Rattle.debug_core.specs.Runs.{most_turns, state_at}
-use Rattle.debug_core.specs.Searched.{found, is_found, is_sought, last_found, last_of}
+use Rattle.debug_core.specs.Searched.{found, is_found, last_found, last_of}
 use Rattle.debug_core.specs.Searches.{CameFor, IsLastFound, WentBackFor, WentFor}
 use Rattle.debug_core.specs.Times.{IsAt}
 use Rattle.debug_core.proofs.Ahead.{ending_same, next, reaches, same_memory, same_next, same_notes, sane_at, turned_same}

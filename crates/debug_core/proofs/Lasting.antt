@@ -23,13 +23,14 @@ use Rattle.board_model.proofs.RunCuts.{cut}
 use Rattle.board_model.proofs.TurnChains.{found_in, sane-after}
 use Rattle.board_core.specs.Changes.{change_by, change_of, runner_of}
 use Rattle.board_model.proofs.SameTurn.{first_turn}
+use Rattle.trace_text.specs.declared.kinds.NoteKind.{NoteKind}
+use Rattle.trace_text.specs.Kinds.{is_sought}
 use Rattle.debug_core.specs.declared.answer.Answer.TheVariants.{Told}
 use Rattle.debug_core.specs.declared.command.Command.TheVariants.{BackFor, GoFor}
-use Rattle.debug_core.specs.declared.command.NoteKind.{NoteKind}
 use Rattle.debug_core.specs.declared.command.Sought.{Sought}
 use Rattle.debug_core.specs.declared.command.Sought.TheVariants.{Change}
 use Rattle.debug_core.specs.Runs.{end_here, forward, most_turns, notes_of_run, state_at}
-use Rattle.debug_core.specs.Searched.{can_be, first_found, is_found, is_sought, last_found, last_of, told_at}
+use Rattle.debug_core.specs.Searched.{can_be, first_found, is_found, last_found, last_of, told_at}
 use Rattle.debug_core.specs.Session.{Session, after, ahead, behind, gone, gone_back}
 use Rattle.debug_core.proofs.Ahead.{makes, reaches, sane_at}
 use Rattle.debug_core.proofs.Lasts.{IsLast, last_is}

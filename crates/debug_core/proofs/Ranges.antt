@@ -7,12 +7,13 @@ use Rattle.run_script.specs.Scripts.{Refusal}
 use Rattle.run_script.specs.Words.{is_allowed, words}
 use Rattle.run_script.specs.Statements.{starts_by_hash}
 use Rattle.run_script.proofs.Numbers.{number_within_bounds}
+use Rattle.trace_text.specs.declared.kinds.NoteKind.{NoteKind}
+use Rattle.trace_text.specs.Kinds.{kind_in}
 use Rattle.debug_core.specs.declared.command.Command.{Command}
 use Rattle.debug_core.specs.declared.command.Command.TheVariants.{Break, Clear, Step, Back, Go, At, GoFor, BackFor, Notes, Regs, Task, Irq, Device, Mem}
-use Rattle.debug_core.specs.declared.command.NoteKind.{NoteKind}
 use Rattle.debug_core.specs.declared.command.Sought.{Sought}
 use Rattle.debug_core.specs.declared.command.Sought.TheVariants as sought
-use Rattle.debug_core.specs.Lines.{Said, address_in, device_in, form_said, is_search, kind_in, kind_said, length_in, line_in, mem_said, named, number_in, numbered_said, said, search_of_number, search_said, task_in, turns_in, two_said, with_number, words_said}
+use Rattle.debug_core.specs.Lines.{Said, address_in, device_in, form_said, is_search, kind_said, length_in, line_in, mem_said, named, number_in, numbered_said, said, search_of_number, search_said, task_in, turns_in, two_said, with_number, words_said}
 use Rattle.debug_core.specs.Live.{live_said}
 use Rattle.debug_core.specs.Reading.{AsksForFew, go_on, with_lines, with_said}
 use Rattle.debug_core.proofs.Walk.{no_line, one_line}

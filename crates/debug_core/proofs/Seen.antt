@@ -108,10 +108,6 @@ told_line l = (l.enabled, l.pending)
 no_pair : {A : Type 0} (a : A) → ◌≡◌ {A = Option A} None (Some a) → ⊥
 no_pair a e = cc
 
-unowned : (s : State) (number : ℕ) (o : Option LineSetup) → None ≡ option_map told_owner o → Absent ≡ irq_by s number o
-unowned s number None e = refl
-unowned s number (Some l) e = absurd (no_pair (told_owner l) e)
-
 all_lines : {X : Type 0} {H : X → Type 0} (shown : Shows X H) (x : Scenario) (b : Board X H) (s : State) → Stands shown x b s → length s.lines ≡ 64
 all_lines shown x b s st =
     let rest = rest_held shown b.machine.loaded x.setup b.machine.space b.machine.glider.runner.processor _ st.holds.machine in

@@ -1,14 +1,14 @@
 -- What a line of commands says. docs/FORMATS.md, Commands, has the forms and the causes.
 use Rattle.std.specs.Prelude.{ℕ, ◌==◌, ◌||◌, not, Bool, if◌then◌else◌, List, [], ◌∷◌, length, Option, Some, None, Result, Ok, Err, codes, bytes_eq}
 use Rattle.std.specs.List.{list_all}
-use Rattle.std.specs.Option.{option_map, option_or}
+use Rattle.std.specs.Option.{option_map}
 use Rattle.text_lines.specs.Text.{hex_number_of}
 use Rattle.run_script.specs.Words.{is_allowed, words}
 use Rattle.run_script.specs.Statements.{number_within, starts_by_hash}
+use Rattle.trace_text.specs.declared.kinds.NoteKind.{NoteKind}
+use Rattle.trace_text.specs.Kinds.{kind_in}
 use Rattle.debug_core.specs.declared.command.Command.{Command}
 use Rattle.debug_core.specs.declared.command.Command.TheVariants.{Break, Clear, Step, Back, Go, At, GoFor, BackFor, Notes, Regs, Task, Irq, Device, Mem}
-use Rattle.debug_core.specs.declared.command.NoteKind.{NoteKind}
-use Rattle.debug_core.specs.declared.command.NoteKind.TheVariants as kind
 use Rattle.debug_core.specs.declared.command.Sought.{Sought}
 use Rattle.debug_core.specs.declared.command.Sought.TheVariants as sought
 
@@ -69,38 +69,6 @@ named name word =
     else Err 2
 
 -- ---- searches: `go` or `back`, a number of turns, and what is sought
-
--- the kind of note that a word names
-abbrev pub event_kind : List ℕ → Option NoteKind
-event_kind word =
-    if bytes_eq word (codes "tick") then Some kind.Tick
-    else if bytes_eq word (codes "irq") then Some kind.Irq
-    else if bytes_eq word (codes "in") then Some kind.In
-    else if bytes_eq word (codes "out") then Some kind.Out
-    else None
-
-abbrev pub call_kind : List ℕ → Option NoteKind
-call_kind word =
-    if bytes_eq word (codes "call") then Some kind.Call
-    else if bytes_eq word (codes "ret") then Some kind.Ret
-    else if bytes_eq word (codes "offer") then Some kind.Offer
-    else if bytes_eq word (codes "take") then Some kind.Take
-    else if bytes_eq word (codes "borrow") then Some kind.Borrow
-    else if bytes_eq word (codes "close") then Some kind.Close
-    else None
-
-abbrev pub task_kind : List ℕ → Option NoteKind
-task_kind word =
-    if bytes_eq word (codes "post") then Some kind.Post
-    else if bytes_eq word (codes "listen") then Some kind.Listen
-    else if bytes_eq word (codes "fault") then Some kind.Fault
-    else if bytes_eq word (codes "restart") then Some kind.Restart
-    else if bytes_eq word (codes "irqstat") then Some kind.IrqStatus
-    else if bytes_eq word (codes "find") then Some kind.Find
-    else None
-
-abbrev pub kind_in : List ℕ → Option NoteKind
-kind_in word = option_or (event_kind word) (option_or (call_kind word) (task_kind word))
 
 -- a name that no search has is cause 2, and so is a word that no kind has where one stands
 abbrev pub search_said : List ℕ → Option ℕ → Option Sought → Said

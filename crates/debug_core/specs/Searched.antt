@@ -1,71 +1,19 @@
 -- What a run is searched for: a turn of which such a note is told, or one that changes a byte (docs/FORMATS.md, Commands).
-use Rattle.std.specs.Prelude.{ℕ, zero, suc, ◌+◌, ◌==◌, ◌&&◌, Bool, true, false, find, is_some, Option, Some, None, if◌then◌else◌}
+use Rattle.std.specs.Prelude.{ℕ, zero, suc, ◌+◌, Bool, true, find, is_some, Option, Some, None, if◌then◌else◌}
 use Rattle.std.specs.List.{range_with_len}
 use Rattle.std.specs.Option.{option_map}
-use Rattle.kernel_abi.specs.declared.Note.{Note}
-use Rattle.kernel_abi.specs.declared.Note.TheVariants as note
 use Rattle.mem_banks.specs.Memory.{Memory, byte_at, is_held}
 use Rattle.board_model.specs.declared.outcomes.Level.TheVariants.{Calls}
 use Rattle.board_model.specs.Script.{Scenario}
 use Rattle.board_model.specs.Turn.{turn}
 use Rattle.board_core.specs.Changes.{change_in}
-use Rattle.debug_core.specs.declared.command.NoteKind.{NoteKind}
-use Rattle.debug_core.specs.declared.command.NoteKind.TheVariants as kind
+use Rattle.trace_text.specs.declared.kinds.NoteKind.{NoteKind}
+use Rattle.trace_text.specs.Kinds.{is_sought}
 use Rattle.debug_core.specs.declared.command.Sought.{Sought}
 use Rattle.debug_core.specs.declared.command.Sought.TheVariants as sought
 use Rattle.debug_core.specs.declared.answer.Answer.{Answer}
 use Rattle.debug_core.specs.declared.answer.Answer.TheVariants.{Told, Changed}
 use Rattle.debug_core.specs.Runs.{state_at}
-
--- ---- notes
-
-abbrev pub is_of_kind : NoteKind → Note → Bool
-is_of_kind kind.Tick (note.Tick _) = true
-is_of_kind kind.Irq (note.Irq _ _) = true
-is_of_kind kind.In (note.In _ _ _) = true
-is_of_kind kind.Out (note.Out _ _) = true
-is_of_kind kind.Post (note.Post _ _ _) = true
-is_of_kind kind.Call (note.Syscall _ _ _) = true
-is_of_kind kind.Ret (note.Ret _ _) = true
-is_of_kind kind.Close (note.Close _ _) = true
-is_of_kind kind.Listen (note.Listen _ _ _) = true
-is_of_kind kind.Offer (note.Offer _ _ _) = true
-is_of_kind kind.Take (note.Take _ _) = true
-is_of_kind kind.Borrow (note.Borrow _ _ _ _ _) = true
-is_of_kind kind.Fault (note.Fault _ _) = true
-is_of_kind kind.Restart (note.Restart _ _) = true
-is_of_kind kind.IrqStatus (note.IrqStatus _ _ _) = true
-is_of_kind kind.Find (note.Find _ _) = true
-is_of_kind _ _ = false
-
--- the first number of its line, behind the kind; none of a line without a number
-abbrev pub first_number : Note → Option ℕ
-first_number (note.Tick now) = Some now
-first_number (note.Irq line handled) = Some line
-first_number (note.In device byte fed) = Some device
-first_number (note.Out device byte) = Some device
-first_number (note.Post task bits posted) = Some task
-first_number (note.Syscall task number arguments) = Some task
-first_number (note.Ret task results) = Some task
-first_number (note.Close call ending) = Some call
-first_number (note.Listen task from mask) = Some task
-first_number (note.Offer call client server) = Some call
-first_number (note.Take call copied) = Some call
-first_number (note.Borrow call borrow lease offset moved) = Some call
-first_number (note.Fault task fault) = Some task
-first_number (note.Restart task generation) = Some task
-first_number (note.IrqStatus task bits status) = Some task
-first_number (note.Find index found) = Some index
-first_number _ = None
-
--- no number asks for nothing
-abbrev pub agrees : Option ℕ → Option ℕ → Bool
-agrees None number = true
-agrees (Some wanted) None = false
-agrees (Some wanted) (Some number) = wanted == number
-
-abbrev pub is_sought : NoteKind → Option ℕ → Note → Bool
-is_sought kind number note = is_of_kind kind note && agrees number (first_number note)
 
 -- ---- a turn
 

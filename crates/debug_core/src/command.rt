@@ -1,27 +1,7 @@
 //! Commands, and why a text of them is refused.
 
 use thiserror::Error;
-
-/// The kinds of notes, those of instructions and registers aside (docs/FORMATS.md, Trace).
-#[derive(Clone, Copy, PartialEq, Eq)]
-pub enum NoteKind {
-    Tick,
-    Irq,
-    In,
-    Out,
-    Post,
-    Call,
-    Ret,
-    Close,
-    Listen,
-    Offer,
-    Take,
-    Borrow,
-    Fault,
-    Restart,
-    IrqStatus,
-    Find,
-}
+use trace_text::NoteKind;
 
 /// What a run is searched for.
 #[derive(Clone, Copy, PartialEq, Eq)]

@@ -10,9 +10,9 @@ ghost use Rattle.std.specs.Prelude.{ℕ, ◌≡◌, ◌<◌, ◌≤◌, true, Op
 ghost use Rattle.kernel_abi.specs.declared.Note.{Note};
 ghost use Rattle.board_model.specs.Script.{Scenario};
 ghost use Rattle.board_core.specs.Changes.{change_of};
+ghost use Rattle.trace_text.specs.declared.kinds.NoteKind.{NoteKind};
 ghost use Rattle.debug_core.specs.declared.answer.Answer.TheVariants.{Told};
 ghost use Rattle.debug_core.specs.declared.command.Command.TheVariants.{BackFor, GoFor};
-ghost use Rattle.debug_core.specs.declared.command.NoteKind.{NoteKind};
 ghost use Rattle.debug_core.specs.declared.command.Sought.{Sought};
 ghost use Rattle.debug_core.specs.declared.command.Sought.TheVariants.{Change};
 ghost use Rattle.debug_core.specs.Runs.{Reaches, end_here, most_turns, notes_of_run};

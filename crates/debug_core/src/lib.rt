@@ -14,7 +14,7 @@ mod searching;
 mod text;
 
 pub use answer::Answer;
-pub use command::{Command, CommandFault, NoteKind, Sought};
+pub use command::{Command, CommandFault, Sought};
 pub use commands::Commands;
 pub use debugger::Debugger;
 pub use laws::{the_turn_that_was_found_is_why, there_and_back, what_is_found_is_told};

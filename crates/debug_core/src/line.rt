@@ -2,11 +2,12 @@
 
 ghost use Rattle.std.specs.Prelude.{◌≡◌, ◌∷◌, []};
 ghost use Rattle.run_script.specs.Words.{words};
-ghost use Rattle.debug_core.specs.Lines.{address_in, call_kind, device_in, event_kind, form_said, is_search, kind_in, kind_said, length_in, line_in, mem_said, named, number_in, numbered_said, said, search_of_kind, search_of_number, search_said, task_in, task_kind, turns_in, two_said, words_said};
+ghost use Rattle.debug_core.specs.Lines.{address_in, device_in, form_said, is_search, kind_said, length_in, line_in, mem_said, named, number_in, numbered_said, said, search_of_kind, search_of_number, search_said, task_in, turns_in, two_said, words_said};
 
-use crate::command::{Command, NoteKind, Sought};
+use crate::command::{Command, Sought};
 use run_script::{are_allowed, first_word, number_within, starts_by_hash};
 use text_lines::hex_number;
+use trace_text::{NoteKind, kind_in};
 
 /// Eight hexadecimal digits.
 fn address_in(word: &[u8]) -> Option<u32>
@@ -114,72 +115,6 @@ fn named(name: &[u8], word: &[u8]) -> Result<Option<Command>, u8>
         return Err(2);
     };
     Ok(Some(command))
-}
-
-/// What comes from outside or of itself.
-fn event_kind(word: &[u8]) -> Option<NoteKind>
-    ensures { result ≡ event_kind word.now }
-{
-    if word == b"tick".as_slice() {
-        Some(NoteKind::Tick)
-    } else if word == b"irq".as_slice() {
-        Some(NoteKind::Irq)
-    } else if word == b"in".as_slice() {
-        Some(NoteKind::In)
-    } else if word == b"out".as_slice() {
-        Some(NoteKind::Out)
-    } else {
-        None
-    }
-}
-
-/// What is told of calls.
-fn call_kind(word: &[u8]) -> Option<NoteKind>
-    ensures { result ≡ call_kind word.now }
-{
-    if word == b"call".as_slice() {
-        Some(NoteKind::Call)
-    } else if word == b"ret".as_slice() {
-        Some(NoteKind::Ret)
-    } else if word == b"offer".as_slice() {
-        Some(NoteKind::Offer)
-    } else if word == b"take".as_slice() {
-        Some(NoteKind::Take)
-    } else if word == b"borrow".as_slice() {
-        Some(NoteKind::Borrow)
-    } else if word == b"close".as_slice() {
-        Some(NoteKind::Close)
-    } else {
-        None
-    }
-}
-
-/// What else is told of tasks.
-fn task_kind(word: &[u8]) -> Option<NoteKind>
-    ensures { result ≡ task_kind word.now }
-{
-    if word == b"post".as_slice() {
-        Some(NoteKind::Post)
-    } else if word == b"listen".as_slice() {
-        Some(NoteKind::Listen)
-    } else if word == b"fault".as_slice() {
-        Some(NoteKind::Fault)
-    } else if word == b"restart".as_slice() {
-        Some(NoteKind::Restart)
-    } else if word == b"irqstat".as_slice() {
-        Some(NoteKind::IrqStatus)
-    } else if word == b"find".as_slice() {
-        Some(NoteKind::Find)
-    } else {
-        None
-    }
-}
-
-/// The kind that a word names.
-fn kind_in(word: &[u8]) -> Option<NoteKind>
-    ensures { result ≡ kind_in word.now }
-{
-    event_kind(word).or(call_kind(word).or(task_kind(word)))
 }
 
 fn is_search(name: &[u8]) -> bool

@@ -9,80 +9,17 @@ ghost use Rattle.board_model.specs.Turn.{turn};
 ghost use Rattle.board_core.specs.Data.{boxed};
 ghost use Rattle.board_core.specs.Stands.{notes_of, turns_of};
 ghost use Rattle.debug_core.specs.Runs.{state_at};
-ghost use Rattle.debug_core.specs.Searched.{agrees, can_be, first_number, is_of_kind, is_sought};
+ghost use Rattle.trace_text.specs.Kinds.{is_sought};
+ghost use Rattle.debug_core.specs.Searched.{can_be};
 ghost use Rattle.debug_core.specs.Searches.{CameFor, IsLastFound, WentBackFor, WentFor};
 ghost use Rattle.debug_core.specs.Times.{IsAt};
 
 use crate::answer::Answer;
-use crate::command::{NoteKind, Sought};
+use crate::command::Sought;
 use crate::replay::{Replay, stop_before};
 use board_core::Level;
 use kernel_abi::Note;
-
-fn is_of_kind(kind: NoteKind, note: &Note) -> bool
-    ensures { result ≡ is_of_kind kind note.now }
-{
-    match kind {
-        NoteKind::Tick => matches!(note, Note::Tick { .. }),
-        NoteKind::Irq => matches!(note, Note::Irq { .. }),
-        NoteKind::In => matches!(note, Note::In { .. }),
-        NoteKind::Out => matches!(note, Note::Out { .. }),
-        NoteKind::Post => matches!(note, Note::Post { .. }),
-        NoteKind::Call => matches!(note, Note::Syscall { .. }),
-        NoteKind::Ret => matches!(note, Note::Ret { .. }),
-        NoteKind::Close => matches!(note, Note::Close { .. }),
-        NoteKind::Listen => matches!(note, Note::Listen { .. }),
-        NoteKind::Offer => matches!(note, Note::Offer { .. }),
-        NoteKind::Take => matches!(note, Note::Take { .. }),
-        NoteKind::Borrow => matches!(note, Note::Borrow { .. }),
-        NoteKind::Fault => matches!(note, Note::Fault { .. }),
-        NoteKind::Restart => matches!(note, Note::Restart { .. }),
-        NoteKind::IrqStatus => matches!(note, Note::IrqStatus { .. }),
-        NoteKind::Find => matches!(note, Note::Find { .. }),
-    }
-}
-
-/// The first number of its line, behind the kind.
-fn first_number(note: &Note) -> Option<u64>
-    ensures { result ≡ first_number note.now }
-{
-    match *note {
-        Note::Tick { now } => Some(now),
-        Note::Irq { line, .. } => Some(u64::from(line)),
-        Note::In { device, .. } => Some(u64::from(device)),
-        Note::Out { device, .. } => Some(device as u64),
-        Note::Post { task, .. }
-        | Note::Syscall { task, .. }
-        | Note::Ret { task, .. }
-        | Note::Listen { task, .. }
-        | Note::Fault { task, .. }
-        | Note::Restart { task, .. }
-        | Note::IrqStatus { task, .. } => Some(u64::from(task)),
-        Note::Close { call, .. }
-        | Note::Offer { call, .. }
-        | Note::Take { call, .. }
-        | Note::Borrow { call, .. } => Some(u64::from(call)),
-        Note::Find { index, .. } => Some(u64::from(index)),
-        Note::Insn { .. } | Note::Idle | Note::Low { .. } | Note::High { .. } => None,
-    }
-}
-
-/// No number asks for nothing.
-fn agrees(number: Option<u32>, first: Option<u64>) -> bool
-    ensures { result ≡ agrees number first }
-{
-    match (number, first) {
-        (None, _) => true,
-        (Some(_), None) => false,
-        (Some(wanted), Some(number)) => u64::from(wanted) == number,
-    }
-}
-
-fn is_sought(kind: NoteKind, number: Option<u32>, note: &Note) -> bool
-    ensures { result ≡ is_sought kind number note.now }
-{
-    is_of_kind(kind, note) && agrees(number, first_number(note))
-}
+use trace_text::{NoteKind, is_sought};
 
 /// The first of some notes that is sought.
 fn first_sought(kind: NoteKind, number: Option<u32>, notes: &[Note]) -> Option<Note>

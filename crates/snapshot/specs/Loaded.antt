@@ -4,18 +4,28 @@ use Rattle.kernel_abi.specs.declared.Kind.{Kind}
 use Rattle.kernel_abi.specs.Devices.{DeviceData, device_at, with_device}
 use Rattle.task_table.specs.declared.Line.{Line}
 use Rattle.task_table.specs.model.State.{State}
+use Rattle.task_table.specs.model.Sane.{Sane, IsCounted}
 use Rattle.task_table.specs.kept.Setting.{with_slot}
+use Rattle.board_model.specs.Script.{Scenario}
 use Rattle.board_core.specs.Setting.{slot_told}
 use Rattle.snapshot.specs.declared.loading.StateFault.{StateFault}
 use Rattle.snapshot.specs.declared.loading.StateFault.TheVariants as state_fault
 use Rattle.snapshot.specs.declared.records.Header.{Header}
 use Rattle.snapshot.specs.Records.{header_at, task_in, device_in, ram_place}
 use Rattle.snapshot.specs.Restored.{line_from, device_from}
+use Rattle.snapshot.specs.Saved.{SpellsState}
 use Rattle.snapshot.specs.Views.{view_of}
 
 -- the kinds and the bases of devices, in order
 abbrev pub sites : List DeviceData → List (Kind × ℕ)
 sites devices = map (λ d. (d.kind, d.base)) devices
+
+-- a state that bytes spell, beside the devices of a run
+pub record IsSpelledBy (x : Scenario) (bytes : List ℕ) (s : State) : Type 0 where
+  pub spelled : SpellsState x.setup s bytes
+  pub sane : Sane x.setup s
+  pub counted : IsCounted s
+  pub sites : sites s.devices ≡ sites x.devices
 
 -- why bytes are refused as a state of an image beside these devices; or memory is short
 abbrev pub IsStateFault : Option (ℕ × ℕ) → StateFault → Type 0

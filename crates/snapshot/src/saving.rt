@@ -144,6 +144,17 @@ pub fn save_into(board: &Board, out: &mut [u8])
     save_ram(board, out, at);
 }
 
+/// The same over the bytes of a vector.
+pub fn save_over(board: &Board, saved: &mut Vec<u8>)
+    requires { (x : Scenario) × (s : State) × Stands (boxed shown) x board.now s
+        × (length saved.old.items ≡ length (spelling (reduced s))) }
+    ensures spelled { (x : Scenario) (s : State) → Stands (boxed shown) x board.now s →
+        SpellsState x.setup (reduced s) saved.new.items }
+    ensures long { length saved.new.items ≡ length saved.old.items }
+{
+    save_into(board, saved.as_mut_slice());
+}
+
 /// The same in a vector of its own.
 ///
 /// # Errors

@@ -22,7 +22,7 @@ use Rattle.board_model.proofs.SaneReduced.{sane-reduced}
 use Rattle.board_core.specs.declared.board.Board.{Board}
 use Rattle.board_core.specs.Data.{Shows}
 use Rattle.board_core.specs.Stands.{Stands, turns_of}
-use Rattle.snapshot.specs.Loaded.{sites}
+use Rattle.snapshot.specs.Loaded.{IsSpelledBy, sites}
 use Rattle.snapshot.specs.Saved.{SpellsState}
 use Rattle.snapshot.proofs.Fixed.{fixed_run}
 use Rattle.snapshot.proofs.Runs.{counted_reduced, turn_reduced}
@@ -32,7 +32,7 @@ use Rattle.sweep_core.specs.declared.tally.Tally.{Tally}
 use Rattle.sweep_core.specs.declared.told.Told.{Told}
 use Rattle.sweep_core.specs.declared.checkpoints.Checkpoint.{Checkpoint}
 use Rattle.sweep_core.specs.declared.checkpoints.Checkpoints.{Checkpoints}
-use Rattle.sweep_core.specs.Leading.{GoesOnAs, HasMet, HasPassed, IsLedBy, IsMeeting, IsSpelledBy, run_from}
+use Rattle.sweep_core.specs.Leading.{GoesOnAs, HasMet, HasPassed, IsLedBy, IsMeeting, run_from}
 use Rattle.sweep_core.specs.Outcomes.{front_words, heard, memory_word}
 use Rattle.sweep_core.specs.Swept.{is_supervisors}
 use Rattle.sweep_core.specs.Told.{IsToldAt, IsToldFrom}

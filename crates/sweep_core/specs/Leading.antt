@@ -4,7 +4,7 @@ use Rattle.std.specs.List.{AllWithin, HoldsAt}
 use Rattle.run_script.specs.Events.{script_data}
 use Rattle.run_script.specs.Scripts.{ScriptData}
 use Rattle.task_table.specs.model.State.{State}
-use Rattle.task_table.specs.model.Sane.{Sane, IsCounted}
+use Rattle.task_table.specs.model.Sane.{Sane}
 use Rattle.board_model.specs.declared.outcomes.Level.TheVariants.{Calls}
 use Rattle.board_model.specs.Alike.{reduced}
 use Rattle.board_model.specs.Laid.{with_script}
@@ -13,7 +13,7 @@ use Rattle.board_model.specs.Script.{Scenario}
 use Rattle.board_core.specs.declared.board.Board.{Board}
 use Rattle.board_core.specs.Data.{Shows}
 use Rattle.board_core.specs.Stands.{Stands, script_of, turns_of}
-use Rattle.snapshot.specs.Loaded.{sites}
+use Rattle.snapshot.specs.Loaded.{IsSpelledBy, sites}
 use Rattle.snapshot.specs.Saved.{SpellsState, spelling}
 use Rattle.sweep_core.specs.declared.leader.Leader.{Leader}
 use Rattle.sweep_core.specs.declared.tally.Tally.{Tally}
@@ -54,13 +54,6 @@ pub record IsOneMore (stop : ℕ) (tally : Tally) (bytes : List ℕ) (old new : 
 -- the run from a state to a turn, with a script
 abbrev pub run_from : Scenario → ScriptData → ℕ → State → Run
 run_from x script limit s = run Calls (with_script x script) (limit - s.turn) s
-
--- a state that bytes spell, beside the devices of a run
-pub record IsSpelledBy (x : Scenario) (bytes : List ℕ) (s : State) : Type 0 where
-  pub spelled : SpellsState x.setup s bytes
-  pub sane : Sane x.setup s
-  pub counted : IsCounted s
-  pub sites : sites s.devices ≡ sites x.devices
 
 -- with this script a run goes on from turn `over` on as it does with the scenario's own: an arrival that was laid is over
 abbrev pub GoesOnAs : Scenario → ScriptData → ℕ → Type 0

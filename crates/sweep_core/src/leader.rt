@@ -11,12 +11,11 @@ ghost use Rattle.sweep_core.specs.Leading.{HasGoneOn, HasMet, HasMissed, HasPass
 ghost use Rattle.sweep_core.specs.Told.{IsToldFrom};
 
 use crate::checkpoints::Checkpoints;
-use crate::saving::save;
 use crate::tally::Tally;
 use crate::told::{Told, nothing_told, play_to, told_from};
 use board_core::Board;
 use board_run::ending;
-use snapshot::saved_len;
+use snapshot::{save_over, saved_len};
 use std::alloc::{AllocError, Global};
 use std::mem::swap;
 
@@ -116,7 +115,7 @@ impl Leader {
         if board.turns() != stop || self.here.len() != saved_len(board) {
             return false;
         }
-        save(board, &mut self.here);
+        save_over(board, &mut self.here);
         if self.led.has(heard, self.here.as_slice()) {
             return true;
         }

@@ -7,7 +7,6 @@ mod laying;
 mod leader;
 mod meeting;
 mod outcome;
-mod saving;
 mod sweeper;
 mod tally;
 mod text;

@@ -17,14 +17,13 @@ use crate::comparing::Compared;
 use crate::laying::{lay, span};
 use crate::leader::Leader;
 use crate::outcome::{OutcomeText, full};
-use crate::saving::save;
 use crate::tally::Tally;
 use crate::text::{TimeStretch, push_base};
 use crate::told::{Told, play_to};
 use board_core::Board;
 use outside_io::{Failed, Sink};
 use run_script::Script;
-use snapshot::{load_into, saved_len, saved_states_are_accepted};
+use snapshot::{load_into, save_over, saved_len, saved_states_are_accepted};
 use std::alloc::{AllocError, Global};
 
 /// A board over which the events of an arrival are laid, one arrival time after the other.
@@ -106,7 +105,7 @@ impl Sweeper {
         ensures script { self.new.script ≡ self.old.script }
     {
         saved_states_are_accepted();
-        save(&self.board, &mut self.saved);
+        save_over(&self.board, &mut self.saved);
         let told = self
             .leader
             .follow(&mut self.board, &self.front, over, limit, mem);

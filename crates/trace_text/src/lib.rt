@@ -1,11 +1,13 @@
 #![tactic(auto)]
-//! The lines of a trace, one of each note (docs/FORMATS.md, Trace), and the words of which they are
-//! made.
+//! The lines of a trace, one of each note (docs/FORMATS.md, Trace), the words of which they are
+//! made, and the kinds of notes.
 
+mod kinds;
 mod lines;
 mod turn;
 mod words;
 
+pub use kinds::{NoteKind, is_sought, kind_in};
 pub use turn::TurnLines;
 pub use words::{
     code_decoded, push_byte, push_decimal, push_digit, push_hex, push_high, push_low,

@@ -14,7 +14,7 @@ returns-clause-passed g c = λ no x s st.
           inr (record {
             meeting = one.meeting;
             heard = one.same.heard;
-            spelled = subst (SpellsState x.setup (reduced s)) (sym one.same.state) (c.save.ensures.spelled x s st);
+            spelled = subst (SpellsState x.setup (reduced s)) (sym one.same.state) (c.save_over.ensures.spelled x s st);
             turn = let turns = st.holds.turns in omega (arith, turns, c.turns.ensures, c.if-turns-stop.false);
             inside = omega (arith, room, passed.states.ok.0);
             states = one.states;
@@ -25,6 +25,6 @@ returns-clause-passed g c = λ no x s st.
 
 pub returns-clause-missed : goal.returns-clause-missed
 returns-clause-missed g c = λ no x s h.
-    let bytes = (c.save.ensures.spelled x s h.stands).is in
+    let bytes = (c.save_over.ensures.spelled x s h.stands).is in
     let P : List ℕ → Type 0 = λ b. HasNone c.args.heard.now b c.args.self.now.led in
     subst P (c.as_slice.ensures.value ∙ bytes) (c.has.ensures.none c.if-has.false)

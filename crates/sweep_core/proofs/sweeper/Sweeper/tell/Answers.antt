@@ -10,8 +10,8 @@ use Rattle.sweep_core.proofs.Going.{come_within}
 use Rattle.sweep_core.proofs.Sweeps.{at_again, back, loadable, saved_long, told_whole, turns_within, under_way}
 use Rattle.sweep_core.proofs.sweeper.Sweeper.tell.Goals as goal
 
-pub save-requires : goal.save-requires
-save-requires g c =
+pub save_over-requires : goal.save_over-requires
+save_over-requires g c =
     let shown = boxed (λ p. (goal.Device-dyn g p).shown p.1) in
     let r = c.requires.at in
     let w = c.args.self.now in
@@ -41,7 +41,7 @@ load_into-requires g c =
     let u = h.come.state in
     let z = with_script r.0 (own_script w) in
     let within = come_within r.0 r.1.script h.scripts.start r.1.turn u h.come.same in
-    let spelled = subst (SpellsState z.setup (reduced u)) (sym c.as_slice.ensures.value) (c.save.ensures.spelled z u h.come.stands) in
+    let spelled = subst (SpellsState z.setup (reduced u)) (sym c.as_slice.ensures.value) (c.save_over.ensures.spelled z u h.come.stands) in
     let gone = c.follow-told.ensures.last r.0 u (under_way shown r.0 r.1.arrival r.1.script w r.1.turn c.args.over h r.2.goes) in (
       z,
       (run Calls z gone.0 u).last,
@@ -69,13 +69,13 @@ returns-clause-same g c = λ x f at.
     let h = at.at in
     let u = h.come.state in
     let z = with_script x (own_script w) in
-    let saved = c.save.ensures.spelled z u h.come.stands in
+    let saved = c.save_over.ensures.spelled z u h.come.stands in
     let spelled = subst (SpellsState z.setup (reduced u)) (sym c.as_slice.ensures.value) saved in
     let gone = c.follow-told.ensures.last x u (under_way shown x f.arrival f.script w f.turn c.args.over h at.goes) in
     let again = back shown z c.follow-told.new.board c.load_into.new.board u gone.0 c.as_slice.result.now h.come.stands.sane h.come.stands.counted gone.1 spelled
     (λ v s st spells sane counted sites. c.load_into.ensures.each z v s st spells sane counted sites) in
     record {
-      at = at_again shown x f.arrival f.script w f.turn c.load_into.new.board c.save.new.saved c.follow-told.new.self h again saved.small c.save.ensures.long;
+      at = at_again shown x f.arrival f.script w f.turn c.load_into.new.board c.save_over.new.saved c.follow-told.new.self h again saved.small c.save_over.ensures.long;
       few = at.few;
       goes = at.goes;
     }
@@ -87,7 +87,7 @@ returns-clause-own g c = λ x f at.
     let h = at.at in
     let u = h.come.state in
     let z = with_script x (own_script w) in
-    let spelled = subst (SpellsState z.setup (reduced u)) (sym c.as_slice.ensures.value) (c.save.ensures.spelled z u h.come.stands) in
+    let spelled = subst (SpellsState z.setup (reduced u)) (sym c.as_slice.ensures.value) (c.save_over.ensures.spelled z u h.come.stands) in
     let gone = c.follow-told.ensures.last x u (under_way shown x f.arrival f.script w f.turn c.args.over h at.goes) in
     let again = back shown z c.follow-told.new.board c.load_into.new.board u gone.0 c.as_slice.result.now h.come.stands.sane h.come.stands.counted gone.1 spelled
     (λ v s st spells sane counted sites. c.load_into.ensures.each z v s st spells sane counted sites) in

@@ -2,7 +2,7 @@ use Rattle.std.proofs.Common.{◌≡◌, ◌∙◌, ◌++◌, ℕ, length, take,
 use Rattle.std.proofs.Math.Seq.{take-append_seam}
 use Rattle.board_model.specs.Alike.{reduced}
 use Rattle.snapshot.specs.Saved.{SpellsState}
-use Rattle.sweep_core.proofs.saving.save.Goals as goal
+use Rattle.snapshot.proofs.saving.save_over.Goals as goal
 
 pub returns-clause-spelled : goal.returns-clause-spelled
 returns-clause-spelled boxes c = λ x s st.
