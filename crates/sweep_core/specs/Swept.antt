@@ -1,5 +1,5 @@
 -- A sweep: the outcome of each arrival time, and its text (docs/FORMATS.md, Sweep).
-use Rattle.std.specs.Prelude.{ℕ, zero, suc, ◌+◌, ◌-◌, Bool, true, false, not, ◌&&◌, ◌||◌, List, [], ◌++◌, codes, decimal, bytes_eq, nat_lt, if◌then◌else◌}
+use Rattle.std.specs.Prelude.{◌≡◌, ◌≤◌, ◌<◌, ℕ, zero, suc, ◌+◌, ◌-◌, Bool, true, false, not, ◌&&◌, ◌||◌, List, [], ◌++◌, codes, decimal, bytes_eq, nat_lt, if◌then◌else◌}
 use Rattle.std.specs.List.{list_any, range_with_len}
 use Rattle.run_script.specs.Scripts.{Listed}
 use Rattle.board_model.specs.declared.outcomes.End.{End}
@@ -82,3 +82,16 @@ differ x a one other = is_made x a one && is_made x a other && not (bytes_eq (ou
 unfoldable pub makes_difference : Scenario → Asking → Bool
 makes_difference x a =
     list_any (λ time. (is_made x a time && is_worse (base_run x a) (arrival_run x a time)) || list_any (differ x a time) (times a)) (times a)
+
+-- ## what it says of each arrival time where none makes a difference
+
+-- an arrival time that is asked for, and of which a run is made
+pub record IsAsked (x : Scenario) (a : Asking) (time : ℕ) : Type 0 where
+  pub from : a.from ≤ time
+  pub to : time < a.to
+  pub made : is_made x a time ≡ true
+
+-- its run has no more faults than the one without the arrival, and ends by the supervisor only where that does
+pub record IsNoWorse (base r : Run) : Type 0 where
+  pub faults : (heard nothing_heard r.notes).faults ≤ (heard nothing_heard base.notes).faults
+  pub end : r.end ≡ Supervisor → base.end ≡ Supervisor
