@@ -283,10 +283,10 @@ module _ (x : Scenario) (a : Asking) (none : makes_difference x a ≡ false) whe
       absurd (apart (is_made x a (a.from + (time - a.from))) (ap (is_made x a) same ∙ h.made) (compared.unmade e (time - a.from) (place_below time h.from h.to)))
   one_of_all (Some f) e time other h k =
       let same : a.from + (time - a.from) ≡ time = same_time a.from time h.from in
-      let as : a.from + (other - a.from) ≡ other = same_time a.from other k.from in
+      let also : a.from + (other - a.from) ≡ other = same_time a.from other k.from in
       let first = compared.same nothing_found f e (time - a.from) (place_below time h.from h.to) (ap (is_made x a) same ∙ h.made) in
-      let second = compared.same nothing_found f e (other - a.from) (place_below other k.from k.to) (ap (is_made x a) as ∙ k.made) in
-      ap (outcome_at x a) (sym same) ∙ first ∙ sym second ∙ ap (outcome_at x a) as
+      let second = compared.same nothing_found f e (other - a.from) (place_below other k.from k.to) (ap (is_made x a) also ∙ k.made) in
+      ap (outcome_at x a) (sym same) ∙ first ∙ sym second ∙ ap (outcome_at x a) also
 
 ends_so : (e b : End) → (is_supervisors e && not (is_supervisors b)) ≡ false → e ≡ Supervisor → b ≡ Supervisor
 ends_so Supervisor Supervisor h is = refl
