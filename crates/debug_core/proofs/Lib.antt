@@ -19,3 +19,4 @@ pub mod Standing
 pub mod Taking
 pub mod Telling
 pub mod Walk
+pub mod Changers

@@ -4,6 +4,7 @@ pub mod Reading
 pub mod Listed
 pub mod Runs
 pub mod Searched
+pub mod Changers
 pub mod Session
 pub mod Times
 pub mod Hits

@@ -17,5 +17,7 @@ pub use answer::Answer;
 pub use command::{Command, CommandFault, Sought};
 pub use commands::Commands;
 pub use debugger::Debugger;
-pub use laws::{the_turn_that_was_found_is_why, there_and_back, what_is_found_is_told};
+pub use laws::{
+    the_turn_that_was_found_is_why, there_and_back, what_is_found_is_told, who_changed_a_byte_could,
+};
 pub use live::LiveFault;

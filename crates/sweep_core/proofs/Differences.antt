@@ -1,12 +1,16 @@
 -- Outcomes that are compared with the first of them alone make the difference that any two of them make.
-use Rattle.std.proofs.Common.{◌≡◌, ◌≢◌, ◌∙◌, ◌⊎◌, inl, inr, ℕ, zero, suc, ◌+◌, ◌-◌, ◌<◌, add-one, not, Bool, true, false, cond, List, Option, Some, None, refl, sym, ap, subst, arith}
-use Rattle.std.specs.Prelude.{◌&&◌, ◌||◌, bytes_eq}
+use Rattle.std.proofs.Common.{◌≡◌, ◌≢◌, ◌∙◌, ◌⊎◌, inl, inr, ℕ, zero, suc, ◌+◌, ◌-◌, ◌<◌, ◌≤◌, add-one, not, Bool, true, false, cond, List, Option, Some, None, refl, sym, ap, subst, arith}
+use Rattle.std.specs.Prelude.{◌&&◌, ◌||◌, bytes_eq, nat_lt}
 use Rattle.std.specs.List.{list_any, range_with_len}
-use Rattle.std.proofs.lemmas.Bool.{cases_lt, or_parts, or_cases}
+use Rattle.std.proofs.lemmas.Bool.{cases_lt, ltb-false, or_parts, or_cases}
 use Rattle.std.proofs.lemmas.Slice.Eq.{bytes_eq-Decides}
+use Rattle.board_model.specs.declared.outcomes.End.{End}
+use Rattle.board_model.specs.declared.outcomes.End.TheVariants.{Supervisor, Bound, Still}
+use Rattle.board_model.specs.Run.{Run}
 use Rattle.board_model.specs.Script.{Scenario}
 use Rattle.sweep_core.specs.Comparing.{Comparison, compared_times, nothing_compared, with_outcome, with_time}
-use Rattle.sweep_core.specs.Swept.{Asking, arrival_run, base_run, is_made, is_worse, makes_difference, outcome_at}
+use Rattle.sweep_core.specs.Outcomes.{heard, nothing_heard}
+use Rattle.sweep_core.specs.Swept.{Asking, IsAsked, IsNoWorse, arrival_run, base_run, is_made, is_supervisors, is_worse, makes_difference, outcome_at}
 
 -- ---- tests
 
@@ -248,3 +252,56 @@ one_compared x a n = rw add-one refl
 pub none_compared_yet : (x : Scenario) (a : Asking) → compared_times x a 0 ≡ nothing_compared
 unfolding compared_times
 none_compared_yet x a = refl
+
+-- ---- each of them, where none makes a difference
+
+same_time : (from time : ℕ) → from ≤ time → from + (time - from) ≡ time
+same_time from time h = omega (arith, h)
+
+module _ (x : Scenario) (a : Asking) (none : makes_difference x a ≡ false) where
+  abbrev all_times : ℕ
+  all_times = a.to - a.from
+
+  compared : AreCompared (is_made x a) (λ t. is_worse (base_run x a) (arrival_run x a t)) (outcome_at x a) a.from all_times (compared_times x a all_times)
+  compared = times_compared x a all_times
+
+  nothing_found : (compared_times x a all_times).found ≡ false
+  nothing_found = makes_is x a all_times refl ∙ none
+
+  place_below : (time : ℕ) → a.from ≤ time → time < a.to → time - a.from < all_times
+  place_below time from to = omega (arith, from, to)
+
+  not_worse : (time : ℕ) → IsAsked x a time → is_worse (base_run x a) (arrival_run x a time) ≡ false
+  not_worse time h =
+      let same : a.from + (time - a.from) ≡ time = same_time a.from time h.from in
+      subst (λ (t : ℕ). is_worse (base_run x a) (arrival_run x a t) ≡ false) same
+      (compared.well nothing_found (time - a.from) (place_below time h.from h.to) (ap (is_made x a) same ∙ h.made))
+
+  one_of_all : (o : Option (List ℕ)) → (compared_times x a all_times).first ≡ o → (time other : ℕ) → IsAsked x a time → IsAsked x a other → outcome_at x a time ≡ outcome_at x a other
+  one_of_all None e time other h k =
+      let same : a.from + (time - a.from) ≡ time = same_time a.from time h.from in
+      absurd (apart (is_made x a (a.from + (time - a.from))) (ap (is_made x a) same ∙ h.made) (compared.unmade e (time - a.from) (place_below time h.from h.to)))
+  one_of_all (Some f) e time other h k =
+      let same : a.from + (time - a.from) ≡ time = same_time a.from time h.from in
+      let also : a.from + (other - a.from) ≡ other = same_time a.from other k.from in
+      let first = compared.same nothing_found f e (time - a.from) (place_below time h.from h.to) (ap (is_made x a) same ∙ h.made) in
+      let second = compared.same nothing_found f e (other - a.from) (place_below other k.from k.to) (ap (is_made x a) also ∙ k.made) in
+      ap (outcome_at x a) (sym same) ∙ first ∙ sym second ∙ ap (outcome_at x a) also
+
+ends_so : (e b : End) → (is_supervisors e && not (is_supervisors b)) ≡ false → e ≡ Supervisor → b ≡ Supervisor
+ends_so Supervisor Supervisor h is = refl
+ends_so Supervisor Bound h is = absurd (cc h)
+ends_so Supervisor Still h is = absurd (cc h)
+ends_so Bound b h is = absurd (cc is)
+ends_so Still b h is = absurd (cc is)
+
+better : (base r : Run) → is_worse base r ≡ false → IsNoWorse base r
+better base r e =
+    let p = or_parts (nat_lt (heard nothing_heard base.notes).faults (heard nothing_heard r.notes).faults) (is_supervisors r.end && not (is_supervisors base.end)) e in
+    record { faults = ltb-false (heard nothing_heard base.notes).faults (heard nothing_heard r.notes).faults p.0; end = ends_so r.end base.end p.1 }
+
+pub no_worse : (x : Scenario) (a : Asking) (time : ℕ) → makes_difference x a ≡ false → IsAsked x a time → IsNoWorse (base_run x a) (arrival_run x a time)
+no_worse x a time none h = better (base_run x a) (arrival_run x a time) (not_worse x a none time h)
+
+pub one_outcome : (x : Scenario) (a : Asking) (time other : ℕ) → makes_difference x a ≡ false → IsAsked x a time → IsAsked x a other → outcome_at x a time ≡ outcome_at x a other
+one_outcome x a time other none h k = one_of_all x a none (compared_times x a (a.to - a.from)).first refl time other h k

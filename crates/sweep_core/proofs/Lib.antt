@@ -4,6 +4,7 @@ pub mod Differences
 pub mod Lined
 pub mod Going
 pub mod Sweeps
+pub mod Late
 pub mod Looking
 pub mod Following
 pub mod Whole

@@ -1,5 +1,5 @@
 -- A sweep: the outcome of each arrival time, and its text (docs/FORMATS.md, Sweep).
-use Rattle.std.specs.Prelude.{ℕ, zero, suc, ◌+◌, ◌-◌, Bool, true, false, not, ◌&&◌, ◌||◌, List, [], ◌++◌, codes, decimal, bytes_eq, nat_lt, if◌then◌else◌}
+use Rattle.std.specs.Prelude.{◌≡◌, ◌≤◌, ◌<◌, ℕ, zero, suc, ◌+◌, ◌-◌, Bool, true, false, not, ◌&&◌, ◌||◌, List, [], ◌++◌, codes, decimal, bytes_eq, nat_lt, nat_le, if◌then◌else◌}
 use Rattle.std.specs.List.{list_any, range_with_len}
 use Rattle.run_script.specs.Scripts.{Listed}
 use Rattle.board_model.specs.declared.outcomes.End.{End}
@@ -26,8 +26,19 @@ base_run x a = run Calls x a.limit (start_of x)
 abbrev pub arrival_run : Scenario → Asking → ℕ → Run
 arrival_run x a time = run Calls (arriving x a.arrival time) a.limit (start_of x)
 
+-- an event of the arrival would come in turn `limit` or later, which a run of so many turns does not reach
+abbrev pub is_late : List Listed → ℕ → ℕ → Bool
+is_late arrival time limit = list_any (λ listed. nat_le limit (time + listed.0)) arrival
+
+abbrev pub is_late_at : Asking → ℕ → Bool
+is_late_at a time = is_late a.arrival time a.limit
+
+-- no run is made of an arrival time that is late, and none where there is no script
 abbrev pub outcome_at : Scenario → Asking → ℕ → List ℕ
-outcome_at x a time = if may_be_laid x.script a.arrival time then outcome a.mem (arrival_run x a time) else codes "full"
+outcome_at x a time =
+    if is_late_at a time then codes "late"
+    else if may_be_laid x.script a.arrival time then outcome a.mem (arrival_run x a time)
+    else codes "full"
 
 -- ## the text
 
@@ -74,7 +85,7 @@ abbrev pub times : Asking → List ℕ
 times a = range_with_len a.from (a.to - a.from)
 
 abbrev pub is_made : Scenario → Asking → ℕ → Bool
-is_made x a time = may_be_laid x.script a.arrival time
+is_made x a time = not (is_late_at a time) && may_be_laid x.script a.arrival time
 
 abbrev pub differ : Scenario → Asking → ℕ → ℕ → Bool
 differ x a one other = is_made x a one && is_made x a other && not (bytes_eq (outcome_at x a one) (outcome_at x a other))
@@ -82,3 +93,16 @@ differ x a one other = is_made x a one && is_made x a other && not (bytes_eq (ou
 unfoldable pub makes_difference : Scenario → Asking → Bool
 makes_difference x a =
     list_any (λ time. (is_made x a time && is_worse (base_run x a) (arrival_run x a time)) || list_any (differ x a time) (times a)) (times a)
+
+-- ## what it says of each arrival time where none makes a difference
+
+-- an arrival time that is asked for, and of which a run is made
+pub record IsAsked (x : Scenario) (a : Asking) (time : ℕ) : Type 0 where
+  pub from : a.from ≤ time
+  pub to : time < a.to
+  pub made : is_made x a time ≡ true
+
+-- its run has no more faults than the one without the arrival, and ends by the supervisor only where that does
+pub record IsNoWorse (base r : Run) : Type 0 where
+  pub faults : (heard nothing_heard r.notes).faults ≤ (heard nothing_heard base.notes).faults
+  pub end : r.end ≡ Supervisor → base.end ≡ Supervisor

@@ -5,6 +5,7 @@ ghost use Rattle.run_script.specs.Events.{script_data};
 ghost use Rattle.run_script.specs.Laying.{HasRoom};
 ghost use Rattle.board_model.specs.Laid.{may_be_laid};
 ghost use Rattle.sweep_core.specs.Laying.{IsLaid};
+ghost use Rattle.sweep_core.specs.Swept.{is_late};
 
 use run_script::Script;
 
@@ -49,4 +50,23 @@ pub(crate) fn span(arrival: &Script) -> u32
         }
     }
     span
+}
+
+/// Whether an event of an arrival would come in turn `limit` or later, which a run of at most so
+/// many turns does not reach.
+pub(crate) fn is_late(arrival: &Script, time: u32, limit: u32) -> bool
+    requires early { time ≤ 1000000000 }
+    ensures { result ≡ is_late (script_data arrival.now).events time limit }
+{
+    for place in 0..arrival.count() {
+        match arrival.listed_event(place) {
+            Some((turn, _event)) => {
+                if limit <= time + turn {
+                    return true;
+                }
+            }
+            None => unreachable!(),
+        }
+    }
+    false
 }

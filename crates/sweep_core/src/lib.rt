@@ -3,6 +3,7 @@
 
 mod checkpoints;
 mod comparing;
+mod laws;
 mod laying;
 mod leader;
 mod meeting;
@@ -12,6 +13,7 @@ mod tally;
 mod text;
 mod told;
 
+pub use laws::no_difference_says_so_of_each_time;
 pub use outcome::{OutcomeText, outcome_of};
 pub use sweeper::Sweeper;
 pub use tally::Tally;

@@ -153,3 +153,12 @@ pub(crate) fn full() -> OutcomeText
     out.push_str("full");
     out
 }
+
+/// In place of an outcome, where not all of the arrival comes within the bound.
+pub(crate) fn late() -> OutcomeText
+    ensures { result.bytes ≡ codes "late" }
+{
+    let mut out = OutcomeText::new();
+    out.push_str("late");
+    out
+}

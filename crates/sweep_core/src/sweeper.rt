@@ -14,9 +14,9 @@ ghost use Rattle.sweep_core.specs.Sweeping.{Fork, HasTold, IsAt, IsAtFork, IsBas
 ghost use Rattle.sweep_core.specs.Told.{IsTold};
 
 use crate::comparing::Compared;
-use crate::laying::{lay, span};
+use crate::laying::{is_late, lay, span};
 use crate::leader::Leader;
-use crate::outcome::{OutcomeText, full};
+use crate::outcome::{OutcomeText, full, late};
 use crate::tally::Tally;
 use crate::text::{TimeStretch, push_base};
 use crate::told::{Told, play_to};
@@ -172,6 +172,9 @@ impl Sweeper {
             IsLooked x (asked_at arrival time limit mem) time base.now compared.old compared.new
             result }
     {
+        if is_late(&self.arrival, time, limit) {
+            return late();
+        }
         if !self.go_to(time, limit) {
             return full();
         }
