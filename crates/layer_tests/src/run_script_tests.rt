@@ -112,3 +112,15 @@ fn a_copy_and_one_made_of_events_have_them(rt: HostRuntime) -> Result<(), Fail> 
     assert!(rt; [copy, made] == [wanted, wanted]);
     Ok(())
 }
+
+#[test]
+fn a_script_is_written_in_one_spelling(rt: HostRuntime) -> Result<(), Fail> {
+    let read = b"# a\nevery 050 tick\nat 3 irq 07\n at\t3 in 1 65\r\nat 4 tick";
+    let script = Script::read(rt.alloc(), read)?;
+    let mut text = Vec::from_slice(rt.alloc(), b"# b\n")?;
+    script.push_text(&mut text)?;
+    let wanted = b"# b\nevery 50 tick\nat 3 irq 7\nat 3 in 1 65\nat 4 tick\n";
+    let same = text.as_slice() == wanted;
+    assert!(rt; same);
+    Ok(())
+}
