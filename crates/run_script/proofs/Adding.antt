@@ -11,7 +11,7 @@ use Rattle.std.proofs.lemmas.List.Sorted.{list_any-IsPermutation, IsNonDecreasin
 use Rattle.run_script.specs.declared.events.Event.{Event}
 use Rattle.run_script.specs.Facts.{Facts, HasDevice, HasLine, IsListed}
 use Rattle.run_script.specs.Laying.{has_no_place}
-use Rattle.run_script.specs.Scripts.{Listed, ScriptData, events_of, lasts, is_of, listed_of, ticks_of}
+use Rattle.run_script.specs.Scripts.{Listed, ScriptData, events_of, inserted, lasts, is_of, listed_of, ticks_of}
 
 none_later : (u turn : ℕ) (xs : List Listed) → ((k : ℕ) (d : Listed) → k < length xs → turn < (get_or xs k d).0) → u ≤ turn → filter (is_of u) xs ≡ []
 none_later u turn [] h le = refl
@@ -77,6 +77,38 @@ lasts_too script u turn at event =
     let p : Listed → Bool = λ d. nat_le u d.0 in
     ap (λ (b : Bool). is_some script.every || b) (sym (list_any-IsPermutation p ((turn, event) ∷ script.events) (insert script.events at (turn, event)) (IsPermutation-insert script.events at (turn, event))))
     ∙ or_turned (is_some script.every) (nat_le u turn) (list_any p script.events)
+
+-- ---- the list with it
+
+early : (a turn : ℕ) → a ≤ turn → (nat_le a turn ≡ true) × (nat_lt turn a ≡ false)
+early a turn h = (grind (arith, nat_tests), grind (arith, nat_tests))
+
+late : (a turn : ℕ) → turn < a → (nat_le a turn ≡ false) × (nat_lt turn a ≡ true)
+late a turn h = (grind (arith, nat_tests), grind (arith, nat_tests))
+
+abbrev up_to : ℕ → Listed → Bool
+up_to turn d = nat_le d.0 turn
+
+abbrev beyond : ℕ → Listed → Bool
+beyond turn d = nat_lt turn d.0
+
+-- what stands before a place, and what from there on
+parted : (turn at : ℕ) (xs : List Listed) → at ≤ length xs → ((k : ℕ) (d : Listed) → k < at → (get_or xs k d).0 ≤ turn) → AreLater turn at xs → (filter (up_to turn) xs ≡ take at xs) × (filter (beyond turn) xs ≡ drop at xs)
+parted turn zero [] le before later = (refl, refl)
+parted turn (suc at) [] le before later = absurd (omega arith)
+parted turn zero (x ∷ xs) le before later =
+    let rest = parted turn zero xs (omega arith) (λ k d lt. absurd (omega (arith, lt))) (λ k d a lt. later (suc k) d (omega arith) (omega (arith, lt))) in
+    let here = late x.0 turn (later 0 x (omega arith) (omega arith)) in
+    (dropped (up_to turn) x xs here.0 ∙ rest.0, kept (beyond turn) x xs here.1 ∙ ap (λ (l : List Listed). x ∷ l) rest.1)
+parted turn (suc at) (x ∷ xs) le before later =
+    let rest = parted turn at xs (omega arith) (λ k d lt. before (suc k) d (omega (arith, lt))) (λ k d a lt. later (suc k) d (omega (arith, a)) (omega (arith, lt))) in
+    let here = early x.0 turn (before 0 x (omega arith)) in
+    (kept (up_to turn) x xs here.0 ∙ ap (λ (l : List Listed). x ∷ l) rest.0, dropped (beyond turn) x xs here.1 ∙ rest.1)
+
+pub inserted_is : (turn at : ℕ) (event : Event) (xs : List Listed) → at ≤ length xs → ((k : ℕ) (d : Listed) → k < at → (get_or xs k d).0 ≤ turn) → AreLater turn at xs → insert xs at (turn, event) ≡ inserted turn event xs
+inserted_is turn at event xs le before later =
+    let both = parted turn at xs le before later in
+    ap (λ (l : List Listed). l ++ (turn, event) ∷ drop at xs) (sym both.0) ∙ ap (λ (l : List Listed). filter (up_to turn) xs ++ (turn, event) ∷ l) (sym both.1)
 
 -- ---- whether there is room in the turn
 

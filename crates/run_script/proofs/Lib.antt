@@ -7,3 +7,5 @@ pub mod Known
 pub mod Each
 pub mod Coming
 pub mod Adding
+pub mod Decimals
+pub mod ReadBack

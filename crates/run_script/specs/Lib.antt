@@ -6,3 +6,4 @@ pub mod Scripts
 pub mod Statements
 pub mod Words
 pub mod Next
+pub mod Texts

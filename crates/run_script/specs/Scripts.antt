@@ -37,6 +37,10 @@ listed_of turn events = map (λ listed. listed.1) (filter (is_of turn) events)
 abbrev pub events_of : ScriptData → ℕ → List Event
 events_of script turn = ticks_of script.every turn ++ listed_of turn script.events
 
+-- an event at its place, behind those of its turn and of the turns before
+abbrev pub inserted : ℕ → Event → List Listed → List Listed
+inserted turn event events = filter (λ d. nat_le d.0 turn) events ++ (turn, event) ∷ filter (λ d. nat_lt turn d.0) events
+
 -- where the first listed event of this turn or a later one stands, or how many there are
 pub record IsFirstListed (script : ScriptData) (turn at : ℕ) : Type 0 where
   pub within : at ≤ length script.events

@@ -5,7 +5,7 @@ ghost use Rattle.std.specs.Prelude.{◌≡◌, ◌+◌, ◌==◌, ◌++◌, ◌|
 ghost use Rattle.run_script.specs.Events.{script_data};
 ghost use Rattle.run_script.specs.Facts.{HasDevice, HasLine, IsListed};
 ghost use Rattle.run_script.specs.Laying.{HasRoom, has_no_place};
-ghost use Rattle.run_script.specs.Scripts.{events_of, lasts, no_script};
+ghost use Rattle.run_script.specs.Scripts.{events_of, inserted, lasts, no_script};
 
 use crate::draft::{MOST, MOST_OF_TURN};
 use crate::events::Event;
@@ -77,6 +77,11 @@ impl Script {
         requires room { HasRoom self.old (length (script_data self.old).events + 1) }
         ensures full { result ≡ false → self.new ≡ self.old }
         ensures free { result ≡ not (has_no_place (script_data self.old) turn) }
+        ensures list { result ≡ true → script_data self.new ≡
+            (record (script_data self.old) {
+              events = inserted turn event
+                  (script_data self.old).events;
+            }) }
         ensures events { result ≡ true → (u : ℕ) → events_of (script_data self.new) u
             ≡ events_of (script_data self.old) u ++ (if turn == u then event ∷ [] else []) }
         ensures lasts { result ≡ true → (u : ℕ) → lasts (script_data self.new) u

@@ -4,15 +4,18 @@
 
 mod draft;
 mod events;
+mod laws;
 mod laying;
 mod making;
 mod reading;
 mod script;
 mod statement;
+mod text;
 mod turns;
 mod words;
 
 pub use events::{Event, ScriptFault};
+pub use laws::script_text_is_read;
 pub use script::Script;
 pub use statement::{number_within, starts_by_hash};
 pub use words::{are_allowed, first_word, words_end_at_blanks};

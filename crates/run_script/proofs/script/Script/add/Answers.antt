@@ -3,7 +3,7 @@ use Rattle.std.specs.Prelude.{is_ok, is_some, List}
 use Rattle.std.specs.List.{insert}
 use Rattle.run_script.specs.Events.{script_data}
 use Rattle.run_script.specs.Scripts.{Listed, events_of, lasts}
-use Rattle.run_script.proofs.Adding.{behind, facts_more, full_is, lasts_too, spread, until}
+use Rattle.run_script.proofs.Adding.{behind, facts_more, full_is, inserted_is, lasts_too, spread, until}
 use Rattle.run_script.proofs.script.Script.add.Goals as goal
 
 pub returns-then-is_some-clause-free : goal.returns-then-is_some-clause-free
@@ -37,6 +37,14 @@ returns-clause-free c =
     let long = c.len.ensures in
     let full = full_is (script_data c.args.self.now) c.args.turn false (omega (arith, soon)) (omega (arith, few, long)) (ap is_some (sym c.listed_at.ensures) ∙ sym c.is_some.ensures ∙ c.if-is_some.false) in
     rw full refl
+
+pub returns-clause-list : goal.returns-clause-list
+returns-clause-list c = λ same.
+    let turn = c.args.turn in
+    let at = c.first_of-at.ensures in
+    let s = script_data c.args.self.now in
+    ap (λ (l : List Listed). record s { events = l })
+    (c.in-Ok.ensures.items ∙ inserted_is turn c.first_of-at.result c.args.event s.events at.within (λ k d lt. until _ turn (at.before k d lt)) (λ k d a b. behind _ turn (at.from k d a b)))
 
 pub returns-clause-events : goal.returns-clause-events
 returns-clause-events c = λ same u.
