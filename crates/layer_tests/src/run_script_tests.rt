@@ -25,21 +25,11 @@ fn no_event_is_past_the_last_turn(rt: HostRuntime) -> Result<(), Fail> {
 
 #[test]
 fn a_script_is_written_in_one_spelling(rt: HostRuntime) -> Result<(), Fail> {
-    let read = b"# a
-every 050 tick
-at 3 irq 07
- at	3 in 1 65
-at 4 tick";
+    let read = b"# a\nevery 050 tick\nat 3 irq 07\n at\t3 in 1 65\r\nat 4 tick";
     let script = Script::read(rt.alloc(), read)?;
-    let mut text = Vec::from_slice(rt.alloc(), b"# b
-")?;
+    let mut text = Vec::from_slice(rt.alloc(), b"# b\n")?;
     script.push_text(&mut text)?;
-    let wanted = b"# b
-every 50 tick
-at 3 irq 7
-at 3 in 1 65
-at 4 tick
-";
+    let wanted = b"# b\nevery 50 tick\nat 3 irq 7\nat 3 in 1 65\nat 4 tick\n";
     let same = text.as_slice() == wanted;
     assert!(rt; same);
     Ok(())
