@@ -59,7 +59,8 @@ function tell_line_causes(constant, of, own, further,    k) {
 }
 BEGIN { statuses = 0 }
 END {
-    print "//! What `help` says, made of the tables of docs/FORMATS.md by .ci/help.awk: not to be changed by\n//! hand."
+    print "//! What `help` says, made of the tables of docs/FORMATS.md by .ci/help.awk: not to be changed by"
+    print "//! hand."
     for (k = 1; k <= commands; k++) say("", "", sprintf("%-52s  %s", words[k], short[k]))
     say("", "", "")
     say("", "", "hubris help COMMAND says what one of them takes and answers. docs/FORMATS.md has the formats, docs/GUIDE.md a first application.")

@@ -239,10 +239,11 @@ pub(crate) const SCRIPT_CAUSES: &[&str] = &[
     "causes of SCRIPT, the place is a line of it, from 1 on\n",
     "    0   more than 2097152 bytes; the place is that number\n",
     "    1   has a byte other than a tab (9) or 32 to 126\n",
-    "    2   is none of the forms, whatever stands in place of numbers\n",
-    "    3   has something other than a number of one to ten digits in place of one, or a number out of range\n",
-    "    4   has a T below that of an earlier line, or is an `every` behind an event or another `every`\n",
-    "    5   is the 65,537th event, or the ninth of one turn\n",
+    "    2   is none of the forms, whatever stands in place of numbers and texts\n",
+    "    3   has something other than a number of one to ten digits or a text in place of one, or a number out of\n",
+    "        range, or a B below A, or a byte of a text past turn 999,999,999\n",
+    "    4   has a T or an A below that of an earlier line, or is an `every` behind one or another `every`\n",
+    "    5   has the 65,537th event, or the ninth of a turn, of those of the lines before and its own\n",
 ];
 
 /// The causes of APP.

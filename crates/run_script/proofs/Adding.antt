@@ -124,7 +124,7 @@ has_at (x ∷ xs) (suc k) =
 eighth : (n : ℕ) → nat_lt 7 n ≡ nat_le 8 n
 eighth n = grind (arith, nat_tests)
 
-counted : (turn : ℕ) (xs : List Listed) → is_some (slice_get (listed_of turn xs) 7) ≡ nat_le 8 (count_by (is_of turn) xs)
+pub counted : (turn : ℕ) (xs : List Listed) → is_some (slice_get (listed_of turn xs) 7) ≡ nat_le 8 (count_by (is_of turn) xs)
 counted turn xs =
     let long : length (listed_of turn xs) ≡ count_by (is_of turn) xs = length-map (filter (is_of turn) xs) (λ (d : Listed). d.1) ∙ length-filter (is_of turn) xs in
     has_at (listed_of turn xs) 7 ∙ eighth (length (listed_of turn xs)) ∙ ap (nat_le 8) long

@@ -1,6 +1,6 @@
 -- A number that is written is read as that number, and is a word of digits.
 use Rattle.std.proofs.Common.{◌≡◌, ℕ, ◌+◌, ◌-◌, ◌*◌, ◌^◌, ◌<◌, ◌≤◌, true, false, leb, ltb, List, [], ◌∷◌, ◌++◌, length, suc, zero, Some, refl, sym, subst, ap, ◌∙◌, arith}
-use Rattle.std.specs.Prelude.{decimal}
+use Rattle.std.specs.Prelude.{Bool, decimal, not, ◌==◌, ◌&&◌}
 use Rattle.std.specs.List.{list_all}
 use Rattle.std.specs.Int.{IsInRange}
 use Rattle.std.proofs.lemmas.Str.Parse.{IsNumeralModel, IsDigitsTest, WeighsDigits, numerals_by_weight}
@@ -44,26 +44,33 @@ all_digits n h = digits_decimal own n h
 not_blank : (c : ℕ) → is_digit c ≡ true → is_blank c ≡ false
 not_blank c h = grind (arith, nat_tests)
 
-allowed : (c : ℕ) → is_digit c ≡ true → is_allowed c ≡ true
-allowed c h = grind (arith, nat_tests)
+-- a byte of a line, and no quote
+abbrev pub is_plain : ℕ → Bool
+is_plain c = is_allowed c && not (c == 34)
+
+plain : (c : ℕ) → is_digit c ≡ true → is_plain c ≡ true
+plain c h = and_from (is_allowed c) (not (c == 34)) (grind (arith, nat_tests)) (ap not (other_than_quote c h))
+  where
+    other_than_quote : (c : ℕ) → is_digit c ≡ true → (c == 34) ≡ false
+    other_than_quote c h = grind (arith, nat_tests)
 
 digits_no_blank : (ds : List ℕ) → list_all is_digit ds ≡ true → HasNoBlank ds
 digits_no_blank [] h k lt = absurd (omega arith)
 digits_no_blank (c ∷ cs) h zero lt = not_blank c (and_parts (is_digit c) (list_all is_digit cs) h).0
 digits_no_blank (c ∷ cs) h (suc k) lt = digits_no_blank cs (and_parts (is_digit c) (list_all is_digit cs) h).1 k (omega arith)
 
-digits_allowed : (ds : List ℕ) → list_all is_digit ds ≡ true → list_all is_allowed ds ≡ true
-digits_allowed [] h = refl
-digits_allowed (c ∷ cs) h =
+digits_plain : (ds : List ℕ) → list_all is_digit ds ≡ true → list_all is_plain ds ≡ true
+digits_plain [] h = refl
+digits_plain (c ∷ cs) h =
     let p = and_parts (is_digit c) (list_all is_digit cs) h in
-    and_from (is_allowed c) (list_all is_allowed cs) (allowed c p.0) (digits_allowed cs p.1)
+    and_from (is_plain c) (list_all is_plain cs) (plain c p.0) (digits_plain cs p.1)
 
 -- the word in front of what stands behind it
 pub decimal_then : (n : ℕ) (behind : List ℕ) → n < 2 ^ 64 → ends_word behind ≡ true → words (decimal n ++ behind) ≡ decimal n ∷ words behind
 decimal_then n behind h e = word_and (decimal n) behind (decimal_nonempty n h) (digits_no_blank (decimal n) (all_digits n h)) e
 
-pub allowed_then : (n : ℕ) (behind : List ℕ) → n < 2 ^ 64 → list_all is_allowed behind ≡ true → list_all is_allowed (decimal n ++ behind) ≡ true
-allowed_then n behind h e = list_all-append is_allowed (decimal n) behind ∙ and_from (list_all is_allowed (decimal n)) (list_all is_allowed behind) (digits_allowed (decimal n) (all_digits n h)) e
+pub plain_then : (n : ℕ) (behind : List ℕ) → n < 2 ^ 64 → list_all is_plain behind ≡ true → list_all is_plain (decimal n ++ behind) ≡ true
+plain_then n behind h e = list_all-append is_plain (decimal n) behind ∙ and_from (list_all is_plain (decimal n)) (list_all is_plain behind) (digits_plain (decimal n) (all_digits n h)) e
 
 -- ---- the value
 

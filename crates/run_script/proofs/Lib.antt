@@ -1,6 +1,6 @@
 pub mod Wording
 pub mod Numbers
-pub mod Tracking
+pub mod Series
 pub mod Walk
 pub mod Picks
 pub mod Known
@@ -9,3 +9,4 @@ pub mod Coming
 pub mod Adding
 pub mod Decimals
 pub mod ReadBack
+pub mod Quoting

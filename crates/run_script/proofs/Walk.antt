@@ -5,24 +5,24 @@ use Rattle.run_script.specs.declared.events.ScriptFault.TheVariants as fault
 use Rattle.run_script.specs.Drafts.{Refuses}
 use Rattle.run_script.specs.Events.{stated}
 use Rattle.run_script.specs.Statements.{statement_of}
-use Rattle.run_script.specs.Scripts.{ScriptData, Refusal, go_on, with_statement, with_lines}
+use Rattle.run_script.specs.Scripts.{Reading, ScriptData, Refusal, go_on, with_statement, with_lines}
 
-pub no_line : (script : ScriptData) (number : ℕ) → with_lines script number [] ≡ Ok script
+pub no_line : (r : Reading) (number : ℕ) → with_lines r number [] ≡ Ok r.script
 unfolding with_lines
-no_line script number = refl
+no_line r number = refl
 
-pub one_line : (script : ScriptData) (number : ℕ) (line : List ℕ) (lines : List (List ℕ)) → with_lines script number (line ∷ lines) ≡ go_on number (with_statement script (statement_of line)) (λ next. with_lines next (number + 1) lines)
+pub one_line : (r : Reading) (number : ℕ) (line : List ℕ) (lines : List (List ℕ)) → with_lines r number (line ∷ lines) ≡ go_on number (with_statement r (statement_of line)) (λ next. with_lines next (number + 1) lines)
 unfolding with_lines
-one_line script number line lines = refl
+one_line r number line lines = refl
 
-pub goes_on : (script next : ScriptData) (number : ℕ) (line : List ℕ) (lines rest : List (List ℕ)) → rest ≡ line ∷ lines → with_statement script (statement_of line) ≡ Ok next → with_lines script number rest ≡ with_lines next (number + 1) lines
-goes_on script next number line lines rest e h =
-    ap (with_lines script number) e ∙ one_line script number line lines
-    ∙ ap (λ (r : Result ScriptData ℕ). go_on number r (λ next. with_lines next (number + 1) lines)) h
+pub goes_on : (r next : Reading) (number : ℕ) (line : List ℕ) (lines rest : List (List ℕ)) → rest ≡ line ∷ lines → with_statement r (statement_of line) ≡ Ok next → with_lines r number rest ≡ with_lines next (number + 1) lines
+goes_on r next number line lines rest e h =
+    ap (with_lines r number) e ∙ one_line r number line lines
+    ∙ ap (λ (o : Result Reading ℕ). go_on number o (λ next. with_lines next (number + 1) lines)) h
 
-pub stops_at : (script : ScriptData) (number : ℕ) (line : List ℕ) (lines rest : List (List ℕ)) (whole : Result ScriptData Refusal) (f : ScriptFault) → whole ≡ with_lines script number rest → rest ≡ line ∷ lines → Refuses f number (with_statement script (statement_of line)) → IfSome (stated f) (λ t. whole ≡ Err t)
-stops_at script number line lines rest whole (fault.Refused cause place) w e h =
-    w ∙ ap (with_lines script number) e ∙ one_line script number line lines
-    ∙ ap (λ (r : Result ScriptData ℕ). go_on number r (λ next. with_lines next (number + 1) lines)) h.1
+pub stops_at : (r : Reading) (number : ℕ) (line : List ℕ) (lines rest : List (List ℕ)) (whole : Result ScriptData Refusal) (f : ScriptFault) → whole ≡ with_lines r number rest → rest ≡ line ∷ lines → Refuses f number (with_statement r (statement_of line)) → IfSome (stated f) (λ t. whole ≡ Err t)
+stops_at r number line lines rest whole (fault.Refused cause place) w e h =
+    w ∙ ap (with_lines r number) e ∙ one_line r number line lines
+    ∙ ap (λ (o : Result Reading ℕ). go_on number o (λ next. with_lines next (number + 1) lines)) h.1
     ∙ ap (λ n. Err (cause, n)) (sym h.0)
-stops_at script number line lines rest whole fault.Memory w e h = tt
+stops_at r number line lines rest whole fault.Memory w e h = tt

@@ -1,21 +1,48 @@
--- A script that is being read.
-use Rattle.std.specs.Prelude.{ℕ, ◌≡◌, ◌≤◌, ◌==◌, nat_lt, if◌then◌else◌, List, Result, Err}
-use Rattle.std.specs.List.{count_by}
+-- A script that is being read: what the code's statements say, and what is known of them.
+use Rattle.std.specs.Prelude.{ℕ, ◌≡◌, ◌+◌, ◌*◌, ◌<◌, ◌≤◌, ◌==◌, ◌&&◌, Bool, false, List, [], ◌∷◌, length, map, replicate, Result, Err}
+use Rattle.std.specs.List.{list_all}
 use Rattle.run_script.specs.declared.draft.Draft.{Draft}
+use Rattle.run_script.specs.declared.events.Event.TheVariants.{Feed}
 use Rattle.run_script.specs.declared.events.ScriptFault.{ScriptFault}
 use Rattle.run_script.specs.declared.events.ScriptFault.TheVariants as fault
-use Rattle.run_script.specs.Scripts.{Listed, ScriptData, has_later, is_of}
+use Rattle.run_script.specs.declared.statement.Statement.{Statement}
+use Rattle.run_script.specs.declared.statement.Statement.TheVariants as code
+use Rattle.run_script.specs.Events.{script_data}
+use Rattle.run_script.specs.Facts.{HasDevice, HasLine, IsPeriod}
+use Rattle.run_script.specs.Words.{is_blank}
+use Rattle.run_script.specs.Statements.{Said, Nothing, Every, Lists, Refused}
+use Rattle.run_script.specs.Scripts.{Reading}
 
--- the script that it is so far
-abbrev pub drafted : Draft → ScriptData
-drafted d = record { every = d.every; events = d.events.items }
+-- a text ends here: by a quote, and blanks
+abbrev pub closes : List ℕ → Bool
+closes [] = false
+closes (c ∷ cs) = (c == 34) && list_all is_blank cs
 
--- the turn of the last event, and how many events are of that turn; 0 and 0 where there is none
-pub record Tracks (events : List Listed) (last here : ℕ) : Type 0 where
-  pub later : (turn : ℕ) → has_later events turn ≡ nat_lt turn last
-  pub of_turn : (turn : ℕ) → last ≤ turn → count_by (is_of turn) events ≡ (if turn == last then here else 0)
+-- what a statement says
+abbrev pub said : Statement → Said
+said code.Nothing = Nothing
+said (code.Every period) = Every period
+said (code.Repeats first step times event) = Lists first step (replicate times event)
+said (code.Bytes first step device bytes) = Lists first step (map (λ byte. Feed device byte) bytes.items)
+said (code.Refused cause) = Refused cause
+
+-- so many turns, the first and each further one so many turns later, are turns of a run
+pub record AreTurns (first step times : ℕ) : Type 0 where
+  pub most : step ≤ 1000000000
+  pub each : (k : ℕ) → k < times → first + k * step < 1000000000
+
+abbrev pub IsKnown : Statement → Type 0
+IsKnown code.Nothing = Unit {0}
+IsKnown (code.Every period) = IsPeriod period
+IsKnown (code.Repeats first step times event) = AreTurns first step times × HasLine event × HasDevice event
+IsKnown (code.Bytes first step device bytes) = AreTurns first step (length bytes.items) × (device < 8)
+IsKnown (code.Refused cause) = Unit {0}
+
+-- what is read so far
+abbrev pub drafted : Draft → Reading
+drafted d = record { script = script_data d.script; from = d.from }
 
 -- the fault is the cause with the line, or want of memory
-abbrev pub Refuses : ScriptFault → ℕ → Result ScriptData ℕ → Type 0
+abbrev pub Refuses : {A : Type 0} → ScriptFault → ℕ → Result A ℕ → Type 0
 Refuses (fault.Refused cause place) line answer = (place ≡ line) × (answer ≡ Err cause)
 Refuses fault.Memory line answer = Unit {0}

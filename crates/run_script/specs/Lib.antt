@@ -5,5 +5,6 @@ pub mod Drafts
 pub mod Scripts
 pub mod Statements
 pub mod Words
+pub mod Quotes
 pub mod Next
 pub mod Texts

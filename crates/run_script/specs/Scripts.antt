@@ -5,9 +5,7 @@ use Rattle.std.specs.List.{count_by, list_any}
 use Rattle.text_lines.specs.Text.{lines_of}
 use Rattle.run_script.specs.declared.events.Event.{Event}
 use Rattle.run_script.specs.declared.events.Event.TheVariants.{Tick}
-use Rattle.run_script.specs.declared.statement.Statement.{Statement}
-use Rattle.run_script.specs.declared.statement.Statement.TheVariants.{Nothing, Every, At, Refused}
-use Rattle.run_script.specs.Statements.{statement_of}
+use Rattle.run_script.specs.Statements.{Said, Nothing, Every, Lists, Refused, statement_of}
 
 -- a turn and what happens in it
 abbrev pub Listed : Type 0
@@ -62,45 +60,61 @@ IsNext script from (Some next) = (from ≤ next) × (next < 1000000000) × (even
 abbrev pub no_script : ScriptData
 no_script = record { every = None; events = [] }
 
-abbrev pub has_later : List Listed → ℕ → Bool
-has_later events turn = list_any (λ listed. nat_lt turn listed.0) events
-
 -- no room for one more event: 65,536 are listed, or eight of this turn
 abbrev pub is_full : List Listed → ℕ → Bool
 is_full events turn = nat_le 65536 (length events) || nat_le 8 (count_by (is_of turn) events)
 
-abbrev pub with_event : ScriptData → ℕ → Event → Result ScriptData ℕ
-with_event script turn event =
-    if has_later script.events turn then Err 4
-    else if is_full script.events turn then Err 5
-    else Ok (record { every = script.every; events = script.events ++ (turn, event) ∷ [] })
+abbrev pub with_listed : ScriptData → ℕ → Event → Result ScriptData ℕ
+with_listed script turn event =
+    if is_full script.events turn then Err 5
+    else Ok (record { every = script.every; events = inserted turn event script.events })
+
+abbrev pub if_ok : {A B : Type 0} → Result A ℕ → (A → Result B ℕ) → Result B ℕ
+if_ok (Ok x) rest = rest x
+if_ok (Err cause) rest = Err cause
+
+-- events, the first on a turn and each further one so many turns later
+unfoldable pub with_series : ScriptData → (turn step : ℕ) → List Event → Result ScriptData ℕ
+with_series script turn step [] = Ok script
+with_series script turn step (event ∷ events) =
+    if_ok (with_listed script turn event) (λ next. with_series next (turn + step) step events)
 
 abbrev pub with_period : ScriptData → ℕ → Result ScriptData ℕ
 with_period script period =
     if is_some script.every || nat_lt 0 (length script.events) then Err 4
     else Ok (record { every = Some period; events = script.events })
 
--- the script with one more statement, or the cause by which that is refused
-abbrev pub with_statement : ScriptData → Statement → Result ScriptData ℕ
-with_statement script Nothing = Ok script
-with_statement script (Every period) = with_period script period
-with_statement script (At turn event) = with_event script turn event
-with_statement script (Refused cause) = Err cause
+-- what is read so far: the script, and the first turn of the last line that lists events; 0 where none does
+pub record Reading : Type 0 where
+  pub script : ScriptData
+  pub from : ℕ
+
+abbrev pub reading : ℕ → ScriptData → Reading
+reading from script = record { script = script; from = from }
+
+-- with what one more line says, or the cause by which that is refused
+abbrev pub with_statement : Reading → Said → Result Reading ℕ
+with_statement r Nothing = Ok r
+with_statement r (Every period) = if_ok (with_period r.script period) (λ script. Ok (reading r.from script))
+with_statement r (Lists first step events) =
+    if nat_lt first r.from then Err 4
+    else if_ok (with_series r.script first step events) (λ script. Ok (reading first script))
+with_statement r (Refused cause) = Err cause
 
 -- a cause and a line
 abbrev pub Refusal : Type 0
 Refusal = ℕ × ℕ
 
-abbrev pub go_on : ℕ → Result ScriptData ℕ → (ScriptData → Result ScriptData Refusal) → Result ScriptData Refusal
-go_on line (Ok script) rest = rest script
+abbrev pub go_on : ℕ → Result Reading ℕ → (Reading → Result ScriptData Refusal) → Result ScriptData Refusal
+go_on line (Ok r) rest = rest r
 go_on line (Err cause) rest = Err (cause, line)
 
 -- what is read so far, with the lines from this number on
-unfoldable pub with_lines : ScriptData → ℕ → List (List ℕ) → Result ScriptData Refusal
-with_lines script number [] = Ok script
-with_lines script number (line ∷ lines) =
-    go_on number (with_statement script (statement_of line)) (λ next. with_lines next (number + 1) lines)
+unfoldable pub with_lines : Reading → ℕ → List (List ℕ) → Result ScriptData Refusal
+with_lines r number [] = Ok r.script
+with_lines r number (line ∷ lines) =
+    go_on number (with_statement r (statement_of line)) (λ next. with_lines next (number + 1) lines)
 
 -- the script that the bytes say, or the first cause with its line, from 1
 abbrev pub script_or_fault : List ℕ → Result ScriptData Refusal
-script_or_fault bytes = with_lines no_script 1 (lines_of bytes)
+script_or_fault bytes = with_lines (reading 0 no_script) 1 (lines_of bytes)

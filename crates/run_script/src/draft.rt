@@ -1,11 +1,16 @@
 //! A script that is being read.
 
-ghost use Rattle.std.specs.Prelude.{◌≡◌, OnOk, IfErr, Ok};
-ghost use Rattle.run_script.specs.Drafts.{Refuses, Tracks, drafted};
-ghost use Rattle.run_script.specs.Scripts.{no_script, with_event, with_period, with_statement};
+ghost use Rattle.std.specs.Prelude.{◌≡◌, ◌<◌, OnOk, IfErr, Ok, length, map, replicate};
+ghost use Rattle.run_script.specs.declared.events.Event.TheVariants.{Feed};
+ghost use Rattle.run_script.specs.Drafts.{AreTurns, IsKnown, Refuses, drafted, said};
+ghost use Rattle.run_script.specs.Events.{script_data};
+ghost use Rattle.run_script.specs.Facts.{HasDevice, HasLine, IsListed, IsPeriod};
+ghost use Rattle.run_script.specs.Scripts.{no_script, reading, with_listed, with_period, with_series, with_statement};
 
 use crate::events::{Event, ScriptFault};
+use crate::script::Script;
 use crate::statement::Statement;
+use crate::turns::{first_of, listed_at};
 use std::alloc::Global;
 
 /// The most events that a script lists, and the most of one turn.
@@ -16,76 +21,156 @@ pub(crate) const MOST_OF_TURN: u8 = 8;
 /// What is read so far.
 #[derive(Drop)]
 pub(crate) struct Draft {
-    pub(crate) every: Option<u32>,
-    pub(crate) events: Vec<(u32, Event)>,
-    /// The turn of the last event, and how many events are of that turn; 0 and 0 where there is
-    /// none.
-    pub(crate) last: u32,
-    pub(crate) here: u8,
+    pub(crate) script: Script,
+    /// The first turn of the last line that lists events; 0 where none does.
+    pub(crate) from: u32,
 }
 
-#[tactic(auto, using(crate::proofs::Tracking::tracks_none))]
 pub(crate) fn empty_draft(alloc: Global) -> Draft
-    ensures nothing { drafted result ≡ no_script }
-    ensures tracks { Tracks result.events.items result.last result.here }
+    ensures { drafted result ≡ reading 0 no_script }
 {
     Draft {
-        every: None,
-        events: Vec::new(alloc),
-        last: 0,
-        here: 0,
+        script: Script {
+            every: None,
+            events: Vec::new(alloc),
+        },
+        from: 0,
     }
 }
 
-fn add_period(draft: &mut Draft, period: u32, line: usize) -> Result<(), ScriptFault>
-    requires { Tracks draft.old.events.items draft.old.last draft.old.here }
-    ensures ok { OnOk result (with_period (drafted draft.old) period ≡ Ok (drafted draft.new)) }
-    ensures tracks { OnOk result (Tracks draft.new.events.items draft.new.last draft.new.here) }
-    ensures err { IfErr result (λ e. Refuses e line (with_period (drafted draft.old) period)) }
+fn add_period(script: &mut Script, period: u32, line: usize) -> Result<(), ScriptFault>
+    requires { IsPeriod period }
+    ensures ok { OnOk result (with_period (script_data script.old) period ≡ Ok
+        (script_data script.new)) }
+    ensures err { IfErr result (λ e. Refuses e line (with_period (script_data script.old) period)) }
 {
-    if draft.every.is_some() || draft.events.len() > 0 {
+    if script.every.is_some() || script.events.len() > 0 {
         return Err(ScriptFault::Refused { cause: 4, line });
     }
-    draft.every = Some(period);
+    script.every = Some(period);
     Ok(())
 }
 
-fn add_event(draft: &mut Draft, turn: u32, event: Event, line: usize) -> Result<(), ScriptFault>
-    requires { Tracks draft.old.events.items draft.old.last draft.old.here }
-    ensures ok { OnOk result (with_event (drafted draft.old) turn event ≡ Ok (drafted draft.new)) }
-    ensures tracks { OnOk result (Tracks draft.new.events.items draft.new.last draft.new.here) }
-    ensures err { IfErr result (λ e. Refuses e line (with_event (drafted draft.old) turn event)) }
+/// Lists an event behind those of its turn and of the turns before.
+fn add_event(script: &mut Script, turn: u32, event: Event, line: usize) -> Result<(), ScriptFault>
+    requires { IsListed (turn, event) }
+    ensures ok { OnOk result (with_listed (script_data script.old) turn event ≡ Ok
+        (script_data script.new)) }
+    ensures err { IfErr result (λ e. Refuses e line
+        (with_listed (script_data script.old) turn event)) }
 {
-    if turn < draft.last {
-        return Err(ScriptFault::Refused { cause: 4, line });
-    }
-    let here = if turn == draft.last { draft.here } else { 0 };
-    if draft.events.len() >= MOST || here >= MOST_OF_TURN {
+    if script.events.len() >= MOST {
         return Err(ScriptFault::Refused { cause: 5, line });
     }
-    match draft.events.push((turn, event)) {
+    if listed_at(
+        script,
+        first_of(script, turn),
+        turn,
+        MOST_OF_TURN as u32 - 1,
+    )
+    .is_some()
+    {
+        return Err(ScriptFault::Refused { cause: 5, line });
+    }
+    let at = first_of(script, turn + 1);
+    match script.events.insert(at, (turn, event)) {
         Err(_) => Err(ScriptFault::Memory),
-        Ok(()) => {
-            draft.last = turn;
-            draft.here = here + 1;
-            Ok(())
+        Ok(()) => Ok(()),
+    }
+}
+
+/// Lists an event so many times, the first on a turn and each further one `step` turns later.
+fn add_repeats(
+    script: &mut Script,
+    first: u32,
+    step: u32,
+    times: u32,
+    event: Event,
+    line: usize,
+) -> Result<(), ScriptFault>
+    requires turns { AreTurns first step times }
+    requires line { HasLine event }
+    requires device { HasDevice event }
+    ensures ok { OnOk result (with_series (script_data script.old) first step
+        (replicate times event) ≡ Ok (script_data script.new)) }
+    ensures err { IfErr result (λ e. Refuses e line (with_series (script_data script.old) first step
+        (replicate times event))) }
+{
+    let mut turn = first;
+    for _k in 0..times {
+        match add_event(script, turn, event, line) {
+            Err(fault) => return Err(fault),
+            Ok(()) => turn += step,
         }
     }
+    Ok(())
+}
+
+/// Lists bytes for a device, the first on a turn and each further one `step` turns later.
+fn add_bytes(
+    script: &mut Script,
+    first: u32,
+    step: u32,
+    device: u8,
+    bytes: &[u8],
+    line: usize,
+) -> Result<(), ScriptFault>
+    requires turns { AreTurns first step (length bytes.now) }
+    requires device { device < 8 }
+    ensures ok { OnOk result (with_series (script_data script.old) first step
+        (map (λ byte. Feed device byte) bytes.now) ≡ Ok (script_data script.new)) }
+    ensures err { IfErr result (λ e. Refuses e line (with_series (script_data script.old) first step
+        (map (λ byte. Feed device byte) bytes.now))) }
+{
+    let mut turn = first;
+    for byte in bytes {
+        let event = Event::Feed {
+            device,
+            byte: *byte,
+        };
+        match add_event(script, turn, event, line) {
+            Err(fault) => return Err(fault),
+            Ok(()) => turn += step,
+        }
+    }
+    Ok(())
 }
 
 /// Takes what a line says, or tells why it is refused there.
 pub(crate) fn take(draft: &mut Draft, statement: Statement, line: usize) -> Result<(), ScriptFault>
-    requires { Tracks draft.old.events.items draft.old.last draft.old.here }
-    ensures ok { OnOk result (with_statement (drafted draft.old) statement ≡ Ok
+    requires { IsKnown statement }
+    ensures ok { OnOk result (with_statement (drafted draft.old) (said statement) ≡ Ok
         (drafted draft.new)) }
-    ensures tracks { OnOk result (Tracks draft.new.events.items draft.new.last draft.new.here) }
     ensures err { IfErr result (λ e. Refuses e line
-        (with_statement (drafted draft.old) statement)) }
+        (with_statement (drafted draft.old) (said statement))) }
 {
     match statement {
         Statement::Nothing => Ok(()),
-        Statement::Every { period } => add_period(draft, period, line),
-        Statement::At { turn, event } => add_event(draft, turn, event, line),
+        Statement::Every { period } => add_period(&mut draft.script, period, line),
+        Statement::Repeats {
+            first,
+            step,
+            times,
+            event,
+        } => {
+            if first < draft.from {
+                return Err(ScriptFault::Refused { cause: 4, line });
+            }
+            draft.from = first;
+            add_repeats(&mut draft.script, first, step, times, event, line)
+        }
+        Statement::Bytes {
+            first,
+            step,
+            device,
+            bytes,
+        } => {
+            if first < draft.from {
+                return Err(ScriptFault::Refused { cause: 4, line });
+            }
+            draft.from = first;
+            add_bytes(&mut draft.script, first, step, device, &bytes, line)
+        }
         Statement::Refused { cause } => Err(ScriptFault::Refused { cause, line }),
     }
 }

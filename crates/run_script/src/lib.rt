@@ -7,6 +7,7 @@ mod events;
 mod laws;
 mod laying;
 mod making;
+mod quotes;
 mod reading;
 mod script;
 mod statement;

@@ -1,9 +1,10 @@
 //! From bytes to a script, or the first cause by which they are refused.
 
-ghost use Rattle.std.specs.Prelude.{◌≡◌, IfOk, IfErr, IfSome, Ok, Err};
-ghost use Rattle.run_script.specs.Drafts.{drafted};
+ghost use Rattle.std.specs.Prelude.{◌≡◌, IfOk, IfErr, IfSome, OnOk, Ok, Err};
+ghost use Rattle.run_script.specs.Drafts.{Refuses, drafted};
 ghost use Rattle.run_script.specs.Events.{script_data, stated};
-ghost use Rattle.run_script.specs.Scripts.{script_or_fault};
+ghost use Rattle.run_script.specs.Scripts.{script_or_fault, with_statement};
+ghost use Rattle.run_script.specs.Statements.{statement_of};
 
 use crate::draft::{Draft, empty_draft, take};
 use crate::events::ScriptFault;
@@ -12,8 +13,21 @@ use crate::statement::statement_of;
 use std::alloc::Global;
 use text_lines::Lines;
 
+/// Takes one line more.
+fn read_line(alloc: Global, draft: &mut Draft, text: &[u8], line: usize) -> Result<(), ScriptFault>
+    ensures ok { OnOk result (with_statement (drafted draft.old) (statement_of text.now) ≡ Ok
+        (drafted draft.new)) }
+    ensures err { IfErr result (λ e. Refuses e line
+        (with_statement (drafted draft.old) (statement_of text.now))) }
+{
+    match statement_of(alloc, text) {
+        Err(_) => Err(ScriptFault::Memory),
+        Ok(statement) => take(draft, statement, line),
+    }
+}
+
 fn draft_of(alloc: Global, bytes: &[u8]) -> Result<Draft, ScriptFault>
-    ensures ok { IfOk result (λ d. script_or_fault bytes.now ≡ Ok (drafted d)) }
+    ensures ok { IfOk result (λ d. script_or_fault bytes.now ≡ Ok (drafted d).script) }
     ensures refused { IfErr result (λ e.
         IfSome (stated e) (λ t. script_or_fault bytes.now ≡ Err t)) }
 {
@@ -22,7 +36,7 @@ fn draft_of(alloc: Global, bytes: &[u8]) -> Result<Draft, ScriptFault>
     let mut lines = Lines::of(bytes);
     'lines: while let Some(line) = lines.next() {
         number += 1;
-        match take(&mut draft, statement_of(line), number) {
+        match read_line(alloc, &mut draft, line, number) {
             Err(fault) => return Err(fault),
             Ok(()) => {}
         }
@@ -41,10 +55,7 @@ impl Script {
     {
         match draft_of(alloc, bytes) {
             Err(fault) => Err(fault),
-            Ok(draft) => Ok(Script {
-                every: draft.every,
-                events: draft.events,
-            }),
+            Ok(draft) => Ok(draft.script),
         }
     }
 }

@@ -11,7 +11,7 @@ pub fn words_end_at_blanks()
     ensures none { NothingHasNoWord }
 {}
 
-fn is_blank(c: u8) -> bool
+pub(crate) fn is_blank(c: u8) -> bool
     ensures { result ≡ is_blank c }
 {
     c == b' ' || c == b'\t'

@@ -1,13 +1,12 @@
 use Rattle.std.proofs.Common.{◌≡◌, ◌+◌, ◌≤◌, length}
 use Rattle.text_lines.specs.Text.{lines_of}
-use Rattle.run_script.specs.Drafts.{Tracks, drafted}
+use Rattle.run_script.specs.Drafts.{drafted}
 use Rattle.run_script.specs.Scripts.{script_or_fault, with_lines}
 use Rattle.run_script.proofs.reading.draft_of.Given as goal
 
 abbrev pub invariant-lines : goal.invariant-lines
 invariant-lines l = record {
   same : script_or_fault l.bytes ≡ with_lines (drafted l.draft) (l.number + 1) (lines_of l.lines.rest.now);
-  tracks : Tracks l.draft.events.items l.draft.last l.draft.here;
   few : l.number + length l.lines.rest.now ≤ length l.bytes;
 }
 
