@@ -16,7 +16,7 @@ ghost use Rattle.debug_core.specs.Times.{IsAt, IsFree, later_of};
 
 use board_core::{Board, End, Level};
 use board_run::{Nobody, ending, play};
-use snapshot::{load_into, save_into, saved_len, saved_states_are_accepted};
+use snapshot::{load_into, save_over, saved_len, saved_states_are_accepted};
 use std::alloc::{AllocError, Global};
 
 /// How many checkpoints there is room for, and how many turns apart they are.
@@ -87,7 +87,7 @@ fn save(board: &Board, checkpoint: &mut Checkpoint)
         SpellsState x.setup (reduced s) checkpoint.new.bytes.items }
 {
     checkpoint.turn = Some(board.turns());
-    save_into(board, checkpoint.bytes.as_mut_slice());
+    save_over(board, &mut checkpoint.bytes);
 }
 
 /// Of two checkpoints by their places and turns the later one, where the second is of turn `to` or
