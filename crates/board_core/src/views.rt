@@ -168,6 +168,15 @@ impl Board {
         self.machine.space.kernel.regions(i)
     }
 
+    /// Where a task begins at each birth, as the image has it, so bit 0 counts for nothing; 0 where
+    /// there is no such task.
+    pub fn entry(&self, i: usize) -> u32
+        ensures { (x : Scenario) (s : State) → Stands shown x self.now s →
+            result ≡ (setup_at x.setup i).entry }
+    {
+        self.machine.space.kernel.entry(i)
+    }
+
     /// Region k of a task.
     pub fn region(&self, i: usize, k: usize) -> Option<Region>
         ensures { (x : Scenario) (s : State) → Stands shown x self.now s →

@@ -6,11 +6,12 @@ use Rattle.mem_banks.specs.Memory.{Memory}
 use Rattle.task_table.specs.model.State.{Setup}
 use Rattle.run_cover.specs.declared.counts.Count.{Count}
 use Rattle.run_cover.specs.declared.known.Marks.{Marks}
-use Rattle.run_cover.specs.Known.{is_code, Leads, Known, Executed, Led, IsKnown, HasBegun, HaveBegun, HasLed, HasFollowed}
+use Rattle.run_cover.specs.Known.{is_code, birth_pc, IsEntry, Leads, Known, Executed, Begins, Led, IsKnown, HasBegun, HaveBegun, HaveEntered, HasLed, HasFollowed}
 use Rattle.run_cover.specs.Marked.{known_of, AreMarks, IsDone, IsTaken, IsUnmarked}
 use Rattle.run_cover.specs.Places.{address_of, place_of}
 use Rattle.run_cover.specs.Ways.{ways_at}
 use Rattle.run_cover.proofs.Numbered.{numbered}
+use Rattle.run_cover.proofs.Counting.{some_number}
 use Rattle.run_cover.proofs.Marking.{grows_none, grows_more, same_known}
 
 module _ (g : Setup) (m : Memory) (c : ℕ → Count) where
@@ -18,13 +19,22 @@ module _ (g : Setup) (m : Memory) (c : ℕ → Count) where
   pub record IsOnTheWay (t : Marks) : Type 0 where
     pub sound : (a : ℕ) → known_of t a ≡ true → Known g m c a
     pub begun : (a : ℕ) → 0 < (c a).executed → known_of t a ≡ true
+    pub entered : (a : ℕ) → IsEntry g a → is_code g m a ≡ true → known_of t a ≡ true
     pub closed : (a b : ℕ) → known_of t a ≡ true → Leads m c a b → is_code g m b ≡ true → Contains t.todo.items a ⊎ (known_of t b ≡ true)
 
-  pub begin : (t : Marks) → HaveBegun c t → IsOnTheWay t
-  begin t h = record {
-    sound = λ a is. Executed (h.sound a is);
-    begun = h.all;
-    closed = λ a b is leads code. inl (h.listed a is);
+  -- so it is once all entries of tasks are known
+  pub begin : (t u : Marks) → HaveBegun c t → HaveEntered g m (length g.tasks) t u → IsOnTheWay u
+  begin t u h e = record {
+    sound = λ a is. elim (e.grows.fresh a is) [
+      | inl old ↦ Executed (h.sound a old)
+      | inr new ↦ Begins new.0.0 new.0.1
+    ];
+    begun = λ a more. e.grows.keeps a (h.all a more);
+    entered = λ a is code. subst (λ (b : ℕ). known_of u b ≡ true) is.2 (e.done is.0 is.1 (subst (λ (b : ℕ). is_code g m b ≡ true) (sym is.2) code));
+    closed = λ a b is leads code. elim (e.grows.fresh a is) [
+      | inl old ↦ inl (e.grows.listed a (h.listed a old))
+      | inr new ↦ inl new.1
+    ];
   }
 
   -- the ways of one that was taken from the list are followed
@@ -38,6 +48,7 @@ module _ (g : Setup) (m : Memory) (c : ℕ → Count) where
           | inr new ↦ Led (w.sound a taken.place) new.0.0 new.0.1
         ];
         begun = λ b e. keeps b (w.begun b e);
+        entered = λ b is code. keeps b (w.entered b is code);
         closed = λ b d is leads code. elim (f.grows.fresh b is) [
           | inl old ↦ elim (w.closed b d (sym (before b) ∙ old) leads code) [
             | inl waits ↦ elim (taken.others b waits) [
@@ -59,6 +70,7 @@ module _ (g : Setup) (m : Memory) (c : ℕ → Count) where
     where
       all : (a : ℕ) → Known g m c a → known_of u a ≡ true
       all a (Executed e) = same_known t u a done.known ∙ w.begun a e
+      all a (Begins is code) = same_known t u a done.known ∙ w.entered a is code
       all b (Led {a} known leads code) = elim (w.closed a b (sym (same_known t u a done.known) ∙ all a known) leads code) [
         | inl waits ↦ absurd (nothing_listed t.todo.items a done.todo waits)
         | inr there ↦ same_known t u b done.known ∙ there
@@ -76,6 +88,24 @@ module _ (g : Setup) (m : Memory) (c : ℕ → Count) where
     done = λ b l code. elim l.way [
       | inl behind ↦ second.grows.keeps b (first.done b behind code)
       | inr target ↦ second.done b target code
+    ];
+  }
+
+-- ## the entries of tasks, one by one
+
+below_or_same : (k n : ℕ) → k < n + 1 → (k ≡ n → ⊥) → k < n
+below_or_same k n lt other = omega (arith, lt, other)
+
+module _ (g : Setup) (m : Memory) where
+  pub entered_none : (t : Marks) → HaveEntered g m 0 t t
+  entered_none t = record { grows = grows_none _ t; done = λ i lt code. absurd (omega (arith, lt)) }
+
+  pub entered_more : (n : ℕ) (t u v : Marks) → n < length g.tasks → HaveEntered g m n t u → HasLed g m (Some (birth_pc g n)) u v → HaveEntered g m (n + 1) t v
+  entered_more n t u v inside h one = record {
+    grows = grows_more _ _ _ t u v (λ b p. p) (λ b p. ((n, inside, some_number _ _ p.0), p.1)) h.grows one.grows;
+    done = λ i lt code. elim (cases_eq i n) [
+      | inl same ↦ subst (λ (k : ℕ). known_of v (birth_pc g k) ≡ true) (sym same) (one.done (birth_pc g n) refl (subst (λ (k : ℕ). is_code g m (birth_pc g k) ≡ true) same code))
+      | inr other ↦ one.grows.keeps (birth_pc g i) (h.done i (below_or_same i n lt other) code)
     ];
   }
 
@@ -112,9 +142,6 @@ begun_more c t u n h one = record {
     | inr other ↦ one.grows.keeps (address_of k) (h.all k (below_or_same k n lt other) e)
   ];
 }
-  where
-    below_or_same : (k n : ℕ) → k < n + 1 → (k ≡ n → ⊥) → k < n
-    below_or_same k n lt other = omega (arith, lt, other)
 
 -- where what is no place was not executed
 pub begun_all : (c : ℕ → Count) (t : Marks) → ((a : ℕ) → place_of a ≡ None → (c a).executed ≡ 0) → HaveBegunTo c t 655360 → HaveBegun c t

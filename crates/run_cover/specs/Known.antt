@@ -1,10 +1,12 @@
--- What is known to be code: what was executed, and what the direct ways of known instructions lead to (docs/FORMATS.md, Cover).
-use Rattle.std.specs.Prelude.{◌≡◌, ◌⊎◌, ℕ, ◌+◌, ◌<◌, ◌==◌, ◌&&◌, ◌||◌, not, Bool, true, Contains, Option, Some, is_some, find}
+-- What is known to be code: what was executed, the entries of tasks, and what the direct ways of known instructions lead to
+-- (docs/FORMATS.md, Cover).
+use Rattle.std.specs.Prelude.{◌≡◌, ◌⊎◌, ℕ, ◌+◌, ◌-◌, ◌%◌, ◌<◌, ◌==◌, ◌&&◌, ◌||◌, not, Bool, true, length, Contains, Option, Some, is_some, find}
 use Rattle.region_check.specs.declared.Right.TheVariants.{Execute}
 use Rattle.region_check.specs.Rights.{gives}
 use Rattle.mem_banks.specs.Memory.{Memory}
 use Rattle.thumb_insn.specs.Table.{is_wide}
 use Rattle.task_table.specs.model.State.{Setup}
+use Rattle.task_table.specs.model.Reading.{setup_at}
 use Rattle.board_model.specs.Run.{Run}
 use Rattle.board_run.specs.MemoryText.{regions_of}
 use Rattle.run_cover.specs.declared.counts.Count.{Count}
@@ -33,15 +35,24 @@ is_insn m a = not (half_at m a == 0) && is_some (stands_at m a)
 abbrev pub is_code : Setup → Memory → ℕ → Bool
 is_code g m a = is_place a && (is_insn m a && lies_in_code g m a)
 
+-- where a task begins at each of its births: bit 0 of its entry counts for nothing
+unfoldable pub birth_pc : Setup → ℕ → ℕ
+birth_pc g i = (setup_at g i).entry - (setup_at g i).entry % 2
+
+-- some task begins at an address
+abbrev pub IsEntry : Setup → ℕ → Type 0
+IsEntry g a = (i : ℕ) × (i < length g.tasks) × (birth_pc g i ≡ a)
+
 -- what stands at the first address leads directly to the second: where the counts of instructions are told by a function of the
 -- address, and it did not fault each time
 pub record Leads (m : Memory) (c : ℕ → Count) (a b : ℕ) : Type 0 where
   pub goes : leads_on (c a) ≡ true
   pub way : ((ways_at m a).behind ≡ Some b) ⊎ ((ways_at m a).target ≡ Some b)
 
--- the least set of places that has what was executed, and what known instructions lead to
+-- the least set of places that has what was executed, the entries of tasks, and what known instructions lead to
 pub data Known (g : Setup) (m : Memory) (c : ℕ → Count) : ℕ → Type 0 where
   Executed : {a : ℕ} → 0 < (c a).executed → Known g m c a
+  Begins : {a : ℕ} → IsEntry g a → is_code g m a ≡ true → Known g m c a
   Led : {a b : ℕ} → Known g m c a → Leads m c a b → is_code g m b ≡ true → Known g m c b
 
 -- a test is true just of what is known
@@ -67,6 +78,11 @@ pub record HaveBegun (c : ℕ → Count) (t : Marks) : Type 0 where
   pub sound : (a : ℕ) → known_of t a ≡ true → 0 < (c a).executed
   pub listed : (a : ℕ) → known_of t a ≡ true → Contains t.todo.items a
   pub all : (a : ℕ) → 0 < (c a).executed → known_of t a ≡ true
+
+-- the entries of the first n tasks are known, if an instruction stands there
+pub record HaveEntered (g : Setup) (m : Memory) (n : ℕ) (before now : Marks) : Type 0 where
+  pub grows : Grows before (λ b. IsEntry g b × (is_code g m b ≡ true)) now
+  pub done : (i : ℕ) → i < n → is_code g m (birth_pc g i) ≡ true → known_of now (birth_pc g i) ≡ true
 
 -- the place to which a way leads is known, if an instruction stands there
 pub record HasLed (g : Setup) (m : Memory) (way : Option ℕ) (before now : Marks) : Type 0 where

@@ -70,9 +70,9 @@ pub fn count_run(board: &mut Board, limit: u32, counts: &mut PlaceCounts) -> End
 /// Cover): each region of code, and what is known to be an instruction in it with how often it was
 /// executed, a line each, and before it a line for each of the labels at its address, in their
 /// order. That number is the number of turns in which a task executed it, by
-/// `each_count_is_a_number_of_turns`; what is known is what was executed, and what the direct ways
-/// of known instructions lead to, and nothing else. After a failing push nothing more is pushed;
-/// the run was made whole.
+/// `each_count_is_a_number_of_turns`; what is known is what was executed, the entries of tasks, and
+/// what the direct ways of known instructions lead to, and nothing else. After a failing push
+/// nothing more is pushed; the run was made whole.
 ///
 /// # Errors
 ///

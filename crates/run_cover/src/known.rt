@@ -1,6 +1,6 @@
-//! What is known to be code: what was executed, and what the direct ways of known instructions lead
-//! to.
-ghost use Rattle.std.specs.Prelude.{◌≡◌, ◌≤◌, ◌<◌, ◌+◌, ◌^◌, ◌&&◌, true, false, IfOk};
+//! What is known to be code: what was executed, the entries of tasks, and what the direct ways of
+//! known instructions lead to.
+ghost use Rattle.std.specs.Prelude.{◌≡◌, ◌≤◌, ◌<◌, ◌+◌, ◌^◌, ◌&&◌, true, false, length, IfOk};
 ghost use Rattle.task_table.specs.model.State.{State};
 ghost use Rattle.board_model.specs.Script.{Scenario};
 ghost use Rattle.board_core.specs.Stands.{Stands};
@@ -8,7 +8,7 @@ ghost use Rattle.board_core.specs.Data.{boxed};
 ghost use Rattle.region_check.specs.declared.Right.TheVariants.{Execute};
 ghost use Rattle.region_check.specs.Rights.{gives};
 ghost use Rattle.run_cover.specs.Counted.{count_of};
-ghost use Rattle.run_cover.specs.Known.{HasBegun, HasFollowed, HasLed, HaveBegun, IsKnown, is_code, is_in_code, is_insn, is_whole, lies_in_code};
+ghost use Rattle.run_cover.specs.Known.{HasBegun, HasFollowed, HasLed, HaveBegun, HaveEntered, IsKnown, birth_pc, is_code, is_in_code, is_insn, is_whole, lies_in_code};
 ghost use Rattle.run_cover.specs.Marked.{AreMarks, IsMarked, IsNext, IsUnmarked, known_of, work};
 ghost use Rattle.run_cover.specs.Places.{is_place};
 
@@ -88,6 +88,16 @@ fn is_code(board: &Board, addr: u32) -> bool
         None => false,
         Some(_) => is_insn_in_code(board, addr),
     }
+}
+
+// Where a task begins at each of its births.
+#[tactic(auto, unfolding(crate::specs::Known::birth_pc))]
+fn birth_pc(board: &Board, task: usize) -> u32
+    ensures { (x : Scenario) (s : State) → Stands (boxed shown) x board.now s →
+        result ≡ birth_pc x.setup task }
+{
+    let entry = board.entry(task);
+    entry - entry % 2
 }
 
 /// Which places are known, and those of them whose ways are still to be followed. Each is put there
@@ -172,6 +182,19 @@ impl Marks {
         }
     }
 
+    // The entry of each task is known from now on, if an instruction stands there: whether or not
+    // it ran, the image or the supervisor may start it.
+    fn enter_all(&mut self, board: &Board)
+        requires marks { AreMarks self.old }
+        ensures marks { AreMarks self.new }
+        ensures entered { (x : Scenario) (s : State) → Stands (boxed shown) x board.now s →
+            HaveEntered x.setup s.memory (length x.setup.tasks) self.old self.new }
+    {
+        for task in 0..board.task_count() {
+            self.lead(board, Some(birth_pc(board, task)));
+        }
+    }
+
     // The ways of a known instruction are followed.
     fn follow(&mut self, board: &Board, counts: &PlaceCounts, addr: u32)
         requires marks { AreMarks self.old }
@@ -204,6 +227,7 @@ impl Marks {
             IsKnown x.setup s.memory (count_of counts.now) (known_of self.new) }
     {
         self.begin_all(counts);
+        self.enter_all(board);
         while let Some(addr) = self.next() {
             self.follow(board, counts, addr);
         }

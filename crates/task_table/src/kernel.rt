@@ -222,6 +222,18 @@ impl Kernel {
         }
     }
 
+    /// Where a task begins at each birth, as the image has it, so bit 0 counts for nothing; 0 where
+    /// there is no such task.
+    pub fn entry(&self, task: usize) -> u32
+        ensures { (g : Setup) (t : Turn) → Holds g self.now t →
+            result ≡ (setup_at g task).entry }
+    {
+        match self.tasks.get(task) {
+            Some(start) => start.entry,
+            None => 0,
+        }
+    }
+
     /// The priority number of a task; a lower one goes first.
     pub fn priority(&self, task: usize) -> u8
         requires { task < task_count self.now }

@@ -5,7 +5,7 @@ use Rattle.run_cover.proofs.Knowing.{begin, go_on, arrive}
 use Rattle.run_cover.proofs.known.Marks.find.Goals as goal
 
 pub loop-addr-init : goal.loop-addr-init
-loop-addr-init g c = record { marks = c.begin_all.ensures.marks; known = λ x s st. begin x.setup s.memory (count_of c.args.counts.now) _ c.begin_all.ensures }
+loop-addr-init g c = record { marks = c.enter_all.ensures.marks; known = λ x s st. begin x.setup s.memory (count_of c.args.counts.now) _ _ c.begin_all.ensures (c.enter_all.ensures.entered x s st) }
 
 pub loop-addr-preserved : goal.loop-addr-preserved
 loop-addr-preserved g c = record {
