@@ -1,11 +1,12 @@
 -- What the rows of the table say.
 use Rattle.std.specs.Prelude.{List, [], ◌∷◌, codes, map}
-use Rattle.std.specs.Borrow.{Bor}
 use Rattle.clap.specs.Walk.{Rule, Text}
 use Rattle.clap.specs.Simple.{App, Shape, new_rule, new_shape, with_subcommand}
 use Rattle.command_line.specs.CommandLine.{most_seed, number_rule, option_rule, flag_rule, positional_rule, turn_rule, steps_rule}
-use Rattle.command_line.specs.declared.definition.Argument.{Argument}
-use Rattle.command_line.specs.declared.definition.Argument.TheVariants as argument
+use Rattle.command_line.specs.declared.job.CommandName.{CommandName}
+use Rattle.command_line.specs.declared.commands.Argument.{Argument}
+use Rattle.command_line.specs.declared.commands.Argument.TheVariants as argument
+use Rattle.command_line.specs.declared.commands.CommandRow.{CommandRow}
 
 -- what clap is told of an argument
 abbrev pub rule_of_argument : Argument → Rule
@@ -17,14 +18,18 @@ rule_of_argument argument.Steps = steps_rule
 rule_of_argument (argument.Setting name) = option_rule name.now
 rule_of_argument (argument.Flag name) = flag_rule name.now
 
-abbrev pub shape_with : Text → List Argument → Shape
-shape_with name arguments = record (new_shape name) { rules = map rule_of_argument arguments }
+abbrev pub shape_of_row : CommandRow → Shape
+shape_of_row row = record (new_shape row.name.now) { rules = map rule_of_argument row.arguments.now }
 
 -- a command by itself, as clap's value
-abbrev pub app_with : Text → List Argument → App
-app_with name arguments = record { top = shape_with name arguments; subs = [] }
+abbrev pub app_of_row : CommandRow → App
+app_of_row row = record { top = shape_of_row row; subs = [] }
 
 -- the program with the commands of these rows more
-abbrev pub with_rows : App → List (Bor Text × Bor (List Argument)) → App
+abbrev pub with_rows : App → List CommandRow → App
 with_rows app [] = app
-with_rows app (row ∷ rest) = with_rows (with_subcommand app (shape_with row.0.now row.1.now)) rest
+with_rows app (row ∷ rest) = with_rows (with_subcommand app (shape_of_row row)) rest
+
+-- the commands of the rows, by their names
+abbrev pub commands_of : List CommandRow → List (Text × CommandName)
+commands_of rows = map (λ row. (row.name.now, row.command)) rows
