@@ -1,5 +1,5 @@
 -- Words that are accepted name a command, with all that it wants.
-use Rattle.std.proofs.Common.{◌≡◌, ◌⊎◌, ◌<◌, ◌≤◌, ap, sym, subst, refl, cond, codes, inl, inr, drop, Bool, true, false, ℕ, List, [], ◌∷◌, Option, Some, None, is_some, arith}
+use Rattle.std.proofs.Common.{◌≡◌, ◌<◌, ◌≤◌, ap, sym, subst, refl, cond, codes, drop, Bool, true, false, ℕ, List, [], ◌∷◌, Option, Some, None, is_some, arith}
 use Rattle.std.specs.Prelude.{IfSome, unwrap_or, pos, ◌==◌}
 use Rattle.std.specs.Bool.{⊤}
 use Rattle.std.specs.List.{slice_index_or}
@@ -18,8 +18,10 @@ use Rattle.clap.specs.Faults.{entered_fault, fault_of, level_fault}
 use Rattle.clap.specs.declared.builder.value_parser.ValueParser.{ValueParser}
 use Rattle.clap.specs.declared.builder.value_parser.ValueParser.TheVariants as parser
 use Rattle.clap.proofs.ValueTestLemmas.{accepts-Accepts, Accepts-accepts}
-use Rattle.command_line.specs.CommandLine.{has_none, hubris_app, most_seed, most_steps, number_parser}
+use Rattle.command_line.specs.CommandLine.{form_of, has_none, hubris_app, most_seed, most_steps, number_parser}
 use Rattle.command_line.specs.Required.{HasText, IsNumber, IsSwitch, IsWhole}
+use Rattle.command_line.specs.declared.job.CommandName.{CommandName}
+use Rattle.command_line.specs.declared.job.CommandName.TheVariants as command
 use Rattle.command_line.proofs.Accepting.{none_left}
 use Rattle.command_line.proofs.Rows.{Each, Sure}
 use Rattle.command_line.proofs.Walking.{asks_for_help}
@@ -103,8 +105,8 @@ build_whole : (words : List Text) → entered_fault app (Some (codes "build", wo
 build_whole words e =
     let s = shape_at 0 in
     let rows = rows_after s.rules [] words in
-    let d = leaf s words build_sure refl e in
-    inl (
+    let d = leaf s words build_sure refl e in (
+      command.Build,
       refl,
       record {
         app = text (rule_at s 0) rows (has_given s.rules (rule_at s 0) rows d.good refl (d.given.0 refl));
@@ -119,8 +121,8 @@ run_whole : (words : List Text) → entered_fault app (Some (codes "run", words)
 run_whole words e =
     let s = shape_at 1 in
     let rows = rows_after s.rules [] words in
-    let d = leaf s words run_sure refl e in
-    inr (inl (
+    let d = leaf s words run_sure refl e in (
+      command.Run,
       refl,
       record {
         image = text (rule_at s 0) rows (has_given s.rules (rule_at s 0) rows d.good refl (d.given.0 refl));
@@ -129,7 +131,7 @@ run_whole words e =
         all = switch (rule_at s 3) rows refl (has_default s.rules (rule_at s 3) rows d.good refl (d.filled.1.1.1.0 (omega arith)));
         mem = switch (rule_at s 4) rows refl (has_default s.rules (rule_at s 4) rows d.good refl (d.filled.1.1.1.1.0 (omega arith)));
       },
-    ))
+    )
 
 go_sure : Each (Sure (shape_at 2).rules) (shape_at 2).rules
 go_sure = (record { known = refl; sure = refl }, (record { known = refl; sure = refl }, (record { known = refl; sure = refl }, (record { known = refl; sure = refl }, (record { known = refl; sure = refl }, (record { known = refl; sure = refl }, tt))))))
@@ -138,8 +140,8 @@ go_whole : (words : List Text) → entered_fault app (Some (codes "go", words)) 
 go_whole words e =
     let s = shape_at 2 in
     let rows = rows_after s.rules [] words in
-    let d = leaf s words go_sure refl e in
-    inr (inr (inl (
+    let d = leaf s words go_sure refl e in (
+      command.Go,
       refl,
       record {
         app = text (rule_at s 0) rows (has_given s.rules (rule_at s 0) rows d.good refl (d.given.0 refl));
@@ -148,7 +150,7 @@ go_whole words e =
         all = switch (rule_at s 3) rows refl (has_default s.rules (rule_at s 3) rows d.good refl (d.filled.1.1.1.0 (omega arith)));
         mem = switch (rule_at s 4) rows refl (has_default s.rules (rule_at s 4) rows d.good refl (d.filled.1.1.1.1.0 (omega arith)));
       },
-    )))
+    )
 
 list_sure : Each (Sure (shape_at 3).rules) (shape_at 3).rules
 list_sure = (record { known = refl; sure = refl }, (record { known = refl; sure = refl }, tt))
@@ -158,7 +160,7 @@ list_whole words e =
     let s = shape_at 3 in
     let rows = rows_after s.rules [] words in
     let d = leaf s words list_sure refl e in
-    inr (inr (inr (inl (refl, record { image = text (rule_at s 0) rows (has_given s.rules (rule_at s 0) rows d.good refl (d.given.0 refl)) }))))
+    (command.List, refl, record { image = text (rule_at s 0) rows (has_given s.rules (rule_at s 0) rows d.good refl (d.given.0 refl)) })
 
 sample_sure : Each (Sure (shape_at 4).rules) (shape_at 4).rules
 sample_sure = (record { known = refl; sure = refl }, (record { known = refl; sure = refl }, (record { known = refl; sure = refl }, tt)))
@@ -167,14 +169,14 @@ sample_whole : (words : List Text) → entered_fault app (Some (codes "sample", 
 sample_whole words e =
     let s = shape_at 4 in
     let rows = rows_after s.rules [] words in
-    let d = leaf s words sample_sure refl e in
-    inr (inr (inr (inr (inl (
+    let d = leaf s words sample_sure refl e in (
+      command.Sample,
       refl,
       record {
         seed = number most_seed (rule_at s 0) rows (omega arith) refl (has_given s.rules (rule_at s 0) rows d.good refl (d.given.0 refl));
         steps = number most_steps (rule_at s 1) rows (omega arith) refl (has_given s.rules (rule_at s 1) rows d.good refl (d.given.1.0 refl));
       },
-    )))))
+    )
 
 migrate_sure : Each (Sure (shape_at 5).rules) (shape_at 5).rules
 migrate_sure = (record { known = refl; sure = refl }, (record { known = refl; sure = refl }, (record { known = refl; sure = refl }, tt)))
@@ -183,14 +185,14 @@ migrate_whole : (words : List Text) → entered_fault app (Some (codes "migrate"
 migrate_whole words e =
     let s = shape_at 5 in
     let rows = rows_after s.rules [] words in
-    let d = leaf s words migrate_sure refl e in
-    inr (inr (inr (inr (inr (inl (
+    let d = leaf s words migrate_sure refl e in (
+      command.Migrate,
       refl,
       record {
         image = text (rule_at s 0) rows (has_given s.rules (rule_at s 0) rows d.good refl (d.given.0 refl));
         out = text (rule_at s 1) rows (has_given s.rules (rule_at s 1) rows d.good refl (d.given.1.0 refl));
       },
-    ))))))
+    )
 
 audit_sure : Each (Sure (shape_at 6).rules) (shape_at 6).rules
 audit_sure = (record { known = refl; sure = refl }, (record { known = refl; sure = refl }, tt))
@@ -200,7 +202,7 @@ audit_whole words e =
     let s = shape_at 6 in
     let rows = rows_after s.rules [] words in
     let d = leaf s words audit_sure refl e in
-    inr (inr (inr (inr (inr (inr (inl (refl, record { trace = text (rule_at s 0) rows (has_given s.rules (rule_at s 0) rows d.good refl (d.given.0 refl)) })))))))
+    (command.Audit, refl, record { trace = text (rule_at s 0) rows (has_given s.rules (rule_at s 0) rows d.good refl (d.given.0 refl)) })
 
 save_sure : Each (Sure (shape_at 7).rules) (shape_at 7).rules
 save_sure = (record { known = refl; sure = refl }, (record { known = refl; sure = refl }, (record { known = refl; sure = refl }, (record { known = refl; sure = refl }, (record { known = refl; sure = refl }, tt)))))
@@ -209,8 +211,8 @@ save_whole : (words : List Text) → entered_fault app (Some (codes "save", word
 save_whole words e =
     let s = shape_at 7 in
     let rows = rows_after s.rules [] words in
-    let d = leaf s words save_sure refl e in
-    inr (inr (inr (inr (inr (inr (inr (inl (
+    let d = leaf s words save_sure refl e in (
+      command.Save,
       refl,
       record {
         image = text (rule_at s 0) rows (has_given s.rules (rule_at s 0) rows d.good refl (d.given.0 refl));
@@ -218,7 +220,7 @@ save_whole words e =
         out = text (rule_at s 2) rows (has_given s.rules (rule_at s 2) rows d.good refl (d.given.1.1.0 refl));
         steps = number most_steps (rule_at s 3) rows (omega arith) refl (has_given s.rules (rule_at s 3) rows d.good refl (d.given.1.1.1.0 refl));
       },
-    ))))))))
+    )
 
 resume_sure : Each (Sure (shape_at 8).rules) (shape_at 8).rules
 resume_sure = (record { known = refl; sure = refl }, (record { known = refl; sure = refl }, (record { known = refl; sure = refl }, (record { known = refl; sure = refl }, (record { known = refl; sure = refl }, (record { known = refl; sure = refl }, (record { known = refl; sure = refl }, tt)))))))
@@ -227,8 +229,8 @@ resume_whole : (words : List Text) → entered_fault app (Some (codes "resume", 
 resume_whole words e =
     let s = shape_at 8 in
     let rows = rows_after s.rules [] words in
-    let d = leaf s words resume_sure refl e in
-    inr (inr (inr (inr (inr (inr (inr (inr (inl (
+    let d = leaf s words resume_sure refl e in (
+      command.Resume,
       refl,
       record {
         image = text (rule_at s 0) rows (has_given s.rules (rule_at s 0) rows d.good refl (d.given.0 refl));
@@ -238,7 +240,7 @@ resume_whole words e =
         all = switch (rule_at s 4) rows refl (has_default s.rules (rule_at s 4) rows d.good refl (d.filled.1.1.1.1.0 (omega arith)));
         mem = switch (rule_at s 5) rows refl (has_default s.rules (rule_at s 5) rows d.good refl (d.filled.1.1.1.1.1.0 (omega arith)));
       },
-    )))))))))
+    )
 
 debug_sure : Each (Sure (shape_at 9).rules) (shape_at 9).rules
 debug_sure = (record { known = refl; sure = refl }, (record { known = refl; sure = refl }, (record { known = refl; sure = refl }, (record { known = refl; sure = refl }, tt))))
@@ -247,15 +249,15 @@ debug_whole : (words : List Text) → entered_fault app (Some (codes "debug", wo
 debug_whole words e =
     let s = shape_at 9 in
     let rows = rows_after s.rules [] words in
-    let d = leaf s words debug_sure refl e in
-    inr (inr (inr (inr (inr (inr (inr (inr (inr (inl (
+    let d = leaf s words debug_sure refl e in (
+      command.Debug,
       refl,
       record {
         image = text (rule_at s 0) rows (has_given s.rules (rule_at s 0) rows d.good refl (d.given.0 refl));
         script = text (rule_at s 1) rows (has_given s.rules (rule_at s 1) rows d.good refl (d.given.1.0 refl));
         commands = text (rule_at s 2) rows (has_given s.rules (rule_at s 2) rows d.good refl (d.given.1.1.0 refl));
       },
-    ))))))))))
+    )
 
 cover_sure : Each (Sure (shape_at 10).rules) (shape_at 10).rules
 cover_sure = (record { known = refl; sure = refl }, (record { known = refl; sure = refl }, (record { known = refl; sure = refl }, (record { known = refl; sure = refl }, (record { known = refl; sure = refl }, tt)))))
@@ -264,8 +266,8 @@ cover_whole : (words : List Text) → entered_fault app (Some (codes "cover", wo
 cover_whole words e =
     let s = shape_at 10 in
     let rows = rows_after s.rules [] words in
-    let d = leaf s words cover_sure refl e in
-    inr (inr (inr (inr (inr (inr (inr (inr (inr (inr (inl (
+    let d = leaf s words cover_sure refl e in (
+      command.Cover,
       refl,
       record {
         image = text (rule_at s 0) rows (has_given s.rules (rule_at s 0) rows d.good refl (d.given.0 refl));
@@ -273,7 +275,7 @@ cover_whole words e =
         steps = number most_steps (rule_at s 2) rows (omega arith) refl (has_given s.rules (rule_at s 2) rows d.good refl (d.given.1.1.0 refl));
         labels = switch (rule_at s 3) rows refl (has_default s.rules (rule_at s 3) rows d.good refl (d.filled.1.1.1.0 (omega arith)));
       },
-    )))))))))))
+    )
 
 sweep_sure : Each (Sure (shape_at 11).rules) (shape_at 11).rules
 sweep_sure = (record { known = refl; sure = refl }, (record { known = refl; sure = refl }, (record { known = refl; sure = refl }, (record { known = refl; sure = refl }, (record { known = refl; sure = refl }, (record { known = refl; sure = refl }, (record { known = refl; sure = refl }, (record { known = refl; sure = refl }, tt))))))))
@@ -282,8 +284,8 @@ sweep_whole : (words : List Text) → entered_fault app (Some (codes "sweep", wo
 sweep_whole words e =
     let s = shape_at 11 in
     let rows = rows_after s.rules [] words in
-    let d = leaf s words sweep_sure refl e in
-    inr (inr (inr (inr (inr (inr (inr (inr (inr (inr (inr (inl (
+    let d = leaf s words sweep_sure refl e in (
+      command.Sweep,
       refl,
       record {
         image = text (rule_at s 0) rows (has_given s.rules (rule_at s 0) rows d.good refl (d.given.0 refl));
@@ -296,7 +298,7 @@ sweep_whole words e =
         };
         mem = switch (rule_at s 6) rows refl (has_default s.rules (rule_at s 6) rows d.good refl (d.filled.1.1.1.1.1.1.0 (omega arith)));
       },
-    ))))))))))))
+    )
 
 timeline_sure : Each (Sure (shape_at 12).rules) (shape_at 12).rules
 timeline_sure = (record { known = refl; sure = refl }, (record { known = refl; sure = refl }, (record { known = refl; sure = refl }, (record { known = refl; sure = refl }, (record { known = refl; sure = refl }, tt)))))
@@ -305,15 +307,15 @@ timeline_whole : (words : List Text) → entered_fault app (Some (codes "timelin
 timeline_whole words e =
     let s = shape_at 12 in
     let rows = rows_after s.rules [] words in
-    let d = leaf s words timeline_sure refl e in
-    inr (inr (inr (inr (inr (inr (inr (inr (inr (inr (inr (inr (inl (
+    let d = leaf s words timeline_sure refl e in (
+      command.Timeline,
       refl,
       record {
         image = text (rule_at s 0) rows (has_given s.rules (rule_at s 0) rows d.good refl (d.given.0 refl));
         script = text (rule_at s 1) rows (has_given s.rules (rule_at s 1) rows d.good refl (d.given.1.0 refl));
         steps = number most_steps (rule_at s 2) rows (omega arith) refl (has_given s.rules (rule_at s 2) rows d.good refl (d.given.1.1.0 refl));
       },
-    )))))))))))))
+    )
 
 live_sure : Each (Sure (shape_at 13).rules) (shape_at 13).rules
 live_sure = (record { known = refl; sure = refl }, (record { known = refl; sure = refl }, (record { known = refl; sure = refl }, (record { known = refl; sure = refl }, tt))))
@@ -322,15 +324,15 @@ live_whole : (words : List Text) → entered_fault app (Some (codes "live", word
 live_whole words e =
     let s = shape_at 13 in
     let rows = rows_after s.rules [] words in
-    let d = leaf s words live_sure refl e in
-    inr (inr (inr (inr (inr (inr (inr (inr (inr (inr (inr (inr (inr (inl (
+    let d = leaf s words live_sure refl e in (
+      command.Live,
       refl,
       record {
         image = text (rule_at s 0) rows (has_given s.rules (rule_at s 0) rows d.good refl (d.given.0 refl));
         script = text (rule_at s 1) rows (has_given s.rules (rule_at s 1) rows d.good refl (d.given.1.0 refl));
         commands = text (rule_at s 2) rows (has_given s.rules (rule_at s 2) rows d.good refl (d.given.1.1.0 refl));
       },
-    ))))))))))))))
+    )
 
 picture_sure : Each (Sure (shape_at 14).rules) (shape_at 14).rules
 picture_sure = (record { known = refl; sure = refl }, (record { known = refl; sure = refl }, (record { known = refl; sure = refl }, (record { known = refl; sure = refl }, (record { known = refl; sure = refl }, (record { known = refl; sure = refl }, tt))))))
@@ -339,8 +341,8 @@ picture_whole : (words : List Text) → entered_fault app (Some (codes "picture"
 picture_whole words e =
     let s = shape_at 14 in
     let rows = rows_after s.rules [] words in
-    let d = leaf s words picture_sure refl e in
-    inr (inr (inr (inr (inr (inr (inr (inr (inr (inr (inr (inr (inr (inr (inl (
+    let d = leaf s words picture_sure refl e in (
+      command.Picture,
       refl,
       record {
         image = text (rule_at s 0) rows (has_given s.rules (rule_at s 0) rows d.good refl (d.given.0 refl));
@@ -348,7 +350,7 @@ picture_whole words e =
         out = text (rule_at s 2) rows (has_given s.rules (rule_at s 2) rows d.good refl (d.given.1.1.0 refl));
         steps = number most_steps (rule_at s 3) rows (omega arith) refl (has_given s.rules (rule_at s 3) rows d.good refl (d.given.1.1.1.0 refl));
       },
-    )))))))))))))))
+    )
 
 lcov_sure : Each (Sure (shape_at 15).rules) (shape_at 15).rules
 lcov_sure = (record { known = refl; sure = refl }, (record { known = refl; sure = refl }, (record { known = refl; sure = refl }, (record { known = refl; sure = refl }, (record { known = refl; sure = refl }, tt)))))
@@ -357,8 +359,8 @@ lcov_whole : (words : List Text) → entered_fault app (Some (codes "lcov", word
 lcov_whole words e =
     let s = shape_at 15 in
     let rows = rows_after s.rules [] words in
-    let d = leaf s words lcov_sure refl e in
-    inr (inr (inr (inr (inr (inr (inr (inr (inr (inr (inr (inr (inr (inr (inr (inl (
+    let d = leaf s words lcov_sure refl e in (
+      command.Lcov,
       refl,
       record {
         app = text (rule_at s 0) rows (has_given s.rules (rule_at s 0) rows d.good refl (d.given.0 refl));
@@ -366,47 +368,50 @@ lcov_whole words e =
         out = text (rule_at s 2) rows (has_given s.rules (rule_at s 2) rows d.good refl (d.given.1.1.0 refl));
         steps = number most_steps (rule_at s 3) rows (omega arith) refl (has_given s.rules (rule_at s 3) rows d.good refl (d.given.1.1.1.0 refl));
       },
-    ))))))))))))))))
+    )
 
 -- `help` wants nothing
 help_whole : (words : List Text) → entered_fault app (Some (codes "help", words)) ≡ [] → IsWhole (entered app (Some (codes "help", words)))
-help_whole words e = inr (inr (inr (inr (inr (inr (inr (inr (inr (inr (inr (inr (inr (inr (inr (inr refl)))))))))))))))
+help_whole words e = (command.Help, refl, tt)
+
+command_whole : (c : CommandName) (words : List Text) → entered_fault app (Some ((form_of c).name, words)) ≡ [] → IsWhole (entered app (Some ((form_of c).name, words)))
+command_whole command.Build words e = build_whole words e
+command_whole command.Run words e = run_whole words e
+command_whole command.Go words e = go_whole words e
+command_whole command.List words e = list_whole words e
+command_whole command.Sample words e = sample_whole words e
+command_whole command.Migrate words e = migrate_whole words e
+command_whole command.Audit words e = audit_whole words e
+command_whole command.Save words e = save_whole words e
+command_whole command.Resume words e = resume_whole words e
+command_whole command.Debug words e = debug_whole words e
+command_whole command.Cover words e = cover_whole words e
+command_whole command.Sweep words e = sweep_whole words e
+command_whole command.Timeline words e = timeline_whole words e
+command_whole command.Live words e = live_whole words e
+command_whole command.Picture words e = picture_whole words e
+command_whole command.Lcov words e = lcov_whole words e
+command_whole command.Help words e = help_whole words e
 
 -- ---- the program
 
 -- the name of one of its commands
 abbrev IsCommand : Text → Type 0
-IsCommand name = (name ≡ codes "build") ⊎ ((name ≡ codes "run") ⊎ ((name ≡ codes "go") ⊎ ((name ≡ codes "list") ⊎ ((name ≡ codes "sample") ⊎ ((name ≡ codes "migrate") ⊎ ((name ≡ codes "audit") ⊎ ((name ≡ codes "save") ⊎ ((name ≡ codes "resume") ⊎ ((name ≡ codes "debug") ⊎ ((name ≡ codes "cover") ⊎ ((name ≡ codes "sweep") ⊎ ((name ≡ codes "timeline") ⊎ ((name ≡ codes "live") ⊎ ((name ≡ codes "picture") ⊎ ((name ≡ codes "lcov") ⊎ (name ≡ codes "help"))))))))))))))))
+IsCommand name = (c : CommandName) × (name ≡ (form_of c).name)
 
 top_sure : Each (Sure app.top.rules) app.top.rules
 top_sure = (record { known = refl; sure = refl }, tt)
 
 own : Each (λ n. asks_for_help app.top n.0 ≡ false → IsCommand n.0) (names_of app)
-own = ((λ _. inl refl), ((λ _. inr (inl refl)), ((λ _. inr (inr (inl refl))), ((λ _. inr (inr (inr (inl refl)))), ((λ _. inr (inr (inr (inr (inl refl))))), ((λ _. inr (inr (inr (inr (inr (inl refl)))))), ((λ _. inr (inr (inr (inr (inr (inr (inl refl))))))), ((λ _. inr (inr (inr (inr (inr (inr (inr (inl refl)))))))), ((λ _. inr (inr (inr (inr (inr (inr (inr (inr (inl refl))))))))), ((λ _. inr (inr (inr (inr (inr (inr (inr (inr (inr (inl refl)))))))))), ((λ _. inr (inr (inr (inr (inr (inr (inr (inr (inr (inr (inl refl))))))))))), ((λ _. inr (inr (inr (inr (inr (inr (inr (inr (inr (inr (inr (inl refl)))))))))))), ((λ _. inr (inr (inr (inr (inr (inr (inr (inr (inr (inr (inr (inr (inl refl))))))))))))), ((λ _. inr (inr (inr (inr (inr (inr (inr (inr (inr (inr (inr (inr (inr (inl refl)))))))))))))), ((λ _. inr (inr (inr (inr (inr (inr (inr (inr (inr (inr (inr (inr (inr (inr (inl refl))))))))))))))), ((λ _. inr (inr (inr (inr (inr (inr (inr (inr (inr (inr (inr (inr (inr (inr (inr (inl refl)))))))))))))))), ((λ _. inr (inr (inr (inr (inr (inr (inr (inr (inr (inr (inr (inr (inr (inr (inr (inr refl)))))))))))))))), tt)))))))))))))))))
+own = ((λ _. (command.Build, refl)), ((λ _. (command.Run, refl)), ((λ _. (command.Go, refl)), ((λ _. (command.List, refl)), ((λ _. (command.Sample, refl)), ((λ _. (command.Migrate, refl)), ((λ _. (command.Audit, refl)), ((λ _. (command.Save, refl)), ((λ _. (command.Resume, refl)), ((λ _. (command.Debug, refl)), ((λ _. (command.Cover, refl)), ((λ _. (command.Sweep, refl)), ((λ _. (command.Timeline, refl)), ((λ _. (command.Live, refl)), ((λ _. (command.Picture, refl)), ((λ _. (command.Lcov, refl)), ((λ _. (command.Help, refl)), tt)))))))))))))))))
 
-command_whole : (name : Text) (words : List Text) → IsCommand name → entered_fault app (Some (name, words)) ≡ [] → IsWhole (entered app (Some (name, words)))
-command_whole name words (inl is) = subst (λ n. entered_fault app (Some (n, words)) ≡ [] → IsWhole (entered app (Some (n, words)))) (sym is) (build_whole words)
-command_whole name words (inr (inl is)) = subst (λ n. entered_fault app (Some (n, words)) ≡ [] → IsWhole (entered app (Some (n, words)))) (sym is) (run_whole words)
-command_whole name words (inr (inr (inl is))) = subst (λ n. entered_fault app (Some (n, words)) ≡ [] → IsWhole (entered app (Some (n, words)))) (sym is) (go_whole words)
-command_whole name words (inr (inr (inr (inl is)))) = subst (λ n. entered_fault app (Some (n, words)) ≡ [] → IsWhole (entered app (Some (n, words)))) (sym is) (list_whole words)
-command_whole name words (inr (inr (inr (inr (inl is))))) = subst (λ n. entered_fault app (Some (n, words)) ≡ [] → IsWhole (entered app (Some (n, words)))) (sym is) (sample_whole words)
-command_whole name words (inr (inr (inr (inr (inr (inl is)))))) = subst (λ n. entered_fault app (Some (n, words)) ≡ [] → IsWhole (entered app (Some (n, words)))) (sym is) (migrate_whole words)
-command_whole name words (inr (inr (inr (inr (inr (inr (inl is))))))) = subst (λ n. entered_fault app (Some (n, words)) ≡ [] → IsWhole (entered app (Some (n, words)))) (sym is) (audit_whole words)
-command_whole name words (inr (inr (inr (inr (inr (inr (inr (inl is)))))))) = subst (λ n. entered_fault app (Some (n, words)) ≡ [] → IsWhole (entered app (Some (n, words)))) (sym is) (save_whole words)
-command_whole name words (inr (inr (inr (inr (inr (inr (inr (inr (inl is))))))))) = subst (λ n. entered_fault app (Some (n, words)) ≡ [] → IsWhole (entered app (Some (n, words)))) (sym is) (resume_whole words)
-command_whole name words (inr (inr (inr (inr (inr (inr (inr (inr (inr (inl is)))))))))) = subst (λ n. entered_fault app (Some (n, words)) ≡ [] → IsWhole (entered app (Some (n, words)))) (sym is) (debug_whole words)
-command_whole name words (inr (inr (inr (inr (inr (inr (inr (inr (inr (inr (inl is))))))))))) = subst (λ n. entered_fault app (Some (n, words)) ≡ [] → IsWhole (entered app (Some (n, words)))) (sym is) (cover_whole words)
-command_whole name words (inr (inr (inr (inr (inr (inr (inr (inr (inr (inr (inr (inl is)))))))))))) = subst (λ n. entered_fault app (Some (n, words)) ≡ [] → IsWhole (entered app (Some (n, words)))) (sym is) (sweep_whole words)
-command_whole name words (inr (inr (inr (inr (inr (inr (inr (inr (inr (inr (inr (inr (inl is))))))))))))) = subst (λ n. entered_fault app (Some (n, words)) ≡ [] → IsWhole (entered app (Some (n, words)))) (sym is) (timeline_whole words)
-command_whole name words (inr (inr (inr (inr (inr (inr (inr (inr (inr (inr (inr (inr (inr (inl is)))))))))))))) = subst (λ n. entered_fault app (Some (n, words)) ≡ [] → IsWhole (entered app (Some (n, words)))) (sym is) (live_whole words)
-command_whole name words (inr (inr (inr (inr (inr (inr (inr (inr (inr (inr (inr (inr (inr (inr (inl is))))))))))))))) = subst (λ n. entered_fault app (Some (n, words)) ≡ [] → IsWhole (entered app (Some (n, words)))) (sym is) (picture_whole words)
-command_whole name words (inr (inr (inr (inr (inr (inr (inr (inr (inr (inr (inr (inr (inr (inr (inr (inl is)))))))))))))))) = subst (λ n. entered_fault app (Some (n, words)) ≡ [] → IsWhole (entered app (Some (n, words)))) (sym is) (lcov_whole words)
-command_whole name words (inr (inr (inr (inr (inr (inr (inr (inr (inr (inr (inr (inr (inr (inr (inr (inr is)))))))))))))))) = subst (λ n. entered_fault app (Some (n, words)) ≡ [] → IsWhole (entered app (Some (n, words)))) (sym is) (help_whole words)
+named_whole : (name : Text) (words : List Text) → IsCommand name → entered_fault app (Some (name, words)) ≡ [] → IsWhole (entered app (Some (name, words)))
+named_whole name words (c, is) = subst (λ n. entered_fault app (Some (n, words)) ≡ [] → IsWhole (entered app (Some (n, words)))) (sym is) (command_whole c words)
 
 stopped : (stop : Option (Text × List Text)) → IfSome stop (λ p. IsCommand p.0) → entered_fault app stop ≡ [] → is_some (entered app stop) ≡ true
     → IsWhole (entered app stop)
 stopped None is e some = cc
-stopped (Some p) is e some = command_whole p.0 p.1 is e
+stopped (Some p) is e some = named_whole p.0 p.1 is e
 
 -- where no step of clap's reading refuses the words
 pub whole : (words : List Text) → has_none (fault_of hubris_app words) ≡ true → IsWhole (subcommand_of hubris_app words)

@@ -256,9 +256,13 @@ commands = (codes "build", command.Build) ∷ (codes "run", command.Run) ∷ (co
     ∷ (codes "resume", command.Resume) ∷ (codes "debug", command.Debug) ∷ (codes "cover", command.Cover) ∷ (codes "sweep", command.Sweep) ∷ (codes "timeline", command.Timeline)
     ∷ (codes "live", command.Live) ∷ (codes "picture", command.Picture) ∷ (codes "lcov", command.Lcov) ∷ (codes "help", command.Help) ∷ []
 
+-- the one of these commands that a word names
+abbrev pub named_in : List (Text × CommandName) → Text → Option CommandName
+named_in known word = option_map (λ c. c.1) (find (λ c. bytes_eq word c.0) known)
+
 -- the command that a word names
 abbrev pub command_by : Text → Option CommandName
-command_by word = option_map (λ c. c.1) (find (λ c. bytes_eq word c.0) commands)
+command_by word = named_in commands word
 
 -- what `help` with this word behind it, or with none, asks for: nothing where the word names no command
 abbrev pub help_on : Option Text → Option Asked
@@ -272,6 +276,26 @@ help_form = record {
   rules = new_rule (codes "command") ∷ [];
   asks = λ rows. help_on (first_of (codes "command") rows);
 }
+
+-- the form of a command
+abbrev pub form_of : CommandName → Form
+form_of command.Build = build_form
+form_of command.Run = run_form
+form_of command.Go = go_form
+form_of command.List = list_form
+form_of command.Sample = sample_form
+form_of command.Migrate = migrate_form
+form_of command.Audit = audit_form
+form_of command.Save = save_form
+form_of command.Resume = resume_form
+form_of command.Debug = debug_form
+form_of command.Cover = cover_form
+form_of command.Sweep = sweep_form
+form_of command.Timeline = timeline_form
+form_of command.Live = live_form
+form_of command.Picture = picture_form
+form_of command.Lcov = lcov_form
+form_of command.Help = help_form
 
 abbrev pub forms : List Form
 forms = build_form ∷ run_form ∷ go_form ∷ list_form ∷ sample_form ∷ migrate_form ∷ audit_form ∷ save_form ∷ resume_form ∷ debug_form ∷ cover_form ∷ sweep_form ∷ timeline_form ∷ live_form ∷ picture_form ∷ lcov_form ∷ help_form ∷ []

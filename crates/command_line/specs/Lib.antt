@@ -1,4 +1,4 @@
-pub mod Adding
 pub mod Asking
 pub mod CommandLine
 pub mod Required
+pub mod Table

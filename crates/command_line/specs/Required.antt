@@ -1,9 +1,12 @@
 -- What words that are accepted hold: a command, and each value that it asks for.
-use Rattle.std.specs.Prelude.{◌≡◌, ◌⊎◌, ℕ, Bool, true, false, List, Option, Some, None, codes, is_some}
+use Rattle.std.specs.Prelude.{◌≡◌, ℕ, Bool, true, false, List, Option, Some, None, codes, is_some}
+use Rattle.std.specs.Bool.{⊤}
 use Rattle.clap.specs.Walk.{Row, Text, first_of, one_of}
 use Rattle.clap.specs.ValueTests.{accepts}
 use Rattle.clap.specs.declared.builder.value_parser.ValueParser.TheVariants as parser
-use Rattle.command_line.specs.CommandLine.{most_seed, most_steps}
+use Rattle.command_line.specs.CommandLine.{form_of, most_seed, most_steps}
+use Rattle.command_line.specs.declared.job.CommandName.{CommandName}
+use Rattle.command_line.specs.declared.job.CommandName.TheVariants as command
 
 -- the words gave a text for the id
 abbrev pub HasText : Text → List Row → Type 0
@@ -119,23 +122,27 @@ pub record IsWholeSweep (rows : List Row) : Type 0 where
   pub turns : AreTurns rows
   pub mem : IsSwitch (first_of (codes "mem") rows)
 
+-- the rows have all that a command wants
+abbrev pub HoldsAll : CommandName → List Row → Type 0
+HoldsAll command.Build rows = IsWholeBuild rows
+HoldsAll command.Run rows = IsWholeRun rows
+HoldsAll command.Go rows = IsWholeGo rows
+HoldsAll command.List rows = IsWholeList rows
+HoldsAll command.Sample rows = IsWholeSample rows
+HoldsAll command.Migrate rows = IsWholeMigrate rows
+HoldsAll command.Audit rows = IsWholeAudit rows
+HoldsAll command.Save rows = IsWholePut rows
+HoldsAll command.Resume rows = IsWholeResume rows
+HoldsAll command.Debug rows = IsWholeSession rows
+HoldsAll command.Cover rows = IsWholeCover rows
+HoldsAll command.Sweep rows = IsWholeSweep rows
+HoldsAll command.Timeline rows = IsWholePlay rows
+HoldsAll command.Live rows = IsWholeSession rows
+HoldsAll command.Picture rows = IsWholePut rows
+HoldsAll command.Lcov rows = IsWholeLcov rows
+HoldsAll command.Help rows = ⊤
+
 -- a command of the program, with all that it wants
 abbrev pub IsWhole : Option (Text × List Row) → Type 0
 IsWhole None = ⊥
-IsWhole (Some p) = ((p.0 ≡ codes "build") × IsWholeBuild p.1)
-    ⊎ (((p.0 ≡ codes "run") × IsWholeRun p.1)
-    ⊎ (((p.0 ≡ codes "go") × IsWholeGo p.1)
-    ⊎ (((p.0 ≡ codes "list") × IsWholeList p.1)
-    ⊎ (((p.0 ≡ codes "sample") × IsWholeSample p.1)
-    ⊎ (((p.0 ≡ codes "migrate") × IsWholeMigrate p.1)
-    ⊎ (((p.0 ≡ codes "audit") × IsWholeAudit p.1)
-    ⊎ (((p.0 ≡ codes "save") × IsWholePut p.1)
-    ⊎ (((p.0 ≡ codes "resume") × IsWholeResume p.1)
-    ⊎ (((p.0 ≡ codes "debug") × IsWholeSession p.1)
-    ⊎ (((p.0 ≡ codes "cover") × IsWholeCover p.1)
-    ⊎ (((p.0 ≡ codes "sweep") × IsWholeSweep p.1)
-    ⊎ (((p.0 ≡ codes "timeline") × IsWholePlay p.1)
-    ⊎ (((p.0 ≡ codes "live") × IsWholeSession p.1)
-    ⊎ (((p.0 ≡ codes "picture") × IsWholePut p.1)
-    ⊎ (((p.0 ≡ codes "lcov") × IsWholeLcov p.1)
-    ⊎ (p.0 ≡ codes "help"))))))))))))))))
+IsWhole (Some p) = (c : CommandName) × (p.0 ≡ (form_of c).name) × HoldsAll c p.1

@@ -2,10 +2,11 @@
 ghost use Rattle.std.specs.Prelude.{◌≡◌, ◌≤◌, ◌<◌, ◌^◌, ℕ, Some, IfSome, option_map, codes};
 ghost use Rattle.clap.specs.Words.{rows_of, found_of, one_of};
 ghost use Rattle.clap.specs.Walk.{first_of};
-ghost use Rattle.command_line.specs.CommandLine.{asked_by, build_form, run_form, go_form, list_form, sample_form, migrate_form, audit_form, save_form, resume_form, debug_form, cover_form, sweep_form, timeline_form, live_form, picture_form, lcov_form, help_form, command_by, text_in, is_set, detail_in, number_in, most_steps};
-ghost use Rattle.command_line.specs.Required.{IsNumber, HasSeed, HasSteps, HasTurns, AreTurns, IsWhole};
+ghost use Rattle.command_line.specs.CommandLine.{asked_by, build_form, run_form, go_form, list_form, sample_form, migrate_form, audit_form, save_form, resume_form, debug_form, cover_form, sweep_form, timeline_form, live_form, picture_form, lcov_form, help_form, form_of, text_in, is_set, detail_in, number_in, most_steps};
+ghost use Rattle.command_line.specs.Required.{IsNumber, HasSeed, HasSteps, HasTurns, AreTurns, HoldsAll, IsWhole};
 ghost use Rattle.command_line.specs.Asking.{asked, steps_of};
 
+use crate::commands::command_named;
 use clap::ArgMatches;
 
 /// What is told of a run besides calls, events and faults: each instruction and the registers after
@@ -421,49 +422,6 @@ fn lcov_by<'a>(matches: &ArgMatches<'a>) -> Job<'a>
     }
 }
 
-/// The command that a word names, if it names one.
-fn command_named(word: &str) -> Option<CommandName>
-    ensures { result ≡ command_by word.now }
-{
-    if word == "build" {
-        Some(CommandName::Build)
-    } else if word == "run" {
-        Some(CommandName::Run)
-    } else if word == "go" {
-        Some(CommandName::Go)
-    } else if word == "list" {
-        Some(CommandName::List)
-    } else if word == "sample" {
-        Some(CommandName::Sample)
-    } else if word == "migrate" {
-        Some(CommandName::Migrate)
-    } else if word == "audit" {
-        Some(CommandName::Audit)
-    } else if word == "save" {
-        Some(CommandName::Save)
-    } else if word == "resume" {
-        Some(CommandName::Resume)
-    } else if word == "debug" {
-        Some(CommandName::Debug)
-    } else if word == "cover" {
-        Some(CommandName::Cover)
-    } else if word == "sweep" {
-        Some(CommandName::Sweep)
-    } else if word == "timeline" {
-        Some(CommandName::Timeline)
-    } else if word == "live" {
-        Some(CommandName::Live)
-    } else if word == "picture" {
-        Some(CommandName::Picture)
-    } else if word == "lcov" {
-        Some(CommandName::Lcov)
-    } else if word == "help" {
-        Some(CommandName::Help)
-    } else {
-        None
-    }
-}
-
 fn help_by<'a>(matches: &ArgMatches<'a>) -> Option<Job<'a>>
     ensures job { option_map asked result ≡ help_form.asks (rows_of (found_of matches.now)) }
     ensures few { IfSome result (λ j. steps_of j ≡ 0) }
@@ -477,6 +435,34 @@ fn help_by<'a>(matches: &ArgMatches<'a>) -> Option<Job<'a>>
     }
 }
 
+// The job that a command asks for by its matches, if it asks for one.
+fn job_of_command<'a>(command: CommandName, matches: &ArgMatches<'a>) -> Option<Job<'a>>
+    ensures job { HoldsAll command (rows_of (found_of matches.now)) →
+        (form_of command).asks (rows_of (found_of matches.now)) ≡ option_map asked result }
+    ensures few { HoldsAll command (rows_of (found_of matches.now)) →
+        IfSome result (λ j. steps_of j ≤ most_steps) }
+{
+    match command {
+        CommandName::Build => Some(build_by(matches)),
+        CommandName::Run => Some(run_by(matches)),
+        CommandName::Go => Some(go_by(matches)),
+        CommandName::List => Some(list_by(matches)),
+        CommandName::Sample => Some(sample_by(matches)),
+        CommandName::Migrate => Some(migrate_by(matches)),
+        CommandName::Audit => Some(audit_by(matches)),
+        CommandName::Save => Some(save_by(matches)),
+        CommandName::Resume => Some(resume_by(matches)),
+        CommandName::Debug => Some(debug_by(matches)),
+        CommandName::Cover => Some(cover_by(matches)),
+        CommandName::Sweep => Some(sweep_by(matches)),
+        CommandName::Timeline => Some(timeline_by(matches)),
+        CommandName::Live => Some(live_by(matches)),
+        CommandName::Picture => Some(picture_by(matches)),
+        CommandName::Lcov => Some(lcov_by(matches)),
+        CommandName::Help => help_by(matches),
+    }
+}
+
 /// The job that a command's name and matches ask for, if they ask for one.
 pub fn job_by<'a>(name: &str, matches: &ArgMatches<'a>) -> Option<Job<'a>>
     ensures job { IsWhole (Some (name.now, rows_of (found_of matches.now))) →
@@ -484,39 +470,6 @@ pub fn job_by<'a>(name: &str, matches: &ArgMatches<'a>) -> Option<Job<'a>>
     ensures few { IsWhole (Some (name.now, rows_of (found_of matches.now))) →
         IfSome result (λ j. steps_of j ≤ most_steps) }
 {
-    if name == "build" {
-        Some(build_by(matches))
-    } else if name == "run" {
-        Some(run_by(matches))
-    } else if name == "go" {
-        Some(go_by(matches))
-    } else if name == "list" {
-        Some(list_by(matches))
-    } else if name == "sample" {
-        Some(sample_by(matches))
-    } else if name == "migrate" {
-        Some(migrate_by(matches))
-    } else if name == "audit" {
-        Some(audit_by(matches))
-    } else if name == "save" {
-        Some(save_by(matches))
-    } else if name == "resume" {
-        Some(resume_by(matches))
-    } else if name == "debug" {
-        Some(debug_by(matches))
-    } else if name == "cover" {
-        Some(cover_by(matches))
-    } else if name == "sweep" {
-        Some(sweep_by(matches))
-    } else if name == "timeline" {
-        Some(timeline_by(matches))
-    } else if name == "live" {
-        Some(live_by(matches))
-    } else if name == "picture" {
-        Some(picture_by(matches))
-    } else if name == "lcov" {
-        Some(lcov_by(matches))
-    } else {
-        help_by(matches)
-    }
+    let command = command_named(name)?;
+    job_of_command(command, matches)
 }

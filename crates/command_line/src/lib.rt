@@ -1,6 +1,7 @@
 //! The command line of the program, by `clap`.
 #![tactic(auto)]
 
+mod commands;
 mod definition;
 mod job;
 mod laws;
