@@ -5,7 +5,7 @@ BEGIN {
     split("tick irq in out post call ret close listen offer take borrow fault restart irqstat find", list)
     for (k in list) kind[list[k]] = 1
     file = ENVIRON["FILE"]
-    n = split("case NAME;app APP;script SCRIPT;steps N;every P tick;at T EVENT;after N WORDS | EVENT ..;feed T D GAP HEX ..;" \
+    n = split("case NAME;app APP;script SCRIPT;steps N;every P tick;at T EVENT;from A every P to B EVENT, or from A every P in D TEXT;after N WORDS | EVENT ..;feed T D GAP HEX ..;" \
         "repeat FROM STEP TO EVENT;faults N;ends still, bound or supervisor;out D \"TEXT\";tells WORDS;within N WORDS;never WORDS;" \
         "times N WORDS;calls N;same FILE;like FILE;sweep ARRIVAL FROM TO;unharmed ARRIVAL FROM TO;covers A B;together A B", list, ";")
     for (k = 1; k <= n; k++) form[first(list[k])] = list[k]
@@ -19,6 +19,8 @@ function is_event(text,    word, n) {
     if (n == 2) return word[1] == "irq" && is_number(word[2], 0, 63)
     return n == 3 && word[1] == "in" && is_number(word[2], 0, 7) && is_number(word[3], 0, 255)
 }
+# bytes for a device, as a text in quotes
+function is_text(text) { return text ~ /^in [0-7] +".*"$/ }
 # the words of a text from the k-th on
 function from(text, k) {
     for (; k > 1; k--) if (!sub(/^[^ ]+ */, "", text)) return ""
@@ -73,7 +75,8 @@ function is_right(word, rest) {
     if (word == "sweep" || word == "unharmed") return path_and_stretch(rest)
     if (word == "covers" || word == "together") return rest ~ /^[0-9]+ +[0-9]+$/ && is_share(first(rest)) && is_share(from(rest, 2))
     if (word == "every") return rest ~ / tick$/ && is_number(first(rest), 1, 1000000000) && from(rest, 2) == "tick"
-    if (word == "at") return is_number(first(rest), 0, 999999999) && is_event(from(rest, 2))
+    if (word == "at") return is_number(first(rest), 0, 999999999) && (is_event(from(rest, 2)) || is_text(from(rest, 2)))
+    if (word == "from") return is_number(first(rest), 0, 999999999) && from(rest, 2) ~ /^every [0-9]+ / && (is_text(from(rest, 4)) || from(rest, 4) ~ /^to [0-9]+ / && is_event(from(rest, 6)))
     if (word == "after") return is_number(first(rest), 1, 1000000000) && are_words(from(rest, 2)) && are_events(rest)
     return 1
 }
@@ -159,7 +162,7 @@ function write_case(    k, word, text, lines, last) {
     sub(/[ \t].*/, "", word)
     if (!(word in form)) { wrong(NR, "no line of a case begins with " word); exit 1 }
     # a text and a path keep their blanks
-    if (word !~ /^(app|script|out|same|like|sweep|unharmed)$/) gsub(/[ \t]+/, " ", text)
+    if (word !~ /^(app|script|out|same|like|sweep|unharmed)$/ && !(word ~ /^(at|from)$/ && text ~ /"/)) gsub(/[ \t]+/, " ", text)
     rest = substr(text, length(word) + 1)
     sub(/^[ \t]+/, "", rest)
     if (word == "out") sub(/[ \t]+/, " ", rest)
@@ -170,7 +173,7 @@ function write_case(    k, word, text, lines, last) {
     else if (word == "steps") steps = rest
     else if (word == "feed" || word == "repeat") {
         if (!(word == "feed" ? feed(rest) : repeat(rest))) malformed(word)
-    } else if (word ~ /^(every|at|after)$/) script_line(text)
+    } else if (word ~ /^(every|at|from|after)$/) script_line(text)
     else { ask[++asks] = word " " rest; ask_at[asks] = NR }
     if (refused) exit 1
 }
