@@ -451,13 +451,8 @@ fn from_and_text(
     ensures known { IfOk result IsKnown }
 {
     if is_word(every, b"every") && is_word(kind, b"in") {
-        spelled(
-            alloc,
-            turn_in(first),
-            period_in(step),
-            device_in(device),
-            text,
-        )
+        let (first, step, device) = (turn_in(first), period_in(step), device_in(device));
+        spelled(alloc, first, step, device, text)
     } else {
         Ok(Statement::Refused { cause: 2 })
     }
