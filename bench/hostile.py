@@ -104,14 +104,26 @@ def image(size):
     return "run a.img e.txt --steps 20000"
 
 
+def idle_image():
+    put("a.img", struct.pack("<4sBBHIII", b"HBI1", 1, 0, 1, 256, 0, 1) + struct.pack("<BBBBII", 0, 1, 1, 0, 0x08000001, 0)
+        + struct.pack("<III", 0x08000000, 256, 5) + b"\xfe\xe7" * 128)
+
+
 def script(size):
     """An event a turn, 65,536 at the largest size, and as many turns."""
     count = size // 32
-    put("a.img", struct.pack("<4sBBHIII", b"HBI1", 1, 0, 1, 256, 0, 1) + struct.pack("<BBBBII", 0, 1, 1, 0, 0x08000001, 0)
-        + struct.pack("<III", 0x08000000, 256, 5) + b"\xfe\xe7" * 128)
+    idle_image()
     put("e.txt", "".join(f"at {k} tick\n" for k in range(count)))
     return f"run a.img e.txt --steps {count}"
 
 
+def repeats(size):
+    """Lines of two events each, 32,768 at the largest size: the first of each stands in front of the second ones of all before."""
+    count = size // 64
+    idle_image()
+    put("e.txt", "".join(f"from {k} every {count} to {k + count} tick\n" for k in range(count)))
+    return "run a.img e.txt --steps 0"
+
+
 kind, size, folder = sys.argv[1], int(sys.argv[2]), sys.argv[3]
-print({f.__name__: f for f in (regions, devices, notifications, uses, interrupts, tasks, shared, keys, labels, image, script)}[kind](size))
+print({f.__name__: f for f in (regions, devices, notifications, uses, interrupts, tasks, shared, keys, labels, image, script, repeats)}[kind](size))

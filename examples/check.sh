@@ -390,7 +390,7 @@ done <<'END'
 1|state $at/app.toml $made/driver.img|state: $made/driver.img is no saved state: it does not begin with HBS1
 1|state examples/one-task/app.toml $made/state|state: $made/state has 3 tasks, and examples/one-task/app.toml 1
 2|expect examples/uart/app.toml examples/uart/dialogue.txt many|usage: expect APP DIALOGUE STEPS
-1|expect examples/uart/app.toml $made/dialogue.txt 500|expect: $made/dialogue.txt:2: no number, or one out of range
+1|expect examples/uart/app.toml $made/dialogue.txt 500|expect: $made/dialogue.txt:2: no number or text, or one out of range
 2|since $at/app.toml $at/empty.txt 5 text 1|usage: since APP SCRIPT TURN ADDRESS LENGTH
 1|since $at/app.toml $at/empty.txt 5 client.nothing 1|since: no label or variable is client.nothing
 1|since $at/app.toml $at/empty.txt 5 30000000 1|since: no 1 bytes of flash or RAM at 30000000

@@ -13,8 +13,8 @@ BEGIN {
         "out of range|no multiple, or at a wrong address|register list|more than 1,048,576 bytes|" \
         "the label is a register or a symbol of the builder|more than 255 bytes in a line|" \
         "the code is longer than the task's `flash`, in bytes", source, "|")
-    split("a byte that is not allowed|no form of a line|no number, or one out of range|" \
-        "a turn below that of an earlier line, or an `every` behind|more than 65,536 events, or nine of one turn", script, "|")
+    split("a byte that is not allowed|no form of a line|no number or text, or one out of range|" \
+        "a first turn below that of an earlier line, or an `every` behind|more than 65,536 events, or nine of one turn", script, "|")
     split("a byte that is not allowed|no command, not one of its numbers of words, or no kind|no number of this form, or one out of range|" \
         "more than 1,024 commands", commands, "|")
     split("too short|no image; a description is for `go` and `build`|a number out of its range|too long|task 0 alone has priority 0|" \
@@ -29,7 +29,7 @@ function look(file, wanted,    text, k) {
     kind = line = ""
     for (k = 1; (getline text < file) > 0 && (k <= wanted || kind == ""); k++) {
         if (k == 1 && text ~ /^HB[IS]/) { kind = text ~ /^HBS/ ? "state" : "image"; break }
-        if (kind == "" && text ~ /^[ \t]*(at|every)[ \t]/) kind = "script"
+        if (kind == "" && text ~ /^[ \t]*(at|every|from)[ \t]/) kind = "script"
         if (kind == "" && text ~ /^[ \t]*(break|clear|step|back|go|regs|mem)[ \t]/) kind = "commands"
         if (k == wanted) line = text
     }

@@ -30,7 +30,7 @@ fn a_script_is_written_in_one_spelling(rt: HostRuntime) -> Result<(), Fail> {
     let mut text = Vec::from_slice(rt.alloc(), b"# b\n")?;
     script.push_text(&mut text)?;
     let wanted = b"# b\nevery 50 tick\nat 3 irq 7\nat 3 in 1 65\nat 4 tick\n";
-    let same = text.as_slice() == wanted;
+    let same = text.as_slice() == wanted.as_slice();
     assert!(rt; same);
     Ok(())
 }
