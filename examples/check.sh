@@ -224,7 +224,7 @@ not ok 3 - events
 not ok 4 - what comes after what
 # fails.cases:30: nothing tells out 0 zz from turn 2691 on, up to 9000
 not ok 5 - a text \# with \\ signs
-# fails.cases:32: a turn below that of an earlier line, or an `every` behind
+# fails.cases:32: a first turn below that of an earlier line, or an `every` behind
 1..5
 END
 echo "tools/check, cases that do not hold: as expected"
