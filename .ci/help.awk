@@ -38,6 +38,10 @@ table == "Command line: command in short" {
 table == "Command line: limit is" { limit[++limits] = sprintf("    %-35s  %s", cell[2], cell[3]) }
 table == "Command line: command takes" { takes[cell[2]] = cell[3]; writes[cell[2]] = cell[4] }
 table == "Command line: status when" { status[statuses] = cell[2]; when[statuses] = cell[3]; text[statuses++] = cell[4] }
+table == "Commands: command with" { form[++forms] = cell[2]; with[forms] = cell[3] }
+table == "Commands: command does" { session[++sessions] = cell[2]; acts[sessions] = cell[3]; answers[sessions] = cell[4] }
+table == "Sweep: word is" { word_of[++words_of_outcome] = cell[2]; word_is[words_of_outcome] = cell[3] }
+table == "Sweep: line of" { line_of[++lines_of_sweep] = cell[2]; line_is[lines_of_sweep] = cell[3] }
 table ~ /: cause / { cause[section, ++causes[section]] = cell[2]; because[section, causes[section]] = cell[3] }
 function tell_causes(constant, of, place, from,    k, words_of, number) {
     say("", "", "causes of " of ", the place is " place)
@@ -61,7 +65,7 @@ BEGIN { statuses = 0 }
 END {
     print "//! What `help` says, made of the tables of docs/FORMATS.md by .ci/help.awk: not to be changed by"
     print "//! hand."
-    for (k = 1; k <= commands; k++) say("", "", sprintf("%-52s  %s", words[k], short[k]))
+    for (k = 1; k <= commands; k++) say(sprintf("%-52s  ", words[k]), sprintf("%54s", ""), short[k])
     say("", "", "")
     say("", "", "hubris help COMMAND says what one of them takes and answers. docs/FORMATS.md has the formats, docs/GUIDE.md a first application.")
     tell("COMMANDS", "The commands.")
@@ -79,6 +83,17 @@ END {
     for (k = 0; k < statuses; k++)
         say("    " status[k] "   ", "        ", when[k] (text[k] ~ /^what/ ? "" : "; writes " text[k]))
     tell("STATUSES", "The statuses.")
+    far = sprintf("%39s", "")
+    say("", "", "commands, a line each")
+    for (k = 1; k <= forms; k++) say(sprintf("    %-33s  ", form[k]), far, with[k])
+    say("", "", "what each does, and its answer")
+    for (k = 1; k <= sessions; k++) say(sprintf("    %-33s  ", session[k]), far, acts[k] (acts[k] == "" ? "" : "; ") "answers " answers[k])
+    tell("SESSION", "The commands of a session, and what each answers.")
+    say("", "", "lines")
+    for (k = 1; k <= lines_of_sweep; k++) say(sprintf("    %-33s  ", line_of[k]), far, line_is[k])
+    say("", "", "words of an outcome, in this order")
+    for (k = 1; k <= words_of_outcome; k++) say(sprintf("    %-33s  ", word_of[k]), far, word_is[k])
+    tell("OUTCOMES", "The lines of a sweep, and the words of an outcome.")
     tell_causes("IMAGE_CAUSES", "IMAGE", "a byte of it", "Image")
     tell_causes("SCRIPT_CAUSES", "SCRIPT", "a line of it, from 1 on", "Script")
     tell_causes("APPLICATION_CAUSES", "APP", "a key or an entry of it", "Application")

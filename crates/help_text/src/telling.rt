@@ -5,15 +5,15 @@ ghost use Rattle.help_text.specs.Help.{help_text, parts_of, parts_on};
 
 use crate::texts::{
     APPLICATION_CAUSES, ARRIVAL_CAUSES, AUDIT, BUILD, COMMANDS, COMMANDS_CAUSES, COVER, DEBUG, GO,
-    HELP, IMAGE_CAUSES, LCOV, LIMITS, LINE_CAUSES, LIST, LIVE, MIGRATE, PICTURE, RESUME, RUN,
-    SAMPLE, SAVE, SCRIPT_CAUSES, SOURCE_CAUSES, STATE_CAUSES, STATUSES, SWEEP, TIMELINE,
-    TRACE_CAUSES,
+    HELP, IMAGE_CAUSES, LCOV, LIMITS, LINE_CAUSES, LIST, LIVE, MIGRATE, OUTCOMES, PICTURE, RESUME,
+    RUN, SAMPLE, SAVE, SCRIPT_CAUSES, SESSION, SOURCE_CAUSES, STATE_CAUSES, STATUSES, SWEEP,
+    TIMELINE, TRACE_CAUSES,
 };
 use command_line::CommandName;
 use outside_io::{Failed, Sink, push_lines};
 
-/// What is said of a command: its words and files, the limits, the statuses, and the causes of its
-/// files.
+/// What is said of a command: its words and files (of a session each command, of a sweep each line
+/// and word), the limits, the statuses, and the causes of its files.
 fn parts_on(command: CommandName) -> &'static [&'static [&'static str]]
     ensures { map (λ part. map (λ line. line.now) part.now) result.now ≡ parts_on command }
 {
@@ -43,6 +43,7 @@ fn parts_on(command: CommandName) -> &'static [&'static [&'static str]]
         ],
         CommandName::Debug => &[
             DEBUG,
+            SESSION,
             LIMITS,
             STATUSES,
             IMAGE_CAUSES,
@@ -60,6 +61,7 @@ fn parts_on(command: CommandName) -> &'static [&'static [&'static str]]
         ],
         CommandName::Sweep => &[
             SWEEP,
+            OUTCOMES,
             LIMITS,
             STATUSES,
             IMAGE_CAUSES,
@@ -76,6 +78,7 @@ fn parts_on(command: CommandName) -> &'static [&'static [&'static str]]
         ],
         CommandName::Live => &[
             LIVE,
+            SESSION,
             LIMITS,
             STATUSES,
             IMAGE_CAUSES,
