@@ -1,0 +1,4 @@
+pub mod Pieces
+pub mod Joining
+pub mod Counting
+pub mod Walk

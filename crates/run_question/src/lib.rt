@@ -1,11 +1,16 @@
-//! What is asked of the runs of a question (docs/FORMATS.md, Question): its types, and the property
-//! that the words of a line say.
+//! The question that a text is, or the first cause by which it is refused. docs/EXPLORE.md,
+//! Question, has the grammar and the table of causes.
 #![tactic(auto)]
 
 mod asked;
+mod draft;
 mod property;
 mod question;
+mod reading;
+mod schedules;
+mod statement;
+mod values;
 
 pub use asked::{Condition, Fact, Line, Property, TaskFact, Test};
 pub use property::property_said;
-pub use question::{Arrival, Offer, Question, Stated};
+pub use question::{Arrival, Offer, Question, QuestionFault, Stated};

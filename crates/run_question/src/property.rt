@@ -30,7 +30,7 @@ fn task_in(word: &[u8]) -> Option<u16>
     }
 }
 
-fn device_in(word: &[u8]) -> Option<u8>
+pub(crate) fn device_in(word: &[u8]) -> Option<u8>
     ensures { result ≡ device_in word.now }
 {
     match number_within(word, 0, 7) {
@@ -39,7 +39,7 @@ fn device_in(word: &[u8]) -> Option<u8>
     }
 }
 
-fn byte_in(word: &[u8]) -> Option<u8>
+pub(crate) fn byte_in(word: &[u8]) -> Option<u8>
     ensures { result ≡ byte_in word.now }
 {
     match number_within(word, 0, 255) {
@@ -505,7 +505,7 @@ fn after_said(text: &[u8]) -> Result<Property, u8>
     }
 }
 
-/// The property that the words of a line say (docs/FORMATS.md, Question).
+/// The property that the words of a line say (docs/EXPLORE.md, Question).
 ///
 /// # Errors
 ///

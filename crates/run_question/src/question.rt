@@ -1,7 +1,8 @@
-//! A question.
+//! A question, and why one is refused.
 
 use crate::asked::Property;
 use run_script::Event;
+use thiserror::Error;
 
 /// So many turns behind its arrival there is one of some events.
 #[derive(Drop)]
@@ -32,4 +33,14 @@ pub struct Stated {
 pub struct Question {
     pub arrivals: Vec<Arrival>,
     pub properties: Vec<Stated>,
+}
+
+/// Why `Question::read` gives no question: the bytes are refused, or memory ran out.
+#[derive(Debug, Drop, Error)]
+pub enum QuestionFault {
+    /// A cause of docs/EXPLORE.md, Question, and the line, from 1; line 0 is the whole.
+    #[error("refused with cause {cause} at line {line}")]
+    Refused { cause: u8, line: usize },
+    #[error("out of memory")]
+    Memory,
 }
