@@ -160,7 +160,9 @@ impl Bus for Memory {
 
     ghost holds = { λ s a n. number_of s.flash.items s.ram.items a n };
 
-    ghost stored = { λ s a n v t. IsStored s.ram.items a n v t.ram.items × (length t.ram.items ≡ length s.ram.items) × (t.flash ≡ s.flash) × (t.regions ≡ s.regions) };
+    ghost stored = { λ s a n v t. IsStored s.ram.items a n v t.ram.items
+        × (length t.ram.items ≡ length s.ram.items) × (t.flash ≡ s.flash)
+        × (t.regions ≡ s.regions) };
 
     ghost took = { λ s a t. t ≡ s };
 

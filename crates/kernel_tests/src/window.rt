@@ -15,7 +15,9 @@ pub struct Stamp {
 }
 
 impl WindowUser for Stamp {
-    ghost did = { λ old flash ram area second new after left second_left. (after ≡ slice_set ram 0 old.byte) × (left ≡ slice_set area 0 old.byte) × (second_left ≡ slice_set second 0 old.byte) };
+    ghost did = { λ old flash ram area second new after left second_left.
+        (after ≡ slice_set ram 0 old.byte) × (left ≡ slice_set area 0 old.byte)
+        × (second_left ≡ slice_set second 0 old.byte) };
 
     fn work(
         &mut self,
@@ -50,7 +52,8 @@ struct Sizes {
 }
 
 impl WindowUser for Sizes {
-    ghost did = { λ old flash ram area second new after left second_left. (new.flash ≡ length flash) × (new.ram ≡ length ram) × (new.area ≡ length area) × (new.second ≡ length second) };
+    ghost did = { λ old flash ram area second new after left second_left. (new.flash ≡ length flash)
+        × (new.ram ≡ length ram) × (new.area ≡ length area) × (new.second ≡ length second) };
 
     fn work(
         &mut self,

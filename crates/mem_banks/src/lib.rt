@@ -49,9 +49,14 @@ impl Model for Memory {
 
     ghost Value = { Opened };
 
-    ghost view = { λ m. record { bytes = record { flash = flash_of m.banks.items; ram = ram_of m.banks.items }; regions = m.regions.items } };
+    ghost view = { λ m. record {
+      bytes = record { flash = flash_of m.banks.items; ram = ram_of m.banks.items };
+      regions = m.regions.items;
+    } };
 
-    ghost invariant = { λ m. AreKept m.table.items m.banks.items × AreParts m.regions.items (spans_of m.banks.items) × (m.ram ≡ ram_size (spans_of m.banks.items)) };
+    ghost invariant = { λ m. AreKept m.table.items m.banks.items
+        × AreParts m.regions.items (spans_of m.banks.items)
+        × (m.ram ≡ ram_size (spans_of m.banks.items)) };
 }
 
 impl Memory {

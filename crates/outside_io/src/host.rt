@@ -118,7 +118,13 @@ impl<R: rt::Files + AllocGlobal> HostFiles<R> {
 }
 
 impl<R: rt::Files + AllocGlobal> Files for HostFiles<R> {
-    ghost seen = { λ f. record { contents = λ _. None; read_faults = f.read_faults; put_faults = f.put_faults; given = f.given; last_failing = None } };
+    ghost seen = { λ f. record {
+      contents = λ _. None;
+      read_faults = f.read_faults;
+      put_faults = f.put_faults;
+      given = f.given;
+      last_failing = None;
+    } };
 
     /// One read of the file at the path, from the place on.
     fn read(&mut self, name: &str, at: u64, buf: &mut [u8]) -> Result<usize, Failed>

@@ -163,7 +163,14 @@ impl MemFiles {
 impl Files for MemFiles {
     ghost use Rattle.outside_io.specs.Memory.{contents_by, rooms_of, tally_of, tally_after_read, tally_after_put, fails_read, fails_put};
 
-    ghost seen = { λ m. record { contents = contents_under m.held; read_faults = m.read_faults; put_faults = m.put_faults; given = m.given; last_failing = option_map (λ n. (n.len, take n.shown n.front)) m.last } };
+    ghost seen = { λ m. record {
+      contents = contents_under m.held;
+      read_faults = m.read_faults;
+      put_faults = m.put_faults;
+      given = m.given;
+      last_failing = option_map
+          (λ n. (n.len, take n.shown n.front)) m.last;
+    } };
 
     /// Gives all bytes from the place on that the buffer has room for.
     fn read(&mut self, name: &str, at: u64, buf: &mut [u8]) -> Result<usize, Failed>
