@@ -1,4 +1,4 @@
--- A source is assembled to as many bytes as its lines take.
+-- An assembly has as many bytes as its lines take.
 use Rattle.std.proofs.Common.{◌≡◌, ℕ, ◌+◌, ◌*◌, List, [], ◌∷◌, length, length-append, mul-zero, mul-suc, add_comm, refl, ap, ◌∙◌, sym, subst, Bool, true, false, Option, Some, None, Result, Ok, Err}
 use Rattle.std.proofs.lemmas.Bool.{or_parts}
 use Rattle.std.specs.Prelude.{is_some}
