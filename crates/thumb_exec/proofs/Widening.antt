@@ -19,7 +19,7 @@ use Rattle.thumb_exec.specs.Keeps.{Widens}
 use Rattle.thumb_exec.proofs.Agreeing.{effect_same}
 use Rattle.thumb_exec.proofs.Transfers.{allowed_here, allowed_later, refused_later, refused_none}
 
--- `wider` grants what `refuses` grants
+-- the second list of refusals grants what the first one grants
 abbrev Grants : Refusals → Refusals → Type 0
 Grants R R' = (a n : ℕ) (r : Right) → R a n r ≡ None → R' a n r ≡ None
 
