@@ -453,7 +453,7 @@ impl Kernel {
         self.memory.half(addr)
     }
 
-    /// Whether `len` bytes from an address on lie in the RAM.
+    /// Whether `count` bytes from an address on lie in the RAM.
     #[inline(always)]
     pub fn is_ram(&self, addr: u32, count: u32) -> bool
         ensures { result ≡ is_ram (memory_of self.now) addr count }
