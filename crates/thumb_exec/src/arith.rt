@@ -1,4 +1,4 @@
-//! Instructions that reach no memory.
+//! Instructions that do not access memory.
 ghost use Rattle.std.specs.Prelude.{◌≡◌, ◌<◌, [], true};
 ghost use Rattle.thumb_exec.specs.Effect.{Next, go_past, put, get, with_flags, nz, nzc, data_effect, sum_to, tested, FollowsSum};
 ghost use Rattle.words_core.specs.Words.{awc, complement};
@@ -7,7 +7,7 @@ use crate::cpu::{Cpu, Outcome};
 use thumb_insn::{Op, Reg};
 use words_core::{Flags, PROGRAM_COUNTER, add, add_with_carry, asr, lsl, lsr, ror, subtract};
 
-/// A register.
+/// The word in a register.
 pub fn get(cpu: &Cpu, r: Reg) -> u32
     requires { r.number < 16 }
     ensures { result ≡ get cpu.now r }
@@ -15,7 +15,7 @@ pub fn get(cpu: &Cpu, r: Reg) -> u32
     cpu.regs.get(usize::from(r.number))
 }
 
-/// C.
+/// The flag C.
 #[inline(always)]
 pub fn carry(cpu: &Cpu) -> bool
     ensures { result ≡ cpu.now.flags.c }
@@ -23,7 +23,7 @@ pub fn carry(cpu: &Cpu) -> bool
     cpu.flags.c()
 }
 
-/// Moves PC on by n bytes.
+/// Moves PC forward by n bytes.
 pub fn go_past(cpu: &mut Cpu, n: u32)
     requires { n < 8 }
     ensures { cpu.new ≡ go_past n cpu.old }
@@ -32,7 +32,7 @@ pub fn go_past(cpu: &mut Cpu, n: u32)
     cpu.regs.set(PROGRAM_COUNTER, at.wrapping_add(n));
 }
 
-/// Puts a value into a register and goes on, n bytes further.
+/// Puts a value into a register, and moves PC forward by n bytes.
 pub fn set(cpu: &mut Cpu, d: Reg, value: u32, n: u32)
     requires place { d.number < 16 }
     requires step { n < 8 }
@@ -42,7 +42,7 @@ pub fn set(cpu: &mut Cpu, d: Reg, value: u32, n: u32)
     go_past(cpu, n);
 }
 
-/// Sets the flags of a sum, whose N and Z follow it.
+/// Sets the flags of a sum. N and Z are those of its value.
 #[inline(always)]
 fn set_flags(cpu: &mut Cpu, sum: (u32, Flags))
     requires { FollowsSum sum }
@@ -53,7 +53,8 @@ fn set_flags(cpu: &mut Cpu, sum: (u32, Flags))
     cpu.flags.set_v(sum.1.v);
 }
 
-/// N and Z follow the result. C and V stay: for speed they are neither read nor written.
+/// Sets N and Z from the result. C and V do not change: for speed they are neither read nor
+/// written.
 #[inline(always)]
 fn set_nz(cpu: &mut Cpu, value: u32)
     ensures { cpu.new ≡ with_flags cpu.old (nz cpu.old.flags value) }
@@ -82,7 +83,7 @@ pub fn finish_nzc(cpu: &mut Cpu, d: Reg, shifted: (u32, bool))
     finish_nz(cpu, d, shifted.0);
 }
 
-/// Sets N and Z alone, and goes on.
+/// Sets only N and Z, and goes on.
 #[inline(always)]
 fn test_nz(cpu: &mut Cpu, value: u32)
     ensures { tested cpu.old (nz cpu.old.flags value) ≡ Next cpu.new [] }
@@ -102,7 +103,7 @@ pub fn finish_sum(cpu: &mut Cpu, d: Reg, sum: (u32, Flags))
     go_past(cpu, 2);
 }
 
-/// Sets the flags of a sum alone, and goes on.
+/// Sets only the flags of a sum, and goes on.
 pub fn finish_test(cpu: &mut Cpu, sum: (u32, Flags))
     requires { FollowsSum sum }
     ensures { tested cpu.old sum.1 ≡ Next cpu.new [] }
@@ -111,7 +112,7 @@ pub fn finish_test(cpu: &mut Cpu, sum: (u32, Flags))
     go_past(cpu, 2);
 }
 
-/// The flags of a subtraction alone, and goes on.
+/// Sets only the flags of a subtraction, and goes on.
 pub fn compare(cpu: &mut Cpu, n: Reg, y: u32)
     requires { n.number < 16 }
     ensures { tested cpu.old (awc (get cpu.old n) (complement y) true).1 ≡ Next cpu.new [] }
@@ -119,7 +120,7 @@ pub fn compare(cpu: &mut Cpu, n: Reg, y: u32)
     finish_test(cpu, subtract(get(cpu, n), y));
 }
 
-/// Computes of two low registers, and goes on.
+/// Does an operation on two low registers, and goes on.
 #[inline(always)]
 pub fn data(cpu: &mut Cpu, op: Op, d: Reg, m: Reg)
     requires first { d.number < 8 }

@@ -1,17 +1,17 @@
-//! The flags as a processor keeps them.
+//! The flags, as the processor keeps them.
 ghost use Rattle.std.specs.Prelude.{◌≡◌};
 ghost use Rattle.words_core.specs.Words.{negative, is_zero};
 
 use std::marker::Model;
 use words_core::Flags;
 
-/// The four condition flags, of which N and Z are kept as results that they follow, for speed: most
-/// are never asked for, and to keep a result is less work than to test it.
+/// The four condition flags. For speed N and Z are kept as the results that they come from: most of
+/// them are never read, and keeping a result is less work than testing it.
 #[derive(Drop)]
 pub struct LazyFlags {
-    // N is the sign of this one
+    // N is the sign of this result
     sign: u32,
-    // Z is whether this one is 0
+    // Z is whether this result is 0
     zero: u32,
     c: bool,
     v: bool,
@@ -27,7 +27,7 @@ impl Model for LazyFlags {
 }
 
 impl LazyFlags {
-    /// These flags.
+    /// Keeps these flags.
     #[inline(always)]
     pub fn of(flags: Flags) -> LazyFlags
         ensures { result ≡ flags }
@@ -40,7 +40,7 @@ impl LazyFlags {
         }
     }
 
-    /// The same ones.
+    /// A copy.
     #[inline(always)]
     pub fn copied(&self) -> LazyFlags
         ensures { result ≡ self.now }
@@ -53,7 +53,7 @@ impl LazyFlags {
         }
     }
 
-    /// All four, told.
+    /// All four flags.
     #[inline(always)]
     pub fn told(&self) -> Flags
         ensures { result ≡ self.now }
@@ -66,7 +66,7 @@ impl LazyFlags {
         }
     }
 
-    /// N, whether the last result was negative.
+    /// N: whether the last result was negative.
     #[inline(always)]
     pub fn n(&self) -> bool
         ensures { result ≡ self.now.n }
@@ -74,7 +74,7 @@ impl LazyFlags {
         self.sign >= 0x8000_0000
     }
 
-    /// Z, whether it was 0.
+    /// Z: whether the last result was 0.
     #[inline(always)]
     pub fn z(&self) -> bool
         ensures { result ≡ self.now.z }
@@ -82,7 +82,7 @@ impl LazyFlags {
         self.zero == 0
     }
 
-    /// C, the carry.
+    /// C: the carry.
     #[inline(always)]
     pub fn c(&self) -> bool
         ensures { result ≡ self.now.c }
@@ -90,7 +90,7 @@ impl LazyFlags {
         self.c
     }
 
-    /// V, whether a signed sum overflowed.
+    /// V: whether a signed sum overflowed.
     #[inline(always)]
     pub fn v(&self) -> bool
         ensures { result ≡ self.now.v }
@@ -98,8 +98,8 @@ impl LazyFlags {
         self.v
     }
 
-    /// N and Z follow a result (`APSR.N`, `APSR.Z`; A6.7). C and V stay: they are neither read nor
-    /// written.
+    /// Sets N and Z from a result (`APSR.N`, `APSR.Z`; A6.7). C and V do not change: they are
+    /// neither read nor written.
     #[inline(always)]
     pub fn follow(&mut self, value: u32)
         ensures { self.new ≡ record self.old { n = negative value; z = is_zero value } }
@@ -108,7 +108,7 @@ impl LazyFlags {
         self.zero = value;
     }
 
-    /// C alone.
+    /// Sets only C.
     #[inline(always)]
     pub fn set_c(&mut self, c: bool)
         ensures { self.new ≡ record self.old { c = c } }
@@ -116,7 +116,7 @@ impl LazyFlags {
         self.c = c;
     }
 
-    /// V alone.
+    /// Sets only V.
     #[inline(always)]
     pub fn set_v(&mut self, v: bool)
         ensures { self.new ≡ record self.old { v = v } }

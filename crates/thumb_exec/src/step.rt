@@ -1,4 +1,4 @@
-//! One instruction, row by row of the table, in families that each a function executes.
+//! One instruction, by the rows of the table. One function executes each family of instructions.
 ghost use Rattle.std.specs.Prelude.{◌≡◌, ◌<◌, [], true, false};
 ghost use Rattle.thumb_exec.specs.Effect.{Acts, Effects, Halts, Next, Refusals, Contents, effect, load_effect, store_effect, store_all, sum_to, put, go_past, shifted, sum, get, FollowsSum};
 ghost use Rattle.thumb_exec.specs.declared.cpu.Outcome.TheVariants as outcome;
@@ -18,7 +18,7 @@ use kernel_abi::Fault;
 use thumb_insn::{Insn, Load, Reg, Shift, Size};
 use words_core::{Flags, PROGRAM_COUNTER, STACK_POINTER, add, asr, lsl, lsr, subtract};
 
-/// SP as a register that an instruction names.
+/// SP, as a register of an instruction.
 const SP: Reg = Reg {
     number: STACK_POINTER as u8,
 };
@@ -35,7 +35,7 @@ fn shift(by: Shift, x: u32, n: u8, c: bool) -> (u32, bool)
     }
 }
 
-/// A sum or a difference with its flags, and where it goes.
+/// A sum or a difference with its flags, and the register that it goes to.
 #[tactic(auto, unfolding(crate::specs::Effect::effect))]
 #[inline(always)]
 fn adding(cpu: &Cpu, insn: Insn) -> (Reg, (u32, Flags))
@@ -69,7 +69,7 @@ fn sum(cpu: &mut Cpu, insn: Insn)
     finish_sum(cpu, d, sum);
 }
 
-/// What computes otherwise, of low registers, immediates or flags.
+/// Other operations on low registers, immediates or flags.
 #[tactic(auto, unfolding(crate::specs::Effect::effect))]
 #[inline(always)]
 fn compute(cpu: &mut Cpu, insn: Insn)
@@ -109,7 +109,7 @@ fn compute(cpu: &mut Cpu, insn: Insn)
     }
 }
 
-/// What reads or writes SP, PC or a high register, without flags.
+/// Instructions that read or write SP, PC or a high register, and change no flags.
 #[tactic(auto, unfolding(crate::specs::Effect::effect))]
 #[inline(always)]
 fn place(cpu: &mut Cpu, insn: Insn)
@@ -200,7 +200,7 @@ fn jump(cpu: &mut Cpu, insn: Insn) -> Outcome
     }
 }
 
-/// Hints, barriers and the flags from a register.
+/// Hints, barriers, and the write of the flags from a register.
 #[tactic(auto, unfolding(crate::specs::Effect::effect))]
 #[inline(always)]
 fn system(cpu: &mut Cpu, insn: Insn)
@@ -220,7 +220,7 @@ fn system(cpu: &mut Cpu, insn: Insn)
     }
 }
 
-/// The address that is so far from what a register holds.
+/// The address at an offset from the word in a register.
 #[inline(always)]
 fn address(cpu: &Cpu, n: Reg, offset: u32) -> u32
     requires { n.number < 16 }
@@ -229,7 +229,7 @@ fn address(cpu: &Cpu, n: Reg, offset: u32) -> u32
     get(cpu, n).wrapping_add(offset)
 }
 
-/// How a load of one unit loads, to which register and from where.
+/// A load of one unit: its kind, its register and its address.
 #[tactic(auto, unfolding(crate::specs::Effect::effect))]
 #[inline(always)]
 fn loading(cpu: &Cpu, insn: Insn) -> (Load, Reg, u32)
@@ -261,7 +261,7 @@ fn loading(cpu: &Cpu, insn: Insn) -> (Load, Reg, u32)
     }
 }
 
-/// How much a store of one unit stores, of which register and where.
+/// A store of one unit: its size, its register and its address.
 #[tactic(auto, unfolding(crate::specs::Effect::effect))]
 #[inline(always)]
 fn storing(cpu: &Cpu, insn: Insn) -> (Size, Reg, u32)
@@ -289,8 +289,8 @@ fn storing(cpu: &Cpu, insn: Insn) -> (Size, Reg, u32)
     }
 }
 
-/// Which registers a store of several words stores and where, and which register then has which
-/// word.
+/// A store of several words: the registers and the address, and then the register that changes and
+/// its word.
 #[tactic(auto, unfolding(crate::specs::Effect::effect))]
 #[inline(always)]
 fn storing_all(cpu: &Cpu, insn: Insn) -> (u16, u32, Reg, u32)
@@ -316,7 +316,7 @@ fn storing_all(cpu: &Cpu, insn: Insn) -> (u16, u32, Reg, u32)
     }
 }
 
-/// Executes what branches to a register, or is rare.
+/// Executes a branch to a register, or a rare instruction.
 #[tactic(auto, unfolding(crate::specs::Effect::effect))]
 #[inline(never)]
 fn rest(cpu: &mut Cpu, insn: Insn) -> Outcome
@@ -399,12 +399,12 @@ fn step<B: Bus>(cpu: &mut Cpu, insn: Insn, bus: &mut B) -> Outcome
     }
 }
 
-/// Executes an instruction at PC, one that some code means: exactly the effect that its row in the
-/// table of instructions tells (docs/FORMATS.md; ARMv6-M Architecture Reference Manual, A6.7).
+/// Executes an instruction at PC that has a code. Its effect is exactly that of its row in the
+/// table of instructions (docs/FORMATS.md; ARMv6-M Architecture Reference Manual, A6.7).
 ///
-/// A fault comes in this order: Unaligned, Access at the first byte in order of transfer that lacks
-/// its right, State, Breakpoint. A fault and a system call leave processor and bus as they are; the
-/// kernel moves PC past a system call.
+/// Faults are tested in this order: Unaligned, Access at the first byte in order of transfer that
+/// lacks its right, State, Breakpoint. A fault and a system call do not change processor and bus;
+/// the kernel moves PC past a system call.
 #[tactic(auto, using(thumb_insn::proofs::InRange::coded_in_range))]
 #[inline(never)]
 pub fn exec<B: Bus>(cpu: &mut Cpu, insn: &Insn, bus: &mut B) -> Outcome
@@ -415,8 +415,8 @@ pub fn exec<B: Bus>(cpu: &mut Cpu, insn: &Insn, bus: &mut B) -> Outcome
     step(cpu, *insn, bus)
 }
 
-/// Executes an instruction at PC, one that some code means, as `exec` does, where it goes on. Where
-/// it is a system call or faults nothing changes, and the answer is false.
+/// Executes an instruction at PC that has a code, as `exec` does, if it goes on. If it is a system
+/// call or faults, nothing changes and the answer is false.
 #[tactic(auto, using(thumb_insn::proofs::InRange::coded_in_range, crate::proofs::Acting::acts_halted))]
 #[inline(always)]
 pub fn proceed<B: Bus>(cpu: &mut Cpu, insn: &Insn, bus: &mut B) -> bool
