@@ -1,7 +1,6 @@
--- The command line: what `clap` is told, which words it then takes, and what they ask for.
--- docs/FORMATS.md, Command line. How a definition reads words is the crate `clap`'s own: its
--- specs/Simple.antt (what building adds), specs/Walk.antt (the walk over the words) and
--- specs/Faults.antt (what is refused).
+-- The command line: the definition for `clap`, which words it accepts, and what they ask for.
+-- docs/FORMATS.md, Command line. The crate `clap` defines how a definition reads words: its specs/Simple.antt
+-- (what building adds), specs/Walk.antt (the walk over the words) and specs/Faults.antt (what is refused).
 use Rattle.std.specs.Prelude.{ℕ, Bool, ◌&&◌, pos, true, false, List, [], ◌∷◌, Option, Some, None, codes, unwrap_or, is_some, option_map, option_and_then, find, map}
 use Rattle.std.specs.Str.{bytes_eq}
 use Rattle.std.specs.Str.Parse.{digits_value, without_leading_plus}
@@ -60,7 +59,8 @@ flag_rule name = record (new_rule name) { long = Some name; action = Some SetTru
 
 -- ---- what clap finds
 
--- What it found for an id. The defaults never show in words that are accepted (specs/Required.antt).
+-- What clap found for an id. The default values here are never used for words that are accepted
+-- (specs/Required.antt).
 abbrev pub text_in : Text → List Row → Text
 text_in id rows = unwrap_or (first_of id rows) []
 
@@ -124,8 +124,8 @@ build_form = record {
   asks = λ rows. Some (build (text_in (codes "app") rows) (text_in (codes "out") rows));
 }
 
--- what a command that runs something asks for: of which subject, with which script, for how many turns
--- at most, in which detail
+-- what a command that runs something asks for, given its subject, its script, the largest number of turns,
+-- and the detail
 abbrev pub Running : Type 0
 Running = Text → Text → ℕ → Detail → Asked
 
@@ -264,7 +264,7 @@ named_in known word = option_map (λ c. c.1) (find (λ c. bytes_eq word c.0) kno
 abbrev pub command_by : Text → Option CommandName
 command_by word = named_in commands word
 
--- what `help` with this word behind it, or with none, asks for: nothing where the word names no command
+-- what `help` with this word, or without one, asks for: nothing if the word names no command
 abbrev pub help_on : Option Text → Option Asked
 help_on None = Some (help None)
 help_on (Some word) = option_map (λ c. help (Some c)) (command_by word)
@@ -309,11 +309,12 @@ shape_of_form form = record (new_shape form.name) { rules = form.rules }
 abbrev pub app_of_form : Form → App
 app_of_form form = record { top = shape_of_form form; subs = [] }
 
--- `hubris` before its commands are added, of which one is wanted; `help` is its own, and not clap's
+-- `hubris` before its commands are added, one of which is required; `help` is a command of the program, not
+-- that of clap
 abbrev pub bare_app : App
 bare_app = record { top = record (new_shape (codes "hubris")) { subcommand_required = true; disable_help_subcommand = true }; subs = [] }
 
--- `hubris`, of which one command is wanted
+-- `hubris`, with its commands, one of which is required
 abbrev pub hubris_app : App
 hubris_app = record {
   top = record (new_shape (codes "hubris")) { is_leaf = false; subcommand_required = true; disable_help_subcommand = true };
@@ -328,7 +329,7 @@ has_none (kind ∷ more) = false
 abbrev pub asked_by : Text → List Row → Option Asked
 asked_by name rows = option_and_then (λ form. form.asks rows) (find (λ form. bytes_eq form.name name) forms)
 
--- what the words ask for, where they are accepted
+-- what the words ask for, if they are accepted
 abbrev pub job_of : List Text → Option Asked
 job_of words = option_and_then (λ p. asked_by p.0 p.1) (subcommand_of hubris_app words)
 
