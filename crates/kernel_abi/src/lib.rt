@@ -332,8 +332,7 @@ pub enum Note {
         line: u8,
         handled: Handled,
     },
-    /// Bits were posted to a task. The second value has all its posted bits after that, before it
-    /// took any.
+    /// Bits were posted to a task. `posted` has all its posted bits after that, before it took any.
     Post {
         task: u16,
         bits: u32,
