@@ -7,8 +7,8 @@ use Rattle.run_script.specs.declared.events.Event.TheVariants.{Tick, Irq, Feed}
 use Rattle.run_script.specs.Quotes.{before_text, bytes_of, text_from}
 use Rattle.run_script.specs.Words.{is_allowed, words}
 
--- what a line says: nothing, a period, or the script with these events, the first one in a given turn and
--- each further one `step` turns later
+-- what a line says: nothing, a period, or events, the first one in a given turn and each further one a number
+-- of turns later
 pub data Said : Type 0 where
   Nothing : Said
   Every : ℕ → Said
