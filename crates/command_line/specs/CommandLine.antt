@@ -75,18 +75,17 @@ number_in id rows = number_of (unwrap_or (one_of id rows) [])
 
 -- ---- the commands
 
--- What the program may be asked for: to build an application, and the name of the image; a run of an
--- image with a script, for so many turns at most, and in which detail it is told; the same of an
--- application; a list of an image; a run of the sample of a seed for so many turns at most, of which the
--- notes are counted; to write an image in the form of today, and the name of that file; whether a trace
--- holds together; the state of a run of an image with a script after so many turns at most, and the name of that
--- file; the run of an image with a script from the state in a file, up to so many turns, and in which detail it is
--- told; the commands in a file, carried out over the run of an image with a script; how often such a run executes each
--- instruction, or one of an application, with the labels of its sources; how such runs end into which the events of a further script
--- come, from each turn of a range on, and whether with the memory; such a run as events for a viewer, with the names of an application
--- or without; the lines of a file, carried out over such a run as they come; such a run as a picture, and the name of that file;
--- how often the run of an application with a script executes each line of its sources, and the name of that file; what the commands
--- are, or what one of them takes and answers.
+-- What the program may be asked for, with the values of each command. Runs have at most the given number of turns.
+-- Build an application, and write the image to a file. Run an image with a script, in some detail. Do the same with
+-- an application. List an image. Run the sample of a seed, and count its notes. Write an image in the form in which
+-- images are built, to a file. Check whether a trace can be that of a whole run. Save the state of a run of an image
+-- with a script to a file. Resume a run of an image with a script from the state in a file, up to a turn, in some
+-- detail. Carry out the commands in a file over a run. Count how often a run executes each instruction; with labels,
+-- the run is that of an application. Say how runs end in which the events of another script come too, from each turn
+-- of a range on, and whether with the memory. Write a run as events for a viewer, with the names of an application or
+-- without. Carry out the lines of a file over a run as they come. Draw a run as a picture in a file, with the names
+-- of an application or without. Write to a file how often a run of an application executes each line of its sources.
+-- Say what the commands are, or what one of them takes and answers.
 pub data Asked : Type 0 where
   build : Text → Text → Asked
   run : Text → Text → ℕ → Detail → Asked

@@ -111,8 +111,8 @@ pub enum Job<'a> {
         labels: bool,
     },
     /// Say how the run of IMAGE with SCRIPT ends in at most `steps` turns if the events of ARRIVAL
-    /// come too, for each arrival time that is at least `from` and below `to`; `mem` says whether
-    /// with its memory.
+    /// come too, for each arrival time that is at least `from` and below `to`; `memory` says
+    /// whether with its memory.
     Sweep {
         image: &'a str,
         script: &'a str,
