@@ -166,7 +166,7 @@ pub record AreSaneDevices (ds : List DeviceData) : Type 0 where
   pub sane : (d : DeviceData) → Contains ds d → IsSaneDevice d
   pub apart : (j k : ℕ) → j < k → k < length ds → (device_at ds j).base ≢ (device_at ds k).base
 
--- a device that has had no store and no byte from outside
+-- a device whose count is 0 and whose queue is empty, as before anything comes to it
 pub record IsFresh (d : DeviceData) : Type 0 where
   pub place : IsDevicePlace d.base
   pub none : d.count ≡ 0
