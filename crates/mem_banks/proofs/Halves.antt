@@ -1,4 +1,4 @@
--- Banks that stand in the two parts of their list, from which one each is changed.
+-- A list of banks in two parts, of each of which one bank is changed.
 use Rattle.std.proofs.Common.{ℕ, ◌≡◌, ◌≢◌, ◌<◌, ◌-◌, ◌++◌, List, [], Option, Some, None, length, get_or, set, refl, ap, sym, subst, ◌∙◌, arith, length-take, length-drop}
 use Rattle.std.proofs.lemmas.List.{get_or_default, get_or-set_same, get_or-set_other, set-set, set_comm, get_or_append_left, get_or-append_right, set-append_left, set-append_right, length-append, length-set, same_lists, places, nil_from_length}
 use Rattle.mem_banks.specs.declared.bank.Bank.{Bank}

@@ -1,4 +1,4 @@
--- What a window of four banks makes of the memory.
+-- What the memory is after a window of four banks.
 use Rattle.std.proofs.Common.{ℕ, zero, suc, ◌≡◌, ◌≢◌, ◌<◌, ◌≤◌, ◌+◌, ◌⊎◌, inl, inr, Bool, true, false, ◌&&◌, eqb, rules, leb, List, [], ◌∷◌, Option, Some, None, length, take, drop, get_or, Contains, refl, ap, sym, ◌∙◌, subst, arith, length-take, length-drop}
 use Rattle.std.proofs.lemmas.Bool.{le-leb, lt-leb, cases_lt}
 use Rattle.std.proofs.lemmas.List.{length-append, same_lists, places, nil_from_length}

@@ -2,7 +2,7 @@
 use Rattle.std.specs.Prelude.{◌≡◌, ◌⊎◌, ℕ, ◌+◌, ◌-◌, ◌^◌, ◌<◌, ◌≤◌, min, List, ◌++◌, length, take, drop, Option, Some, Result, MatchResult, OnErr}
 use Rattle.std.specs.Io.KnownBytes.{Appends}
 
--- where an object shows a value, it has P
+-- if an object shows a value, the value has P
 abbrev pub WhereSeen : {T : Type 0} → Option T → (T → Type 0) → Type 0
 WhereSeen {T} contents P = (value : T) → contents ≡ Some value → P value
 
@@ -14,12 +14,12 @@ raised count by = min (count + by) (2 ^ 64 - 1)
 abbrev pub Rose : ℕ → ℕ → Type 0
 Rose before now = raised before 1 ≤ now
 
--- a failure is answered only where the count of faults rose, and the count doesn't fall
+-- a failure is returned only if the count of faults rose, and the count does not fall
 pub record HasCause {T E : Type 0} (before now : ℕ) (result : Result T E) : Type 0 where
   pub later : before ≤ now
   pub failed : OnErr result (Rose before now)
 
--- the count rises by one at a failure, and stays else
+-- the count rises by one at a failure, and otherwise stays
 abbrev pub CountsFailure : {T E : Type 0} → ℕ → ℕ → Result T E → Type 0
 CountsFailure before now result = MatchResult result (λ _. now ≡ before) (λ _. now ≡ raised before 1)
 

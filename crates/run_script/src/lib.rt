@@ -1,4 +1,4 @@
-//! The script of what happens from outside: its text read, and the events of each turn.
+//! The script of what happens from outside: reads its text, and gives the events of each turn.
 //! docs/FORMATS.md, Script, has the grammar and the table of causes.
 #![tactic(auto)]
 

@@ -22,7 +22,7 @@ pub(crate) enum Statement {
     Every {
         period: u32,
     },
-    /// `at T ..`, an event once, and `from A every P to B ..`.
+    /// `at T ..`, which is an event once, or `from A every P to B ..`.
     Repeats {
         first: u32,
         step: u32,
@@ -42,7 +42,8 @@ pub(crate) enum Statement {
     },
 }
 
-/// A decimal number of one to ten digits, from `low` to `top`; `None` where the word is none.
+/// A decimal number of one to ten digits, from `low` to `top`; `None` if the word is no such
+/// number.
 #[tactic(auto, using(crate::proofs::Numbers::number_below))]
 pub fn number_within(word: &[u8], low: u32, top: u32) -> Option<u32>
     ensures value { result ≡ number_within low top word.now }
@@ -222,7 +223,7 @@ fn once(turn: Option<u32>, event: Result<Event, u8>) -> Statement
     }
 }
 
-/// An event from a turn on, up to another.
+/// An event every `step` turns from turn `first` on, up to turn `last`.
 fn repeats(first: u32, step: u32, last: u32, event: Event) -> Statement
     requires some { 0 < step }
     requires step { step ≤ 1000000000 }
@@ -264,7 +265,7 @@ fn again(
     }
 }
 
-/// Whether the turn so many steps further on is one of a run.
+/// Whether the turn that is this many steps after the first one is a turn of a run.
 fn is_in_time(first: u32, step: u32, steps: usize) -> bool
     ensures { result ≡ nat_le (first + steps * step) 999999999 }
 {
@@ -470,7 +471,7 @@ pub fn starts_by_hash(word: &[u8]) -> bool
     }
 }
 
-/// What the words of a line say that has no text.
+/// What the words of a line without a text say.
 fn words_said(line: &[u8]) -> Statement
     ensures value { said result ≡ words_said (words line.now) }
     ensures known { IsKnown result }
@@ -491,7 +492,7 @@ fn words_said(line: &[u8]) -> Statement
     }
 }
 
-/// What a line says of which a text is the end.
+/// What a line that ends in a text says.
 fn text_said(alloc: Global, before: &[u8], text: &[u8]) -> Result<Statement, AllocError>
     requires { 0 < length text.now }
     ensures value { IfOk result (λ s. said s ≡ text_said (words before.now) text.now) }
@@ -511,7 +512,7 @@ fn text_said(alloc: Global, before: &[u8], text: &[u8]) -> Result<Statement, All
     }
 }
 
-/// What a line says, by what stands before its text and the text, which may be empty.
+/// What a line says, given the part before its text, and the text, which may be empty.
 fn line_said(alloc: Global, before: &[u8], text: &[u8]) -> Result<Statement, AllocError>
     ensures value { IfOk result (λ s. said s ≡ line_said (words before.now) text.now) }
     ensures known { IfOk result IsKnown }
