@@ -2,7 +2,7 @@ use Rattle.std.proofs.Common.{◌∙◌, ap, sym, arith}
 use Rattle.run_script.specs.Statements.{from_said}
 use Rattle.run_script.specs.Words.{words}
 use Rattle.run_script.proofs.Wording.{five_words}
-use Rattle.run_script.proofs.statement.from_said.Goals as goal
+use Rattle.run_script.proofs.forms.from_said.Goals as goal
 
 pub returns-else-is_empty-clause-value : goal.returns-else-is_empty-clause-value
 returns-else-is_empty-clause-value c =

@@ -4,7 +4,7 @@ use Rattle.run_script.specs.Drafts.{said}
 use Rattle.run_script.specs.Statements.{from_text_said}
 use Rattle.run_script.specs.Words.{words}
 use Rattle.run_script.proofs.Wording.{empty, five_words, no_more, not_empty}
-use Rattle.run_script.proofs.statement.from_text_said.Goals as goal
+use Rattle.run_script.proofs.forms.from_text_said.Goals as goal
 
 pub returns-then-is_empty-2-clause-value : goal.returns-then-is_empty-2-clause-value
 returns-then-is_empty-2-clause-value c =
