@@ -99,6 +99,15 @@ IsOne banks None = Unit {0}
 abbrev pub AreUsual : List Bank → ℕ → ℕ → ℕ × ℕ → ℕ × ℕ → ℕ × ℕ → ℕ × ℕ → Type 0
 AreUsual banks i j flash ram area second = (i < j) × IsBankOf banks i flash × IsPlaceOf banks (Some j) ram × IsNoRegion area × IsNoRegion second
 
+-- a bank after another one, or none
+abbrev pub IsBehind : ℕ → Option ℕ → Type 0
+IsBehind i None = Unit {0}
+IsBehind i (Some j) = i < j
+
+-- banks in this order: that of a region of code, and those of three regions of the RAM, of which the last one may be none
+abbrev pub AreRising : List Bank → ℕ → ℕ → ℕ → Option ℕ → ℕ × ℕ → ℕ × ℕ → ℕ × ℕ → ℕ × ℕ → Type 0
+AreRising banks i j k l flash ram area second = (i < j) × (j < k) × IsBehind k l × IsBankOf banks i flash × IsPlaceOf banks (Some j) ram × IsPlaceOf banks (Some k) area × IsPlaceOf banks l second
+
 -- the bytes of a bank, or none; the banks after all bytes of a bank are written
 abbrev pub bytes_in : List Bank → Option ℕ → Bank → List ℕ
 bytes_in banks (Some k) d = (slice_index_or banks k d).bytes.items

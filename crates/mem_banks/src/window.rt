@@ -2,7 +2,7 @@
 
 ghost use Rattle.std.specs.Prelude.{◌≡◌, ◌<◌, ℕ, List, IfSome, IfNone, length, Some, None, true, false};
 ghost use Rattle.mem_banks.specs.Kept.{AreKept};
-ghost use Rattle.mem_banks.specs.Windows.{AreOpened, AreOpenedBeside, AreAllOpened, AreUsual, IsBankOf, HasNoBank, IsPlaceOf, HasNoPlace, AreTwo, IsOne};
+ghost use Rattle.mem_banks.specs.Windows.{AreOpened, AreOpenedBeside, AreAllOpened, AreUsual, IsBankOf, HasNoBank, IsPlaceOf, HasNoPlace, AreTwo, IsOne, AreRising, IsBehind};
 
 use crate::bank::{Bank, find, page};
 use crate::{Memory, RAM};
@@ -348,6 +348,136 @@ fn open_usual<B: WindowUser>(
     open_in_order(banks, flash, ram, &mut none, &mut no_second, user);
 }
 
+/// The bank of a region of the RAM, if the table names it and it comes after the bank `before`.
+#[inline(always)]
+fn bank_behind(banks: &[Bank], table: &[u16], region: (u32, u32), before: usize) -> Option<usize>
+    requires { AreKept table.now banks.now }
+    ensures { IfSome result (λ k. (before < k) × IsPlaceOf banks.now (Some k) region) }
+{
+    if region.0 < RAM || region.1 == 0 {
+        return None;
+    }
+    let k = table[page(region.0)] as usize;
+    if before < k && is_bank_of(&banks[k], region) {
+        return Some(k);
+    }
+    None
+}
+
+/// The banks of a region of code, of two regions of the RAM and of a third one, if there is one.
+/// The table names each of these banks, and they are in this order, as those of most tasks with
+/// areas.
+#[inline(always)]
+fn rising_banks(
+    banks: &[Bank],
+    table: &[u16],
+    flash: (u32, u32),
+    ram: (u32, u32),
+    area: (u32, u32),
+    second: (u32, u32),
+) -> Option<(usize, usize, usize, Option<usize>)>
+    requires { AreKept table.now banks.now }
+    ensures { IfSome result (λ p. AreRising banks.now p.0 p.1 p.2 p.3 flash ram area second) }
+{
+    let code = table[page(flash.0)] as usize;
+    if !is_bank_of(&banks[code], flash) {
+        return None;
+    }
+    let data = bank_behind(banks, table, ram, code)?;
+    let more = bank_behind(banks, table, area, data)?;
+    if second == (RAM, 0) {
+        return Some((code, data, more, None));
+    }
+    let last = bank_behind(banks, table, second, more)?;
+    Some((code, data, more, Some(last)))
+}
+
+/// Opens the bytes of three banks that lie in this order, beside those of a second area.
+#[inline(always)]
+fn open_three<B: WindowUser>(
+    banks: &mut [Bank],
+    flash: usize,
+    ram: usize,
+    area: usize,
+    second: &mut Vec<u8>,
+    user: &mut B,
+)
+    requires there { area < length banks.old }
+    requires area { ram < area }
+    requires ram { flash < ram }
+    ensures { AreOpenedBeside B.did banks.old flash (Some ram) (Some area) second.old.items user.old
+        user.new banks.new second.new.items }
+{
+    let (front, back) = banks.split_at_mut(area);
+    open_in_order(front, flash, ram, &mut back[0].bytes, second, user);
+}
+
+/// Opens the bytes of four banks that lie in this order.
+#[inline(always)]
+fn open_four<B: WindowUser>(
+    banks: &mut [Bank],
+    flash: usize,
+    ram: usize,
+    area: usize,
+    second: usize,
+    user: &mut B,
+)
+    requires there { second < length banks.old }
+    requires second { area < second }
+    requires area { ram < area }
+    requires ram { flash < ram }
+    ensures { AreAllOpened B.did banks.old flash (Some ram) (Some area) (Some second) user.old
+        user.new banks.new }
+{
+    let (front, back) = banks.split_at_mut(second);
+    open_three(front, flash, ram, area, &mut back[0].bytes, user);
+}
+
+/// Opens the bytes of three banks that lie in this order, and no second area.
+#[inline(always)]
+fn open_three_alone<B: WindowUser>(
+    banks: &mut [Bank],
+    flash: usize,
+    ram: usize,
+    area: usize,
+    alloc: Global,
+    user: &mut B,
+)
+    requires there { area < length banks.old }
+    requires area { ram < area }
+    requires ram { flash < ram }
+    ensures { AreAllOpened B.did banks.old flash (Some ram) (Some area) None user.old user.new
+        banks.new }
+{
+    let mut none = Vec::new(alloc);
+    open_three(banks, flash, ram, area, &mut none, user);
+}
+
+/// Opens the bytes of three or four banks that lie in this order.
+#[inline(always)]
+fn open_rising<B: WindowUser>(
+    banks: &mut [Bank],
+    flash: usize,
+    ram: usize,
+    area: usize,
+    second: Option<usize>,
+    alloc: Global,
+    user: &mut B,
+)
+    requires area_there { area < length banks.old }
+    requires there { IsOne banks.old second }
+    requires second { IsBehind area second }
+    requires area { ram < area }
+    requires ram { flash < ram }
+    ensures { AreAllOpened B.did banks.old flash (Some ram) (Some area) second user.old user.new
+        banks.new }
+{
+    match second {
+        Some(k) => open_four(banks, flash, ram, area, k, user),
+        None => open_three_alone(banks, flash, ram, area, alloc, user),
+    }
+}
+
 impl Memory {
     ghost use Rattle.mem_banks.specs.Windows.{IsOpened, AreGiven};
 
@@ -390,6 +520,38 @@ impl Memory {
         true
     }
 
+    /// As `open_window`, for a task with areas. Most tasks have none, so this is a function of its
+    /// own.
+    #[inline(never)]
+    fn open_with_areas<B: WindowUser>(
+        &mut self,
+        flash: (u32, u32),
+        ram: (u32, u32),
+        area: (u32, u32),
+        second: (u32, u32),
+        user: &mut B,
+    ) -> bool
+        ensures opened { result ≡ true →
+            IsOpened B.did self.old.bytes flash ram area second user.old user.new self.new.bytes }
+        ensures given { AreGiven self.old.regions flash ram area second → result ≡ true }
+        ensures regions { self.new.regions ≡ self.old.regions }
+        ensures kept { result ≡ false → self.new ≡ self.old }
+        ensures left { result ≡ false → user.new ≡ user.old }
+    {
+        if let Some((code, data, more, last)) = rising_banks(
+            &self.banks,
+            &self.table,
+            flash,
+            ram,
+            area,
+            second,
+        ) {
+            open_rising(&mut self.banks, code, data, more, last, self.alloc, user);
+            return true;
+        }
+        self.open_any(flash, ram, area, second, user)
+    }
+
     /// Opens the bytes of four regions, given by base and size, and returns true. Each region needs
     /// a bank of its own. All but the first one have to lie in the RAM, or to have no bytes and
     /// begin where the RAM begins. Otherwise nothing changes, and the result is false. Regions that
@@ -421,6 +583,6 @@ impl Memory {
             open_usual(&mut self.banks, code, data, self.alloc, user);
             return true;
         }
-        self.open_any(flash, ram, area, second, user)
+        self.open_with_areas(flash, ram, area, second, user)
     }
 }

@@ -1,5 +1,5 @@
 //! Instructions that do not access memory.
-ghost use Rattle.std.specs.Prelude.{◌≡◌, ◌<◌, [], true};
+ghost use Rattle.std.specs.Prelude.{◌≡◌, ◌<◌, [], false, true};
 ghost use Rattle.thumb_exec.specs.Effect.{Next, go_past, put, get, with_flags, nz, nzc, data_effect, sum_to, tested, FollowsSum};
 ghost use Rattle.words_core.specs.Words.{awc, complement};
 
@@ -42,7 +42,7 @@ pub fn set(cpu: &mut Cpu, d: Reg, value: u32, n: u32)
     go_past(cpu, n);
 }
 
-/// Sets the flags of a sum. N and Z are those of its value.
+/// Sets the flags of a sum with a carry. N and Z are those of its value.
 #[inline(always)]
 fn set_flags(cpu: &mut Cpu, sum: (u32, Flags))
     requires { FollowsSum sum }
@@ -51,6 +51,29 @@ fn set_flags(cpu: &mut Cpu, sum: (u32, Flags))
     cpu.flags.follow(sum.0);
     cpu.flags.set_c(sum.1.c);
     cpu.flags.set_v(sum.1.v);
+}
+
+/// Sets the flags of a sum of two words. The sum minus the second word overflows if the sum of the
+/// two words does.
+#[inline(always)]
+fn set_sum(cpu: &mut Cpu, x: u32, y: u32)
+    ensures { cpu.new ≡ with_flags cpu.old (awc x y false).1 }
+{
+    let (value, flags) = add(x, y);
+    cpu.flags.follow(value);
+    cpu.flags.set_c(flags.c);
+    cpu.flags.follow_difference(value, y);
+}
+
+/// Sets the flags of a difference.
+#[inline(always)]
+fn set_difference(cpu: &mut Cpu, x: u32, y: u32)
+    ensures { cpu.new ≡ with_flags cpu.old (awc x (complement y) true).1 }
+{
+    let (value, flags) = subtract(x, y);
+    cpu.flags.follow(value);
+    cpu.flags.set_c(flags.c);
+    cpu.flags.follow_difference(x, y);
 }
 
 /// Sets N and Z from the result. C and V do not change: for speed they are neither read nor
@@ -103,12 +126,41 @@ pub fn finish_sum(cpu: &mut Cpu, d: Reg, sum: (u32, Flags))
     go_past(cpu, 2);
 }
 
-/// Sets only the flags of a sum, and goes on.
-pub fn finish_test(cpu: &mut Cpu, sum: (u32, Flags))
-    requires { FollowsSum sum }
-    ensures { tested cpu.old sum.1 ≡ Next cpu.new [] }
+/// Writes a sum of two words with its flags, and goes on.
+#[inline(always)]
+pub fn finish_add(cpu: &mut Cpu, d: Reg, x: u32, y: u32)
+    requires { d.number < 16 }
+    ensures { sum_to cpu.old d (awc x y false) ≡ Next cpu.new [] }
 {
-    set_flags(cpu, sum);
+    set_sum(cpu, x, y);
+    set(cpu, d, x.wrapping_add(y), 2);
+}
+
+/// Writes a difference with its flags, and goes on.
+#[inline(always)]
+pub fn finish_subtract(cpu: &mut Cpu, d: Reg, x: u32, y: u32)
+    requires { d.number < 16 }
+    ensures { sum_to cpu.old d (awc x (complement y) true) ≡ Next cpu.new [] }
+{
+    set_difference(cpu, x, y);
+    set(cpu, d, x.wrapping_sub(y), 2);
+}
+
+/// Sets only the flags of a sum, and goes on.
+#[inline(always)]
+fn test_sum(cpu: &mut Cpu, x: u32, y: u32)
+    ensures { tested cpu.old (awc x y false).1 ≡ Next cpu.new [] }
+{
+    set_sum(cpu, x, y);
+    go_past(cpu, 2);
+}
+
+/// Sets only the flags of a difference, and goes on.
+#[inline(always)]
+fn test_difference(cpu: &mut Cpu, x: u32, y: u32)
+    ensures { tested cpu.old (awc x (complement y) true).1 ≡ Next cpu.new [] }
+{
+    set_difference(cpu, x, y);
     go_past(cpu, 2);
 }
 
@@ -117,7 +169,8 @@ pub fn compare(cpu: &mut Cpu, n: Reg, y: u32)
     requires { n.number < 16 }
     ensures { tested cpu.old (awc (get cpu.old n) (complement y) true).1 ≡ Next cpu.new [] }
 {
-    finish_test(cpu, subtract(get(cpu, n), y));
+    let x = get(cpu, n);
+    test_difference(cpu, x, y);
 }
 
 /// Does an operation on two low registers, and goes on.
@@ -139,9 +192,9 @@ pub fn data(cpu: &mut Cpu, op: Op, d: Reg, m: Reg)
         Op::Adcs => finish_sum(cpu, d, add_with_carry(x, y, carry(cpu))),
         Op::Sbcs => finish_sum(cpu, d, add_with_carry(x, !y, carry(cpu))),
         Op::Rors => finish_nzc(cpu, d, ror(x, by, carry(cpu))),
-        Op::Rsbs => finish_sum(cpu, d, subtract(0, y)),
-        Op::Cmp => finish_test(cpu, subtract(x, y)),
-        Op::Cmn => finish_test(cpu, add(x, y)),
+        Op::Rsbs => finish_subtract(cpu, d, 0, y),
+        Op::Cmp => test_difference(cpu, x, y),
+        Op::Cmn => test_sum(cpu, x, y),
         Op::Orrs => finish_nz(cpu, d, x | y),
         Op::Muls => finish_nz(cpu, d, x.wrapping_mul(y)),
         Op::Bics => finish_nz(cpu, d, x & !y),

@@ -1,12 +1,13 @@
 //! The flags, as the processor keeps them.
-ghost use Rattle.std.specs.Prelude.{◌≡◌};
-ghost use Rattle.words_core.specs.Words.{negative, is_zero};
+ghost use Rattle.std.specs.Prelude.{◌≡◌, true};
+ghost use Rattle.words_core.specs.Words.{negative, is_zero, awc, complement};
 
 use std::marker::Model;
-use words_core::Flags;
+use words_core::{Flags, subtract};
 
-/// The four condition flags. For speed N and Z are kept as the results that they come from: most of
-/// them are never read, and keeping a result is less work than testing it.
+/// The four condition flags. For speed N and Z are kept as the results that they come from, and V
+/// as the two words of a difference: most of them are never read, and keeping a word is less work
+/// than testing it.
 #[derive(Drop)]
 pub struct LazyFlags {
     // N is the sign of this result
@@ -14,16 +15,19 @@ pub struct LazyFlags {
     // Z is whether this result is 0
     zero: u32,
     c: bool,
-    v: bool,
+    // V is whether the first of these less the second overflows, as signed words
+    left: u32,
+    right: u32,
 }
 
 impl Model for LazyFlags {
-    ghost use Rattle.words_core.specs.Words.{negative, is_zero};
+    ghost use Rattle.std.specs.Prelude.{true};
+    ghost use Rattle.words_core.specs.Words.{negative, is_zero, awc, complement};
     ghost use Rattle.words_core.specs.declared.Flags.{Flags as Told};
 
     ghost Value = { Told };
 
-    ghost view = { λ f. record { n = negative f.sign; z = is_zero f.zero; c = f.c; v = f.v } };
+    ghost view = { λ f. record { n = negative f.sign; z = is_zero f.zero; c = f.c; v = (awc f.left (complement f.right) true).1.v } };
 }
 
 impl LazyFlags {
@@ -36,7 +40,8 @@ impl LazyFlags {
             sign: if flags.n { 0x8000_0000 } else { 0 },
             zero: if flags.z { 0 } else { 1 },
             c: flags.c,
-            v: flags.v,
+            left: if flags.v { 0x8000_0000 } else { 0 },
+            right: if flags.v { 1 } else { 0 },
         }
     }
 
@@ -49,7 +54,8 @@ impl LazyFlags {
             sign: self.sign,
             zero: self.zero,
             c: self.c,
-            v: self.v,
+            left: self.left,
+            right: self.right,
         }
     }
 
@@ -62,7 +68,7 @@ impl LazyFlags {
             n: self.n(),
             z: self.z(),
             c: self.c,
-            v: self.v,
+            v: self.v(),
         }
     }
 
@@ -95,7 +101,7 @@ impl LazyFlags {
     pub fn v(&self) -> bool
         ensures { result ≡ self.now.v }
     {
-        self.v
+        subtract(self.left, self.right).1.v
     }
 
     /// Sets N and Z from a result (`APSR.N`, `APSR.Z`; A6.7). C and V do not change: they are
@@ -121,6 +127,16 @@ impl LazyFlags {
     pub fn set_v(&mut self, v: bool)
         ensures { self.new ≡ record self.old { v = v } }
     {
-        self.v = v;
+        self.left = if v { 0x8000_0000 } else { 0 };
+        self.right = if v { 1 } else { 0 };
+    }
+
+    /// Sets V to the overflow of a difference of two words, which are kept.
+    #[inline(always)]
+    pub fn follow_difference(&mut self, x: u32, y: u32)
+        ensures { self.new ≡ record self.old { v = (awc x (complement y) true).1.v } }
+    {
+        self.left = x;
+        self.right = y;
     }
 }

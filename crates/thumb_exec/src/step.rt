@@ -1,11 +1,13 @@
 //! One instruction, by the rows of the table. One function executes each family of instructions.
 ghost use Rattle.std.specs.Prelude.{◌≡◌, ◌<◌, [], true, false};
-ghost use Rattle.thumb_exec.specs.Effect.{Acts, Effects, Halts, Next, Refusals, Contents, effect, load_effect, store_effect, store_all, sum_to, put, go_past, shifted, sum, get, FollowsSum};
+ghost use Rattle.thumb_exec.specs.Effect.{Acts, Effects, Halts, Next, Refusals, Contents, effect, load_effect, store_effect, store_all, sum_to, put, go_past, shifted, sum, get};
 ghost use Rattle.thumb_exec.specs.declared.cpu.Outcome.TheVariants as outcome;
 ghost use Rattle.thumb_exec.specs.Families.{IsSum, IsData, IsAddress, IsBranch, IsJump, IsSystem, IsLoad, IsStore, IsStoreAll, IsRest};
 ghost use Rattle.thumb_insn.specs.Range.{InRange, IsCoded};
 
-use crate::arith::{carry, compare, data, finish_nz, finish_nzc, finish_sum, get, go_past, set};
+use crate::arith::{
+    carry, compare, data, finish_add, finish_nz, finish_nzc, finish_subtract, get, go_past, set,
+};
 use crate::bus::Bus;
 use crate::control::{
     base, branch_to, change, flags_of, flags_word, holds, link, link_to, operand, put_any, target,
@@ -16,7 +18,7 @@ use crate::memory::{load, store};
 use crate::several::{count_of, ldm, mask_of, pop, store_all};
 use kernel_abi::Fault;
 use thumb_insn::{Insn, Load, Reg, Shift, Size};
-use words_core::{Flags, PROGRAM_COUNTER, STACK_POINTER, add, asr, lsl, lsr, subtract};
+use words_core::{PROGRAM_COUNTER, STACK_POINTER, asr, lsl, lsr};
 
 /// SP, as a register of an instruction.
 const SP: Reg = Reg {
@@ -35,29 +37,8 @@ fn shift(by: Shift, x: u32, n: u8, c: bool) -> (u32, bool)
     }
 }
 
-/// A sum or a difference with its flags, and the register that it goes to.
-#[tactic(auto, unfolding(crate::specs::Effect::effect))]
-#[inline(always)]
-fn adding(cpu: &Cpu, insn: Insn) -> (Reg, (u32, Flags))
-    requires family { IsSum insn }
-    requires range { InRange insn }
-    ensures effect { (refuses : Refusals) (holds : Contents) →
-        effect refuses holds cpu.now insn ≡ sum_to cpu.now result.0 result.1 }
-    ensures register { result.0.number < 16 }
-    ensures follows { FollowsSum result.1 }
-{
-    match insn {
-        Insn::AddsReg { d, n, m } => (d, add(get(cpu, n), get(cpu, m))),
-        Insn::SubsReg { d, n, m } => (d, subtract(get(cpu, n), get(cpu, m))),
-        Insn::AddsImm3 { d, n, value } => (d, add(get(cpu, n), value)),
-        Insn::SubsImm3 { d, n, value } => (d, subtract(get(cpu, n), value)),
-        Insn::AddsImm8 { d, value } => (d, add(get(cpu, d), value)),
-        Insn::SubsImm8 { d, value } => (d, subtract(get(cpu, d), value)),
-        _ => unreachable!(),
-    }
-}
-
 /// Sums and differences.
+#[tactic(auto, unfolding(crate::specs::Effect::effect))]
 #[inline(always)]
 fn sum(cpu: &mut Cpu, insn: Insn)
     requires family { IsSum insn }
@@ -65,8 +46,15 @@ fn sum(cpu: &mut Cpu, insn: Insn)
     ensures { (refuses : Refusals) (holds : Contents) →
         effect refuses holds cpu.old insn ≡ Next cpu.new [] }
 {
-    let (d, sum) = adding(cpu, insn);
-    finish_sum(cpu, d, sum);
+    match insn {
+        Insn::AddsReg { d, n, m } => finish_add(cpu, d, get(cpu, n), get(cpu, m)),
+        Insn::SubsReg { d, n, m } => finish_subtract(cpu, d, get(cpu, n), get(cpu, m)),
+        Insn::AddsImm3 { d, n, value } => finish_add(cpu, d, get(cpu, n), value),
+        Insn::SubsImm3 { d, n, value } => finish_subtract(cpu, d, get(cpu, n), value),
+        Insn::AddsImm8 { d, value } => finish_add(cpu, d, get(cpu, d), value),
+        Insn::SubsImm8 { d, value } => finish_subtract(cpu, d, get(cpu, d), value),
+        _ => unreachable!(),
+    }
 }
 
 /// Other operations on low registers, immediates or flags.
