@@ -5,6 +5,7 @@ ghost use Rattle.outside_io.specs.Outside.{CountsFailure, Gives, HasCause, Pushe
 ghost use Rattle.outside_io.specs.Host.{counts_of, out_of, faults_of};
 ghost use Rattle.outside_io.specs.Open.{IsNamed, StandsAt};
 
+use crate::replacing::put_file;
 use crate::{Failed, Files, Sink};
 use std::alloc::Global;
 use std::io::{Read, Seek, SeekFrom, Write};
@@ -144,8 +145,10 @@ impl<R: rt::Files + AllocGlobal> Files for HostFiles<R> {
         }
     }
 
-    /// Writes the whole of the bytes to the file at the path, which it makes or cuts first. What
-    /// was read last is let go before, so that a later read gives what was put.
+    /// Puts the whole of the bytes in the place of the file at the path, or fails and leaves what
+    /// was there. A link, a device or a pipe is written to instead, and may have taken a part of
+    /// the bytes at a failure. What was read last is let go before, so that a later read gives what
+    /// was put.
     fn put(&mut self, name: &str, bytes: &[u8]) -> Result<(), Failed>
         ensures cause { HasCause (counts_of self.old).put_faults (counts_of self.new).put_faults
             result }
@@ -157,7 +160,7 @@ impl<R: rt::Files + AllocGlobal> Files for HostFiles<R> {
             (counts_of self.new).put_faults result }
     {
         self.kept = None;
-        match fs::write(&self.rt, name, bytes) {
+        match put_file(&self.rt, name, bytes) {
             Ok(()) => Ok(()),
             Err(_) => {
                 self.put_faults = self.put_faults.saturating_add(1);

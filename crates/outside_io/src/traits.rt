@@ -26,8 +26,8 @@ pub trait Files {
         ensures contents { (seen self.new).contents ≡ (seen self.old).contents }
         ensures puts { (seen self.new).put_faults ≡ (seen self.old).put_faults };
 
-    /// Replaces the contents under a name. Fails only where it counts a failed put, and may then
-    /// leave the old contents or any front of the new ones. Other names stay.
+    /// Replaces the contents under a name. Fails only where it counts a failed put, and then leaves
+    /// the old contents. Other names stay.
     fn put(&mut self, name: &str, bytes: &[u8]) -> Result<(), Failed>
         ensures bytes { Puts ((seen self.old).contents name.now) ((seen self.new).contents name.now)
             bytes.now result }
