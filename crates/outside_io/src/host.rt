@@ -8,7 +8,8 @@ ghost use Rattle.outside_io.specs.Open.{IsNamed, StandsAt};
 use crate::replacing::put_file;
 use crate::{Failed, Files, Sink};
 use std::alloc::Global;
-use std::io::{Read, Seek, SeekFrom, Write};
+use std::io::{ErrorKind, Read, Seek, SeekFrom, Write};
+use std::os::unix::fs::{FileTypeExt, MetadataExt};
 use std::{fs, io, rt};
 
 // A file that is open for reads: its name, where there was memory for it, and the place where it
@@ -60,14 +61,23 @@ impl<F: Read + Seek> OpenFile<F> {
     }
 }
 
+// A pipe, by its device and its inode.
+#[derive(Clone, Copy, PartialEq, Eq)]
+struct Pipe {
+    dev: u64,
+    ino: u64,
+}
+
 /// The files of the machine, by path. The file that was read last stays open, so that reads which
-/// go on through a file open it once, and one that cannot be sought, as a pipe, can be read. Three
-/// counts of 64 bits stop at their end: one rises by one at each failed read, one at each failed
-/// put, and one by the bytes that each read gives.
+/// go on through a file open it once, and one that cannot be sought, as a pipe, can be read. A pipe
+/// is opened once, whatever its names, since what was read from it is gone. Three counts of 64 bits
+/// stop at their end: one rises by one at each failed read, one at each failed put, and one by the
+/// bytes that each read gives.
 #[derive(Drop)]
 pub struct HostFiles<R: rt::Files> {
     rt: R,
     kept: Option<OpenFile<R::File>>,
+    pipes: Vec<Pipe>,
     read_faults: u64,
     put_faults: u64,
     given: u64,
@@ -78,13 +88,36 @@ impl<R: rt::Files + AllocGlobal> HostFiles<R> {
     pub fn new(rt: R) -> Self
         ensures { counts_of result ≡ record { read_faults = 0; put_faults = 0; given = 0 } }
     {
+        let pipes = Vec::new(rt.alloc());
         HostFiles {
             rt,
             kept: None,
+            pipes,
             read_faults: 0,
             put_faults: 0,
             given: 0,
         }
+    }
+
+    // Remembers a pipe that is opened, and refuses one that was. Where there is no memory for it,
+    // it is not remembered.
+    fn pass_pipe(&mut self, name: &str) -> io::Result<()>
+        ensures kept { self.new.kept ≡ self.old.kept }
+        ensures counts { counts_of self.new ≡ counts_of self.old }
+    {
+        let metadata = fs::metadata(&self.rt, name)?;
+        if !metadata.file_type().is_fifo() {
+            return Ok(());
+        }
+        let pipe = Pipe {
+            dev: metadata.dev(),
+            ino: metadata.ino(),
+        };
+        if self.pipes.contains(&pipe) {
+            return Err(io::Error::from(ErrorKind::NotSeekable));
+        }
+        let _ = self.pipes.push(pipe);
+        Ok(())
     }
 
     // The file under a name: the one that was read last, where that is it, or else one that is
@@ -99,6 +132,7 @@ impl<R: rt::Files + AllocGlobal> HostFiles<R> {
                 return Ok(file);
             }
         }
+        self.pass_pipe(name)?;
         let file = fs::open(&self.rt, name)?;
         Ok(OpenFile::new(self.rt.alloc(), name, file))
     }
