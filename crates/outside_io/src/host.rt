@@ -1,4 +1,5 @@
-//! Real files and a real output. They show no contents and no failing name.
+//! Real files, which show no contents and no failing name, and a real output, which shows what its
+//! writer shows.
 ghost use Rattle.std.specs.Prelude.{◌≡◌, None, IfOk, IsSomeAnd, IsTrue, OnErr, Some, ◌≤◌, ◌+◌, length};
 ghost use Rattle.std.specs.Io.KnownBytes.{Keeps};
 ghost use Rattle.outside_io.specs.Outside.{CountsFailure, Gives, HasCause, Pushes, Reads};
@@ -204,7 +205,8 @@ impl<R: rt::Files + AllocGlobal> Files for HostFiles<R> {
     }
 }
 
-/// An output, as the standard output. A count of 64 bits rises by one at each failed push.
+/// An output, as the standard output. What is seen of it is what its writer shows. A count of 64
+/// bits rises by one at each failed push.
 #[derive(Drop)]
 pub struct HostSink<W> {
     out: W,
@@ -244,14 +246,14 @@ fn write_whole<W: Write>(out: &mut W, bytes: &[u8]) -> Result<(), Failed>
 }
 
 impl<W: Write> Sink for HostSink<W> {
-    ghost seen = { λ s. record { written = None; faults = s.faults } };
+    ghost seen = { λ s. record { written = W.contents s.out; faults = s.faults } };
 
     /// Writes the whole piece to the output, which then has it wherever it shows its bytes.
     fn push(&mut self, piece: &[u8]) -> Result<(), Failed>
+        ensures bytes { Pushes (W.contents (out_of self.old)) (W.contents (out_of self.new))
+            piece.now result }
         ensures cause { HasCause (faults_of self.old) (faults_of self.new) result }
 
-        ensures output { Pushes (W.contents (out_of self.old)) (W.contents (out_of self.new))
-            piece.now result }
         ensures counted { CountsFailure (faults_of self.old) (faults_of self.new) result }
     {
         let written = write_whole(&mut self.out, piece);
@@ -263,9 +265,9 @@ impl<W: Write> Sink for HostSink<W> {
 
     /// A failure is counted as that of a push.
     fn flush(&mut self) -> Result<(), Failed>
+        ensures written { Keeps (W.contents (out_of self.old)) (W.contents (out_of self.new)) }
         ensures cause { HasCause (faults_of self.old) (faults_of self.new) result }
 
-        ensures output { Keeps (W.contents (out_of self.old)) (W.contents (out_of self.new)) }
         ensures counted { CountsFailure (faults_of self.old) (faults_of self.new) result }
     {
         match self.out.flush() {

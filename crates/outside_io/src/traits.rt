@@ -1,5 +1,6 @@
 //! Files and a sink, as the program sees them.
 ghost use Rattle.std.specs.Prelude.{◌≡◌, ◌≢◌, ℕ, ◌≤◌, List, OnErr};
+ghost use Rattle.std.specs.Io.KnownBytes.{Keeps};
 ghost use Rattle.outside_io.specs.Seen.{FilesSeen, SinkSeen};
 ghost use Rattle.outside_io.specs.Outside.{WhereSeen, HasCause, short_name, Reads, Gives, Puts, Pushes};
 
@@ -54,6 +55,6 @@ pub trait Sink {
     /// Passes on what is held back of the pieces that it has taken; nothing is appended. Fails only
     /// where it counts a fault.
     fn flush(&mut self) -> Result<(), Failed>
-        ensures written { (seen self.new).written ≡ (seen self.old).written }
+        ensures written { Keeps ((seen self.old).written) ((seen self.new).written) }
         ensures cause { HasCause ((seen self.old).faults) ((seen self.new).faults) result };
 }
