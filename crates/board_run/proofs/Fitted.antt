@@ -41,5 +41,5 @@ breaks_after a b c f k m x y h i = record {
 
 -- what was told is passed on, and nothing more is told
 pub passed_on : {T E : Type 0} (w w' : Option (List ℕ)) (f f' : ℕ) (r : Result T E) → Keeps w w' → HasCause f f' r → MatchResult r (λ _. HearsText w w' f f' []) (λ _. BreaksText w w' f f' [])
-passed_on w w' f f' (Ok v) kept h = record { pushed = pushes_kept w w w' [] (Ok v) (appends_none w) kept; later = h.later; fit = tt }
-passed_on w w' f f' (Err e) kept h = record { pushed = pushes_kept w w w' [] (Err e) (appends_none w) kept; later = h.later; rose = h.failed }
+passed_on {T} {E} w w' f f' (Ok v) kept h = record { pushed = pushes_kept {T = T} {E = E} w w w' [] (Ok v) (appends_none w) kept; later = h.later; fit = tt }
+passed_on {T} {E} w w' f f' (Err e) kept h = record { pushed = pushes_kept {T = T} {E = E} w w w' [] (Err e) (appends_none w) kept; later = h.later; rose = h.failed }
