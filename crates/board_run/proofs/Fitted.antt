@@ -1,7 +1,7 @@
 -- Notes in range, one more and joined, and told in parts.
 use Rattle.std.proofs.Common.{ℕ, suc, zero, ◌+◌, ◌<◌, List, [], ◌∷◌, ◌++◌, length, take, get_or, Option, sym, subst, add-one, arith}
 use Rattle.std.specs.Io.KnownBytes.{Appends, Keeps}
-use Rattle.std.specs.Prelude.{◌≡◌, Result, Ok, Err, MatchResult}
+use Rattle.std.specs.Prelude.{Result, Ok, Err, MatchResult}
 use Rattle.std.proofs.lemmas.List.Concat.{flat_map-append}
 use Rattle.kernel_abi.specs.declared.Note.{Note}
 use Rattle.trace_text.specs.Fit.{IsFit, IsFitNote, AreFit}
