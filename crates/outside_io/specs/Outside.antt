@@ -1,5 +1,5 @@
 -- What reads, puts and pushes do, by what an object shows of itself and by its counts.
-use Rattle.std.specs.Prelude.{◌≡◌, ◌⊎◌, ℕ, ◌+◌, ◌-◌, ◌^◌, ◌<◌, ◌≤◌, min, List, ◌++◌, length, take, drop, Option, Some, Result, MatchResult, OnErr}
+use Rattle.std.specs.Prelude.{◌≡◌, ℕ, ◌+◌, ◌-◌, ◌^◌, ◌<◌, ◌≤◌, min, List, ◌++◌, length, take, drop, Option, Some, Result, MatchResult, OnErr}
 use Rattle.std.specs.Io.KnownBytes.{Appends}
 
 -- if an object shows a value, the value has P
@@ -45,11 +45,9 @@ Gives before now result = MatchResult result (λ n. now ≡ raised before n) (λ
 abbrev pub IsFront : List ℕ → List ℕ → Type 0
 IsFront front bytes = (back : List ℕ) × (bytes ≡ front ++ back)
 
--- what a put leaves under its name, where it is seen: the new bytes, or after a failure the old ones or a front of the new ones
+-- what a put leaves under its name: the new bytes, where it is seen, or after a failure what was there
 abbrev pub Puts : {E : Type 0} → Option (List ℕ) → Option (List ℕ) → List ℕ → Result (Unit {0}) E → Type 0
-Puts old new bytes result = MatchResult result
-    (λ _. WhereSeen new (λ c. c ≡ bytes))
-    (λ _. WhereSeen new (λ c. (old ≡ Some c) ⊎ IsFront c bytes))
+Puts old new bytes result = MatchResult result (λ _. WhereSeen new (λ c. c ≡ bytes)) (λ _. new ≡ old)
 
 -- a front of the text was appended
 abbrev pub AppendsFront : Option (List ℕ) → Option (List ℕ) → List ℕ → Type 0

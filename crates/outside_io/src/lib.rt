@@ -8,6 +8,7 @@ mod host;
 mod lines;
 mod memory;
 mod reading;
+mod replacing;
 mod traits;
 
 pub use host::{HostFiles, HostSink};

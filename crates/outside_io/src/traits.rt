@@ -1,5 +1,6 @@
 //! Files and a sink, as the program sees them.
 ghost use Rattle.std.specs.Prelude.{◌≡◌, ◌≢◌, ℕ, ◌≤◌, List, OnErr};
+ghost use Rattle.std.specs.Io.KnownBytes.{Keeps};
 ghost use Rattle.outside_io.specs.Seen.{FilesSeen, SinkSeen};
 ghost use Rattle.outside_io.specs.Outside.{WhereSeen, HasCause, short_name, Reads, Gives, Puts, Pushes};
 
@@ -25,8 +26,8 @@ pub trait Files {
         ensures contents { (seen self.new).contents ≡ (seen self.old).contents }
         ensures puts { (seen self.new).put_faults ≡ (seen self.old).put_faults };
 
-    /// Replaces the contents under a name. Fails only if it counts a failed put, and may then leave
-    /// the old contents or any front of the new ones. The contents under other names stay.
+    /// Replaces the contents under a name. Fails only if it counts a failed put, and then leaves
+    /// the old contents. The contents under other names stay.
     fn put(&mut self, name: &str, bytes: &[u8]) -> Result<(), Failed>
         ensures bytes { Puts ((seen self.old).contents name.now) ((seen self.new).contents name.now)
             bytes.now result }
@@ -53,6 +54,6 @@ pub trait Sink {
 
     /// Passes on the bytes that are buffered; nothing is appended. Fails only if it counts a fault.
     fn flush(&mut self) -> Result<(), Failed>
-        ensures written { (seen self.new).written ≡ (seen self.old).written }
+        ensures written { Keeps ((seen self.old).written) ((seen self.new).written) }
         ensures cause { HasCause ((seen self.old).faults) ((seen self.new).faults) result };
 }

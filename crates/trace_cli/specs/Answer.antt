@@ -76,10 +76,10 @@ abbrev pub HasPut : (List ℕ → Option (List ℕ)) → (List ℕ → Option (L
 HasPut seen seen' None = seen' ≡ seen
 HasPut seen seen' (Some (name, bytes)) = WhereSeen (seen' name) (λ all. all ≡ bytes) × OthersStay seen seen' name
 
--- its put failed: under its name are the old contents or a front of the new ones
+-- its put failed: under its name is what was there
 abbrev pub HasSpoiled : (List ℕ → Option (List ℕ)) → (List ℕ → Option (List ℕ)) → Option (List ℕ × List ℕ) → Type 0
 HasSpoiled seen seen' None = ⊥
-HasSpoiled seen seen' (Some (name, bytes)) = WhereSeen (seen' name) (λ all. (seen name ≡ Some all) ⊎ IsFront all bytes) × OthersStay seen seen' name
+HasSpoiled seen seen' (Some (name, bytes)) = (seen' name ≡ seen name) × OthersStay seen seen' name
 
 -- nothing was pushed and nothing was put, because memory ran out
 pub record IsShort (before after : FilesSeen) (w w' : SinkSeen) (r : ℕ) : Type 0 where

@@ -170,8 +170,7 @@ fn answer<F: Files, S: Sink>(
 /// - 3: a file cannot be read, and `cannot read <name>` was written. If the file is the COMMANDS of
 ///   `live`, this line comes after the answers to the lines that came.
 /// - 4: the output failed: the beginning of the text was written, and what is put is under OUT. Or
-///   the put failed: nothing was written, and under OUT are the old contents or the beginning of
-///   the new ones.
+///   the put failed: nothing was written, and OUT is as it was.
 /// - 5: memory is short, and nothing was written or put.
 /// - 6: as 0, of `run`, `go`, `resume`, `sample`, `cover` or `timeline`, and the run ended because
 ///   the supervisor faulted. Other commands answer 0 then too.

@@ -1,0 +1,32 @@
+-- What a buffer held back is handed on.
+use Rattle.std.proofs.Common.{◌≡◌, ◌∙◌, ℕ, List, [], ◌++◌, Option, Some, None, ap, sym, subst}
+use Rattle.std.specs.Io.KnownBytes.{Appends, Keeps, append_known}
+use Rattle.std.proofs.lemmas.List.{append-nil}
+use Rattle.outside_io.specs.Seen.{FilesSeen, SinkSeen}
+use Rattle.hubris.specs.Whole.{IsTold, handed}
+
+-- what was appended behind an empty buffer, and kept, was appended to the writer
+pub appended_within : (a b c : Option (List ℕ)) (text : List ℕ) → Appends (append_known a []) b text → Keeps b c → Appends a c text
+appended_within None b c text p k = tt
+appended_within (Some xs) None c text p k = absurd p
+appended_within (Some xs) (Some ys) None text p k = absurd k
+appended_within (Some xs) (Some ys) (Some zs) text p k = k ∙ p ∙ ap (λ (l : List ℕ). l ++ text) (append-nil xs)
+
+-- what was told to a sink, where the same was handed to another
+pub told_within : (words : List (List ℕ)) (before after : FilesSeen) (w w' u u' : SinkSeen) (r : ℕ) → IsTold words before after w w' r
+    → ((text : List ℕ) → Appends w.written w'.written text → Appends u.written u'.written text) → IsTold words before after u u' r
+told_within words before after w w' u u' r t on = record {
+  done = λ is. let d = t.done is in record { job = d.job; command = d.command; contents = d.contents; accepted = d.accepted; verdict = d.verdict; done = d.done; status = d.status; put = d.put; text = on d.verdict.text d.text; good = d.good };
+  refused = λ is. let d = t.refused is in record { job = d.job; command = d.command; file = d.file; why = d.why; is = d.is; line = on _ d.line };
+  no_command = λ is. let d = t.no_command is in (d.0, on _ d.1);
+  unread = λ is. let d = t.unread is in record { job = d.job; command = d.command; file = d.file; is = d.is; line = on _ d.line };
+  short = λ is. let d = t.short is in (on [] d.0, d.1);
+}
+
+-- what was told through a buffer that was empty is with the writer, where that is flushed
+pub told_on : (words : List (List ℕ)) (before after : FilesSeen) (a b c d : Option (List ℕ)) (f f' r r' : ℕ) → b ≡ append_known a []
+    → IsTold words before after record { written = b; faults = f } record { written = c; faults = f' } r → r' ≡ r → Keeps c d → IsTold words before after (handed a) (handed d) r'
+told_on words before after a b c d f f' r r' empty t same kept =
+    let on : (text : List ℕ) → Appends b c text → Appends a d text = λ text p. appended_within a c d text (subst (λ (o : Option (List ℕ)). Appends o c text) empty p) kept in
+    subst (IsTold words before after (handed a) (handed d)) (sym same)
+    (told_within words before after record { written = b; faults = f } record { written = c; faults = f' } (handed a) (handed d) r t on)
