@@ -2,14 +2,15 @@
 //! result is the exit status.
 #![tactic(auto)]
 
-ghost use Rattle.std.specs.Prelude.{◌≡◌, ◌≢◌, ◌≤◌, [], List, ℕ, map, Some, IfOk};
+ghost use Rattle.std.specs.Prelude.{◌≡◌, ◌≢◌, ◌≤◌, [], List, ℕ, map, Some};
 ghost use Rattle.std.specs.Io.Buffered.{writer_buffer, writer_inner, writer_contents};
 ghost use Rattle.std.specs.Io.KnownBytes.{Keeps};
+ghost use Rattle.kernel_abi.specs.Devices.{AreFresh};
 ghost use Rattle.trace_cli.specs.Words.{texts_of, job_in, out_of};
-ghost use Rattle.hubris.specs.Whole.{own_devices, handed, IsTold};
+ghost use Rattle.hubris.specs.Whole.{handed, IsTold};
 
 use devices::{Console, Device, Port};
-use outside_io::{Files, HostFiles, HostSink, Sink};
+use outside_io::{Files, HostFiles, HostSink};
 use std::alloc::{AllocError, Global};
 use std::io::{BufWriter, ErrorKind, Write};
 use std::process::ExitCode;
@@ -35,30 +36,6 @@ fn words(rt: &HostRuntime) -> Result<Vec<String>, AllocError> {
     Ok(words)
 }
 
-// The console and the port that the run of each command has.
-fn own_devices(alloc: Global) -> Result<Vec<Box<dyn Device>>, AllocError>
-    ensures { IfOk result (λ v. map shown v.items ≡ own_devices) }
-{
-    let mut devices: Vec<Box<dyn Device>> = Vec::new(alloc);
-    devices.push(Box::new(alloc, Console::new(0x4000_0000))?)?;
-    devices.push(Box::new(alloc, Port::new(0x4000_1000))?)?;
-    Ok(devices)
-}
-
-// The top call, with these devices. The result is the exit status.
-fn status<F: Files, S: Sink>(alloc: Global, words: &[String], files: &mut F, out: &mut S) -> u8
-    ensures told { IsTold (texts_of words.now) (F.seen files.old) (F.seen files.new)
-        (S.seen out.old) (S.seen out.new) result }
-    ensures known { result ≤ 8 }
-    ensures others { (name : List ℕ) → out_of (job_in (texts_of words.now)) ≢ Some name →
-        (F.seen files.new).contents name ≡ (F.seen files.old).contents name }
-{
-    match own_devices(alloc) {
-        Ok(devices) => hubris_main_with(alloc, words, files, out, devices),
-        Err(_) => 5,
-    }
-}
-
 // Hands on what a buffer holds back, unless the status is 4. Where that fails the status is 4, and
 // nothing more is handed on: a buffer that is dropped would try again, so it is taken apart.
 fn hand_on<W: Write + Drop>(status: u8, mut out: BufWriter<W>) -> (u8, W)
@@ -71,25 +48,42 @@ fn hand_on<W: Write + Drop>(status: u8, mut out: BufWriter<W>) -> (u8, W)
     (if is_out { status } else { 4 }, out)
 }
 
-/// The whole program over any files and any writer: the exit status, and the writer. Unless the
-/// status is 4, the writer was handed the whole text, and nothing is held back.
+/// The whole program over any files, any writer and any devices: the exit status, and the writer.
+/// Unless the status is 4, the writer was handed the whole text, and nothing is held back.
 pub fn hubris_to<F: Files, W: Write + Drop>(
     alloc: Global,
     words: &[String],
     files: &mut F,
     out: BufWriter<W>,
+    devices: Vec<Box<dyn Device>>,
 ) -> (u8, W)
-    requires { writer_buffer out ≡ [] }
-    ensures told { result.0 ≢ 4 → IsTold (texts_of words.now) (F.seen files.old)
-        (F.seen files.new) (handed (W.contents (writer_inner out)))
+    requires empty { writer_buffer out ≡ [] }
+    requires fresh { AreFresh (map shown devices.items) }
+    ensures told { result.0 ≢ 4 → IsTold (map shown devices.items) (texts_of words.now)
+        (F.seen files.old) (F.seen files.new) (handed (W.contents (writer_inner out)))
         (handed (W.contents result.1)) result.0 }
     ensures known { result.0 ≤ 8 }
     ensures others { (name : List ℕ) → out_of (job_in (texts_of words.now)) ≢ Some name →
         (F.seen files.new).contents name ≡ (F.seen files.old).contents name }
 {
     let mut sink = HostSink::new(out);
-    let status = status(alloc, words, files, &mut sink);
+    let status = hubris_main_with(alloc, words, files, &mut sink, devices);
     hand_on(status, sink.into_output())
+}
+
+// The program with a console and a port at the first device addresses.
+fn with_own_devices<F: Files, W: Write + Drop>(
+    alloc: Global,
+    words: &[String],
+    files: &mut F,
+    out: BufWriter<W>,
+) -> Result<(u8, W), AllocError>
+    requires { writer_buffer out ≡ [] }
+{
+    let mut devices: Vec<Box<dyn Device>> = Vec::new(alloc);
+    devices.push(Box::new(alloc, Console::new(0x4000_0000))?)?;
+    devices.push(Box::new(alloc, Port::new(0x4000_1000))?)?;
+    Ok(hubris_to(alloc, words, files, out, devices))
 }
 
 fn main(rt: HostRuntime) -> ExitCode {
@@ -102,8 +96,10 @@ fn main(rt: HostRuntime) -> ExitCode {
     let Ok(out) = BufWriter::with_capacity(rt.alloc(), 65_536, io::writer(&rt)) else {
         return ExitCode::from(5);
     };
-    let (status, _) = hubris_to(rt.alloc(), &words, &mut HostFiles::new(&rt), out);
-    ExitCode::from(status)
+    match with_own_devices(rt.alloc(), &words, &mut HostFiles::new(&rt), out) {
+        Ok((status, _)) => ExitCode::from(status),
+        Err(AllocError) => ExitCode::from(5),
+    }
 }
 
 #[cfg(test)]
@@ -124,7 +120,7 @@ mod tests {
     ) -> Result<(u8, [u8; N]), Fail> {
         let mut files = MemFiles::open(rt.alloc(), &[])?;
         let out = BufWriter::with_capacity(rt.alloc(), room, Cursor::new(taken))?;
-        let (status, out) = hubris_to(rt.alloc(), &[], &mut files, out);
+        let (status, out) = with_own_devices(rt.alloc(), &[], &mut files, out)?;
         Ok((status, out.into_inner()))
     }
 
