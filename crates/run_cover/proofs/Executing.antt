@@ -1,4 +1,5 @@
--- A turn notes the instruction at an address once where it executes it, else not at all; so the notes of a run count its turns.
+-- A turn notes the instruction at an address once if it executes it, and otherwise not at all. So the notes
+-- of a run count its turns.
 use Rattle.std.proofs.Common.{◌≡◌, ◌+◌, ◌-◌, ◌≤◌, ℕ, zero, suc, Bool, true, false, cond, ◌&&◌, eqb, List, [], ◌∷◌, ◌++◌, length, Option, Some, None, refl, sym, ◌∙◌, ap, arith}
 use Rattle.std.specs.Prelude.{count_by, is_ok, Result, Ok, Err}
 use Rattle.std.specs.List.{range_with_len}

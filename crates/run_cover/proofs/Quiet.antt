@@ -1,5 +1,5 @@
--- No effect notes an instruction: what an effect appends leaves the number of notes of the instruction at an address as it was.
--- (a: that address; t: where the effects began)
+-- No effect notes an instruction: the notes that an effect appends do not change the number of notes of the
+-- instruction at an address. (a: that address; t: where the effects began)
 use Rattle.std.proofs.Common.{◌≡◌, ◌+◌, ℕ, Bool, true, false, cond, List, [], ◌∷◌, length, Option, Some, None, refl, ◌∙◌, ap, arith}
 use Rattle.std.specs.Prelude.{fold, count_by}
 use Rattle.std.specs.List.{range_with_len}
