@@ -70,10 +70,10 @@ pub fn count_run(board: &mut Board, limit: u32, counts: &mut PlaceCounts) -> End
 /// Makes the turns up to the end of the run without writing a trace, and then pushes the cover of
 /// the run (docs/FORMATS.md, Cover). For each region of code it has a line for each known
 /// instruction, with how often it was executed; before that, a line for each label at its address,
-/// in their order. The count is the number of turns in which a task executed the instruction, by
-/// `each_count_is_a_number_of_turns`. Exactly these instructions are known: the executed ones, the
-/// entries of tasks, and those to which known instructions lead directly. After a failing push
-/// nothing more is pushed; the run is still made to its end.
+/// in their order. Each count is a number of turns, by `each_count_is_a_number_of_turns`. Exactly
+/// these instructions are known: the executed ones, the entries of tasks, and those to which known
+/// instructions lead directly. After a failing push nothing more is pushed; the run is still made
+/// to its end.
 ///
 /// # Errors
 ///
