@@ -1,4 +1,4 @@
-//! The lane of a task: its words, the boxes of what it does, and the marks of its faults and
+//! The lane of a task: its words, the boxes of its activities, and the marks of its faults and
 //! births.
 ghost use Rattle.std.specs.Prelude.{◌≡◌, ◌++◌, ◌<◌, ◌*◌, ◌≤◌};
 ghost use Rattle.std.specs.Result.{OnOk};
@@ -15,7 +15,7 @@ use crate::sizes::{
 use crate::text::{push_box, push_box_or_none, push_decimal, push_text};
 use std::alloc::AllocError;
 
-/// In how many turns a task runs.
+/// The number of turns in which a task runs.
 fn running(picture: &LanePicture<'_>, i: u32) -> u64
     requires { IsBounded picture.now }
     ensures is { result ≡ running (drawn_of picture.now) i }
@@ -28,7 +28,7 @@ fn running(picture: &LanePicture<'_>, i: u32) -> u64
     turns
 }
 
-/// Of how many turns that is.
+/// Pushes the share of these turns, in percent of all turns.
 fn push_share(runs: u64, turns: u32, out: &mut Vec<u8>) -> Result<(), AllocError>
     requires { runs ≤ 1200 * 4294967295 }
     ensures { OnOk result (out.new.items ≡ out.old.items ++ share_text runs turns) }
@@ -41,7 +41,8 @@ fn push_share(runs: u64, turns: u32, out: &mut Vec<u8>) -> Result<(), AllocError
     }
 }
 
-/// A word of a task in a column: its box stands on those of the words before it.
+/// Pushes the box of an activity of a task in a column. It is on top of the boxes of the activities
+/// before it.
 fn push_word_box(
     picture: &LanePicture<'_>,
     i: u32,
@@ -58,7 +59,7 @@ fn push_word_box(
     let low = word_height(picture, &cell, word);
     let high = word_height(picture, &cell, word + 1);
     let left = column_left(picture, u32::from(k));
-    // a word ends within the lane, and not below where it begins
+    // the box of an activity ends within the lane, and not below its beginning
     let top = lane_bottom(picture, i).saturating_sub(high);
     push_box_or_none(
         left,
@@ -117,7 +118,7 @@ fn push_word_paths(picture: &LanePicture<'_>, i: u32, out: &mut Vec<u8>) -> Resu
     Ok(())
 }
 
-/// A column in which a task faulted is marked over its lane.
+/// Pushes the mark of a column in which a task faulted, over its lane.
 fn push_fault_box(
     picture: &LanePicture<'_>,
     i: u32,
@@ -153,7 +154,7 @@ fn push_fault_boxes(picture: &LanePicture<'_>, i: u32, out: &mut Vec<u8>) -> Res
     Ok(())
 }
 
-/// A column in which a task was born is marked below its lane.
+/// Pushes the mark of a column in which a task was born, below its lane.
 fn push_birth_box(
     picture: &LanePicture<'_>,
     i: u32,

@@ -1,4 +1,4 @@
--- What a task does in some turns, in turns of two columns and in a turn more.
+-- The cell of a task for some turns, for the turns of two columns, and for one more turn.
 use Rattle.std.proofs.Common.{◌≡◌, ◌<◌, ℕ, suc, ◌+◌, ◌-◌, ◌^◌, ◌||◌, Bool, true, false, List, [], ◌∷◌, ◌++◌, length, map, get_or, set, refl, ap, ◌∙◌, cond, if◌then◌else◌, arith}
 use Rattle.std.specs.Prelude.{count_by, sum}
 use Rattle.std.specs.List.{list_any}

@@ -1,4 +1,4 @@
--- Columns keep the turns: a turn more, and where neighbours become one.
+-- The columns keep all turns: when a turn is added, and when two neighbouring columns become one.
 use Rattle.std.proofs.Common.{◌≡◌, ◌<◌, ◌≤◌, ◌⊎◌, inl, inr, ℕ, zero, suc, ◌+◌, ◌-◌, ◌*◌, ◌^◌, Bool, true, false, List, [], ◌∷◌, ◌++◌, length, map, get_or, set, take, drop, refl, sym, ap, subst, ◌∙◌, if◌then◌else◌, length-append, length-drop, arith}
 use Rattle.std.specs.Prelude.{count_by, min, replicate}
 use Rattle.std.specs.List.{flat_map, list_any, range_with_len}

@@ -1,4 +1,4 @@
--- A canvas after all turns, and what is drawn of it.
+-- A canvas after all turns, and the picture that is drawn from it.
 use Rattle.std.proofs.Common.{◌≡◌, ◌≤◌, ℕ, List, [], length, map, take, ap, subst, ◌∙◌, arith}
 use Rattle.std.proofs.lemmas.List.{length-map, length-take}
 use Rattle.board_model.specs.Run.{Run}

@@ -1,4 +1,5 @@
--- The turns so far, as they are kept in memory for 1,200 columns. Columns without turns are there too.
+-- The turns so far, as they are kept in memory for 1,200 columns. Columns that have no turns yet are kept
+-- too.
 use Rattle.std.specs.Prelude.{◌≡◌, ◌≤◌, ℕ, ◌+◌, ◌*◌, List, length}
 use Rattle.run_lanes.specs.declared.columns.Columns.{Columns}
 use Rattle.run_lanes.specs.Columns.{column_turns, most_columns}

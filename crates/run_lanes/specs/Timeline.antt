@@ -1,5 +1,5 @@
--- A run as a timeline: events in the Trace Event Format, one a line (docs/FORMATS.md, Timeline). Thread 0 is what comes from outside,
--- thread i + 1 is task i.
+-- A run as a timeline: events in the Trace Event Format, one on each line (docs/FORMATS.md, Timeline). Thread
+-- 0 has what comes from outside, thread i + 1 is task i.
 use Rattle.std.specs.Prelude.{ℕ, ◌+◌, ◌-◌, ◌==◌, Bool, false, if◌then◌else◌, List, [], ◌∷◌, ◌++◌, length, codes, decimal, slice_index_or, slice_set, map, replicate, Option, Some, None}
 use Rattle.std.specs.List.{flat_map, range_with_len}
 use Rattle.serde_json.specs.Data.{Data, unsigned, string, object, member, no_members}
