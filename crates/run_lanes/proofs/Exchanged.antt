@@ -8,7 +8,7 @@ use Rattle.lane_picture.specs.declared.parts.Arrow.{Arrow}
 use Rattle.lane_picture.specs.declared.parts.TaskCalls.{TaskCalls}
 use Rattle.run_lanes.specs.First.{IsFirst}
 use Rattle.run_lanes.specs.Told.{TurnNote, all_arrows, all_events, arrows_of, arrows_of_notes, calls_after, calls_at_end, calls_at_end_of, events_of, is_event}
-use Rattle.run_lanes.specs.Words.{TurnSight}
+use Rattle.run_lanes.specs.Activities.{TurnSight}
 
 -- ## one note more
 

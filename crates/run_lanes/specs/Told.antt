@@ -15,7 +15,7 @@ use Rattle.lane_picture.specs.declared.parts.ArrowKind.TheVariants as way
 use Rattle.lane_picture.specs.Drawing.{no_calls}
 use Rattle.outside_io.specs.Outside.{raised}
 use Rattle.run_lanes.specs.Names.{fault_name}
-use Rattle.run_lanes.specs.Words.{TurnSight}
+use Rattle.run_lanes.specs.Activities.{TurnSight}
 
 -- ## the calls of tasks
 
