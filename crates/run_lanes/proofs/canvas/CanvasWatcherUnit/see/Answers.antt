@@ -18,7 +18,7 @@ returns c = λ tasks front le p.
       many = c.add.ensures.tasks ∙ p.many;
       columns = subst P longer (c.add.ensures.added c.args.turn front (omega arith) p.columns);
       calls = c.add-2.ensures.calls ∙ ap (λ (l : List TaskCalls). calls_at_end_of c.args.turn l c.args.notes.now) p.calls ∙ sym (calls_turn none front t);
-      arrows = first_moved most_arrows _ _ _ _ _ (ap (λ (l : List TaskCalls). all_arrows none front ++ arrows_of_notes c.args.turn l c.args.notes.now) p.calls ∙ sym (arrows_turn none front t))
+      arrows = first_moved most_arrows _ _ _ _ _ (ap (λ (l : List TaskCalls). all_arrows none front ++ arrows_of_notes c.args.turn c.args.notes.now l c.args.notes.now) p.calls ∙ sym (arrows_turn none front t))
           (c.add-2.ensures.arrows most_arrows (all_arrows none front) p.arrows);
       events = first_moved most_events _ _ _ _ _ (sym (events_turn front t)) (c.add_events.ensures most_events (all_events front) p.events);
     }
