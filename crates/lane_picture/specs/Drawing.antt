@@ -7,7 +7,7 @@ use Rattle.lane_picture.specs.declared.parts.Longest.{Longest}
 use Rattle.lane_picture.specs.declared.parts.AskedCall.{AskedCall}
 use Rattle.lane_picture.specs.declared.parts.ArrowKind.{ArrowKind}
 use Rattle.lane_picture.specs.declared.parts.ArrowKind.TheVariants as way
-use Rattle.lane_picture.specs.Sizes.{Drawn, columns, column_width, column_left, turn_left, tasks, lane_height, lane_top, lane_bottom, lane_words, lanes_end, row_line, cell_at, part, word_height}
+use Rattle.lane_picture.specs.Sizes.{Drawn, columns, column_width, column_left, turn_left, tasks, lane_height, lane_top, lane_bottom, lane_words, lanes_end, row_line, cell_at, part, activity_height}
 
 -- a byte of a name as XML writes it; a byte that XML text may not have becomes a question mark
 unfoldable pub escape : ℕ → List ℕ
@@ -93,7 +93,7 @@ outside_text d = codes "<text x=\"168\" y=\"98\" class=\"t q\">outside</text>\n<
 
 -- the number of turns in which a task runs
 abbrev pub running : Drawn → ℕ → ℕ
-running d i = sum_by (λ k. slice_index_or (cell_at d k i).words 0 0) (range_with_len 0 (columns d))
+running d i = sum_by (λ k. slice_index_or (cell_at d k i).turns 0 0) (range_with_len 0 (columns d))
 
 -- the share of these turns, in percent of all turns
 abbrev pub share_text : ℕ → ℕ → List ℕ
@@ -117,14 +117,14 @@ abbrev pub calls_at : Drawn → ℕ → TaskCalls
 calls_at d i = slice_index_or d.calls i no_calls
 
 -- The box of an activity of a task in a column. It is on top of the boxes of the activities before it.
-abbrev pub word_box : Drawn → ℕ → ℕ → ℕ → List ℕ
-word_box d i word k =
-    let low = word_height d (cell_at d k i) word in
-    let high = word_height d (cell_at d k i) (word + 1) in
+abbrev pub activity_box : Drawn → ℕ → ℕ → ℕ → List ℕ
+activity_box d i activity k =
+    let low = activity_height d (cell_at d k i) activity in
+    let high = activity_height d (cell_at d k i) (activity + 1) in
     box_or_none (column_left d k) (lane_bottom d i - high) (column_width d k) (high - low)
 
-unfoldable pub word_path : Drawn → ℕ → ℕ → List ℕ
-word_path d i word = codes "<path class=\"a" ++ decimal word ++ codes "\" d=\"" ++ flat_map (word_box d i word) (range_with_len 0 (columns d)) ++ codes "\"/>\n"
+unfoldable pub activity_path : Drawn → ℕ → ℕ → List ℕ
+activity_path d i activity = codes "<path class=\"a" ++ decimal activity ++ codes "\" d=\"" ++ flat_map (activity_box d i activity) (range_with_len 0 (columns d)) ++ codes "\"/>\n"
 
 -- A column in which a task faulted has a mark over the lane. A column in which the task was born has a mark
 -- below the lane.
@@ -141,7 +141,7 @@ unfoldable pub words_text : Drawn → ℕ → List ℕ
 words_text d i = codes "<text x=\"168\" y=\"" ++ decimal (lane_words d i) ++ codes "\" class=\"t q\">" ++ name_at d i ++ codes " <tspan class=\"d s\">" ++ decimal i ++ codes "</tspan></text>\n<text x=\"1384\" y=\"" ++ decimal (lane_words d i) ++ codes "\" class=\"d s\">" ++ share_text (running d i) d.turns ++ calls_text d (calls_at d i) ++ codes "</text>\n"
 
 abbrev pub lane_text : Drawn → ℕ → List ℕ
-lane_text d i = words_text d i ++ flat_map (word_path d i) (range_with_len 0 7) ++ marks_text d i
+lane_text d i = words_text d i ++ flat_map (activity_path d i) (range_with_len 0 7) ++ marks_text d i
 
 -- ## arrows
 

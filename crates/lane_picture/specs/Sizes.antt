@@ -96,7 +96,7 @@ row_line d j = lanes_end d + 20 + 16 * j
 -- ## cells
 
 abbrev pub no_cell : Cell
-no_cell = record { words = replicate 7 0; faulted = false; born = false }
+no_cell = record { turns = replicate 7 0; faulted = false; born = false }
 
 -- the cell of a column and a task
 abbrev pub cell_at : Drawn → ℕ → ℕ → Cell
@@ -104,11 +104,11 @@ cell_at d k i = slice_index_or d.cells (k * tasks d + i) no_cell
 
 -- the number of turns in a cell
 abbrev pub cell_turns : Cell → ℕ
-cell_turns c = sum c.words
+cell_turns c = sum c.turns
 
 -- the height above the bottom of the lane at which the box of an activity begins: the sum of those before it
-abbrev pub word_height : Drawn → Cell → ℕ → ℕ
-word_height d c word = part (lane_height d) (sum (take word c.words)) (cell_turns c)
+abbrev pub activity_height : Drawn → Cell → ℕ → ℕ
+activity_height d c activity = part (lane_height d) (sum (take activity c.turns)) (cell_turns c)
 
 -- ## bounds of a picture
 

@@ -5,7 +5,7 @@
 /// one of the turns.
 #[derive(Clone, Copy)]
 pub struct Cell {
-    pub words: [u32; 7],
+    pub turns: [u32; 7],
     pub faulted: bool,
     pub born: bool,
 }

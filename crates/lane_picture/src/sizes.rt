@@ -1,6 +1,6 @@
 //! Where the parts of a picture are.
 ghost use Rattle.std.specs.Prelude.{◌≡◌, ◌+◌, ◌*◌, ◌^◌, ◌<◌, ◌≤◌, sum, take};
-ghost use Rattle.lane_picture.specs.Sizes.{IsBounded, cell_at, column_left, column_width, columns, drawn_of, lane_bottom, lane_height, lane_pitch, lane_top, lane_words, lanes_end, part, row_line, tasks, turn_left, word_height};
+ghost use Rattle.lane_picture.specs.Sizes.{IsBounded, activity_height, cell_at, column_left, column_width, columns, drawn_of, lane_bottom, lane_height, lane_pitch, lane_top, lane_words, lanes_end, part, row_line, tasks, turn_left};
 
 use crate::parts::{Cell, LanePicture};
 
@@ -110,7 +110,7 @@ pub fn row_line(picture: &LanePicture<'_>, j: u32) -> u64
 }
 
 const NO_CELL: Cell = Cell {
-    words: [0; 7],
+    turns: [0; 7],
     faulted: false,
     born: false,
 };
@@ -130,27 +130,27 @@ pub fn cell_at(picture: &LanePicture<'_>, k: u16, i: u32) -> Cell
 }
 
 // The number of turns of the first activities of a cell.
-fn turns_before(cell: &Cell, word: usize) -> u64
-    requires { word ≤ 7 }
-    ensures is { result ≡ sum (take word cell.now.words) }
+fn turns_before(cell: &Cell, activity: usize) -> u64
+    requires { activity ≤ 7 }
+    ensures is { result ≡ sum (take activity cell.now.turns) }
     ensures below { result < 2 ^ 35 }
 {
     let mut total = 0;
-    for turns in &cell.words[..word] {
+    for turns in &cell.turns[..activity] {
         total += u64::from(*turns);
     }
     total
 }
 
 /// The height above the bottom of a lane at which the box of an activity begins.
-pub fn word_height(picture: &LanePicture<'_>, cell: &Cell, word: usize) -> u64
+pub fn activity_height(picture: &LanePicture<'_>, cell: &Cell, activity: usize) -> u64
     requires bounded { IsBounded picture.now }
-    requires word { word ≤ 7 }
-    ensures { result ≡ word_height (drawn_of picture.now) cell.now word }
+    requires activity { activity ≤ 7 }
+    ensures { result ≡ activity_height (drawn_of picture.now) cell.now activity }
 {
     part(
         lane_height(picture),
-        turns_before(cell, word),
+        turns_before(cell, activity),
         turns_before(cell, 7),
     )
 }

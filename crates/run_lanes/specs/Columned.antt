@@ -4,7 +4,7 @@ use Rattle.std.specs.Prelude.{◌≡◌, ◌≤◌, ℕ, ◌+◌, ◌*◌, List,
 use Rattle.run_lanes.specs.declared.columns.Columns.{Columns}
 use Rattle.run_lanes.specs.Columns.{column_turns, most_columns}
 use Rattle.run_lanes.specs.Counted.{CellsOf, OutsideOf}
-use Rattle.run_lanes.specs.Words.{TurnSight}
+use Rattle.run_lanes.specs.Activities.{TurnSight}
 
 -- the columns of these turns; a column has as many turns as it needs to have for n turns in all
 pub record Columned (c : Columns) (n : ℕ) (turns : List TurnSight) : Type 0 where

@@ -19,38 +19,38 @@ use Rattle.board_model.specs.Script.{Scenario}
 use Rattle.board_model.specs.Turn.{turn, turned}
 use Rattle.board_model.specs.Run.{ending}
 use Rattle.run_lanes.specs.declared.activity.Activity.{Activity}
-use Rattle.run_lanes.specs.declared.activity.Activity.TheVariants as word
+use Rattle.run_lanes.specs.declared.activity.Activity.TheVariants as activity
 
-abbrev pub phase_word : Phase → Activity
-phase_word Offered = word.Offers
-phase_word Taken = word.Awaits
+abbrev pub phase_activity : Phase → Activity
+phase_activity Offered = activity.Offers
+phase_activity Taken = activity.Awaits
 
-abbrev pub wait_word : Wait → Activity
-wait_word wait.Nothing = word.Ready
-wait_word (wait.Call call) = phase_word call.phase
-wait_word (wait.Listen listen) = word.Listens
+abbrev pub wait_activity : Wait → Activity
+wait_activity wait.Nothing = activity.Ready
+wait_activity (wait.Call call) = phase_activity call.phase
+wait_activity (wait.Listen listen) = activity.Listens
 
-abbrev pub word_of : Health → Wait → Activity
-word_of health.Well w = wait_word w
-word_of health.Stopped w = word.Stopped
-word_of (health.Faulted fault) w = word.Faulted
+abbrev pub activity_of : Health → Wait → Activity
+activity_of health.Well w = wait_activity w
+activity_of health.Stopped w = activity.Stopped
+activity_of (health.Faulted fault) w = activity.Faulted
 
 -- the number of an activity in their order, from 0 on
-abbrev pub word_number : Activity → ℕ
-word_number word.Runs = 0
-word_number word.Ready = 1
-word_number word.Offers = 2
-word_number word.Awaits = 3
-word_number word.Listens = 4
-word_number word.Faulted = 5
-word_number word.Stopped = 6
+abbrev pub activity_number : Activity → ℕ
+activity_number activity.Runs = 0
+activity_number activity.Ready = 1
+activity_number activity.Offers = 2
+activity_number activity.Awaits = 3
+activity_number activity.Listens = 4
+activity_number activity.Faulted = 5
+activity_number activity.Stopped = 6
 
 abbrev pub is_same : Activity → Activity → Bool
-is_same w v = word_number w == word_number v
+is_same w v = activity_number w == activity_number v
 
 -- what a task does in a state, if the turn is not its own
 abbrev pub waiting : State → ℕ → Activity
-waiting s i = word_of (task_at s i).health (wait_of (call_of s i) (listen_of s i))
+waiting s i = activity_of (task_at s i).health (wait_of (call_of s i) (listen_of s i))
 
 -- the turn is this task's
 abbrev pub is_of : Turned → ℕ → Bool
@@ -58,20 +58,20 @@ is_of Idle i = false
 is_of (Ran c at) i = c == i
 
 -- what a task does in the turn that follows a state
-abbrev pub word_in : Scenario → State → ℕ → Activity
-word_in x s i = if is_of (turned x s) i then word.Runs else waiting s i
+abbrev pub activity_in : Scenario → State → ℕ → Activity
+activity_in x s i = if is_of (turned x s) i then activity.Runs else waiting s i
 
-unfoldable pub words_in : Scenario → State → List Activity
-words_in x s = map (word_in x s) (range_with_len 0 (length s.tasks))
+unfoldable pub activities_in : Scenario → State → List Activity
+activities_in x s = map (activity_in x s) (range_with_len 0 (length s.tasks))
 
 -- what is seen of a turn
 pub record TurnSight : Type 0 where
   pub turn : ℕ
-  pub words : List Activity
+  pub activities : List Activity
   pub notes : List Note
 
 abbrev pub sight : Scenario → State → TurnSight
-sight x s = record { turn = s.turn; words = words_in x s; notes = (turn Calls x s).notes }
+sight x s = record { turn = s.turn; activities = activities_in x s; notes = (turn Calls x s).notes }
 
 -- a turn that is made, unless the run ends before it
 abbrev pub unless : Option End → TurnSight → List TurnSight → List TurnSight
