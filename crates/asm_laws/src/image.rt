@@ -2,6 +2,7 @@
 
 ghost use Rattle.std.specs.Prelude.{◌≡◌, ℕ, List, length};
 ghost use Rattle.asm_laws.specs.Image.{EachTwo};
+ghost use Rattle.asm_laws.specs.Lines.{EachLineHasItsBytes};
 ghost use Rattle.thumb_asm.specs.Assembly.{Assembles};
 ghost use Rattle.thumb_asm.specs.Meaning.{Env};
 ghost use Rattle.thumb_asm.specs.Passes.{size_from};
@@ -19,4 +20,10 @@ pub fn a_source_has_one_assembly()
 pub fn image_length()
     ensures { (lines : List (List ℕ)) (base : ℕ) (given : Env) (bytes : List ℕ) (labels : Env) →
         Assembles lines base given bytes labels → length bytes ≡ size_from base lines }
+{}
+
+/// Each line of a source that is assembled has its bytes at its address: the code of its
+/// instruction, or its data. The lines are those that `instruction_lines` lists, and all others.
+pub fn each_line_has_its_bytes()
+    ensures { EachLineHasItsBytes }
 {}

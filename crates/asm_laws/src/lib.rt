@@ -4,6 +4,7 @@
 //! - The text of an instruction is read as that instruction (`text_is_read`).
 //! - No source has two assemblies (`a_source_has_one_assembly`).
 //! - An assembly has as many bytes as its lines take (`image_length`).
+//! - Each line has its bytes at its address (`each_line_has_its_bytes`).
 #![tactic(auto)]
 
 mod image;
@@ -13,7 +14,7 @@ ghost use Rattle.thumb_insn.specs.Range.{IsCoded};
 ghost use Rattle.thumb_insn.specs.declared.Insn.{Insn as Instruction};
 ghost use Rattle.asm_laws.specs.Reading.{HasTarget, IsRead, IsSpelled, IsAccepted, IsAssembled};
 
-pub use image::{a_source_has_one_assembly, image_length};
+pub use image::{a_source_has_one_assembly, each_line_has_its_bytes, image_length};
 
 /// The text of an instruction at an address, as `Insn::text` writes it, is a line that the
 /// assembler's definitions read as this very instruction at that address, whatever values names
