@@ -1,4 +1,4 @@
--- The task that is told with a change could make it.
+-- The task that an answer names with a change could make it.
 use Rattle.std.proofs.Common.{◌≡◌, ◌≢◌, ◌∙◌, ◌⊎◌, inl, inr, ℕ, eqb, Bool, true, false, cond, Option, Some, None, refl, sym, ap}
 use Rattle.std.specs.Option.{option_map}
 use Rattle.std.proofs.lemmas.Bool.{eqb-true, eq-eqb}

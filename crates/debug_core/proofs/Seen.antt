@@ -1,4 +1,4 @@
--- What is seen of two states that are equal with births modulo 64: of a task, of a line, of a device.
+-- The views of tasks, lines and devices of two states that are equal with births modulo 64.
 use Rattle.std.proofs.Common.{◌≡◌, ◌∙◌, ℕ, zero, suc, ◌+◌, ◌*◌, ◌%◌, ◌≤◌, ◌<◌, eqb, Bool, cond, List, [], ◌∷◌, length, get_or, Option, Some, None, refl, sym, ap, arith}
 use Rattle.std.specs.Prelude.{find, slice_get, slice_index_or}
 use Rattle.std.specs.Option.{option_map}

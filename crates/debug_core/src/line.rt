@@ -1,4 +1,4 @@
-//! What a line of commands says.
+//! Reads a line as a command.
 
 ghost use Rattle.std.specs.Prelude.{◌≡◌, ◌∷◌, []};
 ghost use Rattle.run_script.specs.Words.{words};
@@ -68,7 +68,7 @@ fn length_in(word: &[u8]) -> Option<u8>
     }
 }
 
-/// `mem`, with the words behind it.
+/// `mem` with the two words after it.
 fn mem_said(at: &[u8], len: &[u8]) -> Result<Option<Command>, u8>
     ensures { result ≡ mem_said (address_in at.now) (length_in len.now) }
 {
@@ -77,7 +77,7 @@ fn mem_said(at: &[u8], len: &[u8]) -> Result<Option<Command>, u8>
     Ok(Some(Command::Mem { at, len }))
 }
 
-/// A command by its name, with the one word behind it.
+/// A command by its name and the one word after it.
 fn named(name: &[u8], word: &[u8]) -> Result<Option<Command>, u8>
     ensures { result ≡ named name.now word.now }
 {
@@ -123,7 +123,7 @@ fn is_search(name: &[u8]) -> bool
     name == b"go".as_slice() || name == b"back".as_slice()
 }
 
-/// A search by its name, `go` or else `back`.
+/// A search by its name: `go`, or otherwise `back`.
 fn search_said(
     name: &[u8],
     turns: Option<u32>,
@@ -166,7 +166,7 @@ fn numbered_said(
     search_said(name, turns, sought)
 }
 
-/// A name with two words behind it that are turns and a kind.
+/// A name followed by two words: turns and a kind.
 fn search_of_kind(name: &[u8], turns: &[u8], kind: &[u8]) -> Result<Option<Command>, u8>
     ensures { result ≡ search_of_kind name.now turns.now kind.now }
 {
@@ -177,7 +177,7 @@ fn search_of_kind(name: &[u8], turns: &[u8], kind: &[u8]) -> Result<Option<Comma
     }
 }
 
-/// A name with three words behind it: turns, a kind or `change`, and a number or an address.
+/// A name followed by three words: turns, a kind or `change`, and a number or an address.
 fn search_of_number(
     name: &[u8],
     turns: &[u8],
@@ -206,7 +206,7 @@ fn two_said(name: &[u8], one: &[u8], two: &[u8]) -> Result<Option<Command>, u8>
     }
 }
 
-/// A name with no word behind it.
+/// A name without a word after it.
 fn alone(name: &[u8]) -> Result<Option<Command>, u8>
     ensures { result ≡ form_said name.now [] }
 {
@@ -217,7 +217,7 @@ fn alone(name: &[u8]) -> Result<Option<Command>, u8>
     }
 }
 
-/// A name with two words and more behind it.
+/// A name followed by two words or more.
 fn two_or_more(name: &[u8], one: &[u8], two: &[u8], text: &[u8]) -> Result<Option<Command>, u8>
     ensures { result ≡ form_said name.now (one.now ∷ two.now ∷ words text.now) }
 {
@@ -232,8 +232,8 @@ fn two_or_more(name: &[u8], one: &[u8], two: &[u8], text: &[u8]) -> Result<Optio
     }
 }
 
-/// A name and the words behind it: none of `notes`, two of `mem`, two or three of a search, one of
-/// the others.
+/// A name and the words after it: `notes` has none, `mem` two, a search two or three, every other
+/// command one.
 fn form_said(name: &[u8], text: &[u8]) -> Result<Option<Command>, u8>
     ensures { result ≡ form_said name.now (words text.now) }
 {
@@ -261,7 +261,7 @@ fn words_said(line: &[u8]) -> Result<Option<Command>, u8>
     }
 }
 
-/// What a line says: a command, or none, or the first of the causes 1 to 3.
+/// What a line says: a command, no command, or the first of the causes 1 to 3.
 #[tactic(auto, unfolding(crate::specs::Lines::said))]
 pub(crate) fn said(line: &[u8]) -> Result<Option<Command>, u8>
     ensures { result ≡ said line.now }
