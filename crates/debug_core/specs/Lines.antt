@@ -53,20 +53,28 @@ mem_said None len = Err 3
 mem_said (Some at) None = Err 3
 mem_said (Some at) (Some len) = Ok (Some (Mem at len))
 
--- a name followed by one word
-abbrev pub named : List ℕ → List ℕ → Said
-named name word =
-    if bytes_eq name (codes "break") then with_number Break (address_in word)
-    else if bytes_eq name (codes "clear") then with_number Clear (address_in word)
-    else if bytes_eq name (codes "step") then with_number Step (turns_in word)
-    else if bytes_eq name (codes "back") then with_number Back (turns_in word)
-    else if bytes_eq name (codes "go") then with_number Go (turns_in word)
-    else if bytes_eq name (codes "at") then with_number At (turns_in word)
-    else if bytes_eq name (codes "regs") then with_number Regs (task_in word)
+-- A name followed by one word. A command shows a part of the state, moves the cursor, or is about a breakpoint.
+abbrev pub shown : List ℕ → List ℕ → Said
+shown name word =
+    if bytes_eq name (codes "regs") then with_number Regs (task_in word)
     else if bytes_eq name (codes "task") then with_number Task (task_in word)
     else if bytes_eq name (codes "line") then with_number Irq (line_in word)
     else if bytes_eq name (codes "device") then with_number Device (device_in word)
     else Err 2
+
+abbrev pub moved : List ℕ → List ℕ → Said
+moved name word =
+    if bytes_eq name (codes "step") then with_number Step (turns_in word)
+    else if bytes_eq name (codes "back") then with_number Back (turns_in word)
+    else if bytes_eq name (codes "go") then with_number Go (turns_in word)
+    else if bytes_eq name (codes "at") then with_number At (turns_in word)
+    else shown name word
+
+abbrev pub named : List ℕ → List ℕ → Said
+named name word =
+    if bytes_eq name (codes "break") then with_number Break (address_in word)
+    else if bytes_eq name (codes "clear") then with_number Clear (address_in word)
+    else moved name word
 
 -- ---- searches: `go` or `back`, a number of turns, and what is sought
 
