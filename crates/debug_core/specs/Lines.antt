@@ -8,7 +8,7 @@ use Rattle.run_script.specs.Statements.{number_within, starts_by_hash}
 use Rattle.trace_text.specs.declared.kinds.NoteKind.{NoteKind}
 use Rattle.trace_text.specs.Kinds.{kind_in}
 use Rattle.debug_core.specs.declared.command.Command.{Command}
-use Rattle.debug_core.specs.declared.command.Command.TheVariants.{Break, Clear, Step, Back, Go, At, GoFor, BackFor, Notes, Regs, Task, Irq, Device, Mem}
+use Rattle.debug_core.specs.declared.command.Command.TheVariants.{Break, Clear, Step, Back, Go, At, GoFor, BackFor, Notes, Help, Quit, Regs, Task, Irq, Device, Mem}
 use Rattle.debug_core.specs.declared.command.Sought.{Sought}
 use Rattle.debug_core.specs.declared.command.Sought.TheVariants as sought
 
@@ -105,13 +105,20 @@ search_of_number name turns kind number =
     else if bytes_eq kind (codes "change") then search_said name (turns_in turns) (option_map (λ at. sought.Change at) (address_in number))
     else numbered_said name (turns_in turns) (kind_in kind) (number_in number)
 
--- ---- a name and the words after it: `notes` has none, `mem` two, a search two or three, every other command
--- one
+-- ---- a name and the words after it: `notes`, `help` and `quit` have none, `mem` two, a search two or three,
+-- every other command one
+abbrev pub alone : List ℕ → Said
+alone name =
+    if bytes_eq name (codes "notes") then Ok (Some Notes)
+    else if bytes_eq name (codes "help") then Ok (Some Help)
+    else if bytes_eq name (codes "quit") then Ok (Some Quit)
+    else Err 2
+
 abbrev pub two_said : List ℕ → List ℕ → List ℕ → Said
 two_said name one two = if bytes_eq name (codes "mem") then mem_said (address_in one) (length_in two) else search_of_kind name one two
 
 abbrev pub form_said : List ℕ → List (List ℕ) → Said
-form_said name [] = if bytes_eq name (codes "notes") then Ok (Some Notes) else Err 2
+form_said name [] = alone name
 form_said name (word ∷ []) = named name word
 form_said name (one ∷ two ∷ []) = two_said name one two
 form_said name (one ∷ two ∷ three ∷ []) = search_of_number name one two three

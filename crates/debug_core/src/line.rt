@@ -2,7 +2,7 @@
 
 ghost use Rattle.std.specs.Prelude.{◌≡◌, ◌∷◌, []};
 ghost use Rattle.run_script.specs.Words.{words};
-ghost use Rattle.debug_core.specs.Lines.{address_in, device_in, form_said, is_search, kind_said, length_in, line_in, mem_said, moved, named, number_in, numbered_said, said, search_of_kind, search_of_number, search_said, shown, task_in, turns_in, two_said, words_said};
+ghost use Rattle.debug_core.specs.Lines.{address_in, alone, device_in, form_said, is_search, kind_said, length_in, line_in, mem_said, moved, named, number_in, numbered_said, said, search_of_kind, search_of_number, search_said, shown, task_in, turns_in, two_said, words_said};
 
 use crate::command::{Command, Sought};
 use run_script::{are_allowed, first_word, number_within, starts_by_hash};
@@ -225,10 +225,14 @@ fn two_said(name: &[u8], one: &[u8], two: &[u8]) -> Result<Option<Command>, u8>
 
 /// A name without a word after it.
 fn alone(name: &[u8]) -> Result<Option<Command>, u8>
-    ensures { result ≡ form_said name.now [] }
+    ensures { result ≡ alone name.now }
 {
     if name == b"notes".as_slice() {
         Ok(Some(Command::Notes))
+    } else if name == b"help".as_slice() {
+        Ok(Some(Command::Help))
+    } else if name == b"quit".as_slice() {
+        Ok(Some(Command::Quit))
     } else {
         Err(2)
     }
@@ -249,8 +253,8 @@ fn two_or_more(name: &[u8], one: &[u8], two: &[u8], text: &[u8]) -> Result<Optio
     }
 }
 
-/// A name and the words after it: `notes` has none, `mem` two, a search two or three, every other
-/// command one.
+/// A name and the words after it: `notes`, `help` and `quit` have none, `mem` two, a search two or
+/// three, every other command one.
 fn form_said(name: &[u8], text: &[u8]) -> Result<Option<Command>, u8>
     ensures { result ≡ form_said name.now (words text.now) }
 {
