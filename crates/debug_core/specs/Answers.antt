@@ -111,6 +111,8 @@ answer x s (command.At turn) = at_turn x (after x s (command.At turn)).cursor
 answer x s (command.GoFor n what) = sought_for x s what (ahead x s n what) (forward x s.cursor n)
 answer x s (command.BackFor n what) = sought_for x s what (behind x s n what) (s.cursor - n)
 answer x s command.Notes = Absent  -- at turn 0; at others see `told`
+answer x s command.Help = answered.Help
+answer x s command.Quit = answered.Over
 answer x s (command.Regs task) = registers_of (state_at x s.cursor) task
 answer x s (command.Task task) = task_of (state_at x s.cursor) task
 answer x s (command.Irq line) = irq_of x.setup (state_at x s.cursor) line
@@ -169,6 +171,10 @@ device_line k kind base count queue = codes "device " ++ decimal k ++ spaced_hex
 abbrev pub refusal_line : ℕ → List ℕ
 refusal_line cause = codes "refused " ++ decimal cause ++ codes "\n"
 
+-- the forms of the commands, in one line
+abbrev pub help_line : List ℕ
+help_line = codes "commands: break H, clear H, step N, back N, go N, go N KIND [M], back N KIND [M], go N change H, back N change H, at N, notes, help, quit, regs T, task T, line L, device D, mem H L\n"
+
 abbrev pub text_of : Answer → List ℕ
 text_of (Set at) = address_line (codes "break ") at
 text_of Full = codes "full\n"
@@ -183,6 +189,8 @@ text_of (answered.Irq number owner bits enabled pending) = irq_line number owner
 text_of (answered.Device k kind base count queue) = device_line k kind base count queue.items
 text_of (Registers words flags) = low_text words ++ high_text words flags
 text_of (Bytes at bytes) = bytes_line at bytes.items
+text_of answered.Help = help_line
+text_of answered.Over = []
 
 -- ---- what a command writes: an answer, or the notes of the turn before the cursor, with its instruction
 
@@ -200,16 +208,18 @@ told x s (command.Go n) = text_of (answer x s (command.Go n))
 told x s (command.At turn) = text_of (answer x s (command.At turn))
 told x s (command.GoFor n what) = text_of (answer x s (command.GoFor n what))
 told x s (command.BackFor n what) = text_of (answer x s (command.BackFor n what))
+told x s command.Help = text_of (answer x s command.Help)
+told x s command.Quit = text_of (answer x s command.Quit)
 told x s (command.Regs task) = text_of (answer x s (command.Regs task))
 told x s (command.Task task) = text_of (answer x s (command.Task task))
 told x s (command.Irq line) = text_of (answer x s (command.Irq line))
 told x s (command.Device device) = text_of (answer x s (command.Device device))
 told x s (command.Mem at n) = text_of (answer x s (command.Mem at n))
 
--- the text of all these commands of a session, in order
+-- the text of these commands of a session, in order, up to the first `quit`
 abbrev pub told_from : Scenario → Session → List Command → List ℕ
 told_from x s [] = []
-told_from x s (command ∷ rest) = told x s command ++ told_from x (after x s command) rest
+told_from x s (command ∷ rest) = if s.is_over then [] else told x s command ++ told_from x (after x s command) rest
 
 -- the whole text of a session
 abbrev pub text : Scenario → List Command → List ℕ

@@ -8,7 +8,7 @@ use Rattle.run_script.specs.Statements.{number_within, starts_by_hash}
 use Rattle.trace_text.specs.declared.kinds.NoteKind.{NoteKind}
 use Rattle.trace_text.specs.Kinds.{kind_in}
 use Rattle.debug_core.specs.declared.command.Command.{Command}
-use Rattle.debug_core.specs.declared.command.Command.TheVariants.{Break, Clear, Step, Back, Go, At, GoFor, BackFor, Notes, Regs, Task, Irq, Device, Mem}
+use Rattle.debug_core.specs.declared.command.Command.TheVariants.{Break, Clear, Step, Back, Go, At, GoFor, BackFor, Notes, Help, Quit, Regs, Task, Irq, Device, Mem}
 use Rattle.debug_core.specs.declared.command.Sought.{Sought}
 use Rattle.debug_core.specs.declared.command.Sought.TheVariants as sought
 
@@ -53,20 +53,28 @@ mem_said None len = Err 3
 mem_said (Some at) None = Err 3
 mem_said (Some at) (Some len) = Ok (Some (Mem at len))
 
--- a name followed by one word
-abbrev pub named : List ℕ → List ℕ → Said
-named name word =
-    if bytes_eq name (codes "break") then with_number Break (address_in word)
-    else if bytes_eq name (codes "clear") then with_number Clear (address_in word)
-    else if bytes_eq name (codes "step") then with_number Step (turns_in word)
-    else if bytes_eq name (codes "back") then with_number Back (turns_in word)
-    else if bytes_eq name (codes "go") then with_number Go (turns_in word)
-    else if bytes_eq name (codes "at") then with_number At (turns_in word)
-    else if bytes_eq name (codes "regs") then with_number Regs (task_in word)
+-- A name followed by one word. A command shows a part of the state, moves the cursor, or is about a breakpoint.
+abbrev pub shown : List ℕ → List ℕ → Said
+shown name word =
+    if bytes_eq name (codes "regs") then with_number Regs (task_in word)
     else if bytes_eq name (codes "task") then with_number Task (task_in word)
     else if bytes_eq name (codes "line") then with_number Irq (line_in word)
     else if bytes_eq name (codes "device") then with_number Device (device_in word)
     else Err 2
+
+abbrev pub moved : List ℕ → List ℕ → Said
+moved name word =
+    if bytes_eq name (codes "step") then with_number Step (turns_in word)
+    else if bytes_eq name (codes "back") then with_number Back (turns_in word)
+    else if bytes_eq name (codes "go") then with_number Go (turns_in word)
+    else if bytes_eq name (codes "at") then with_number At (turns_in word)
+    else shown name word
+
+abbrev pub named : List ℕ → List ℕ → Said
+named name word =
+    if bytes_eq name (codes "break") then with_number Break (address_in word)
+    else if bytes_eq name (codes "clear") then with_number Clear (address_in word)
+    else moved name word
 
 -- ---- searches: `go` or `back`, a number of turns, and what is sought
 
@@ -97,13 +105,20 @@ search_of_number name turns kind number =
     else if bytes_eq kind (codes "change") then search_said name (turns_in turns) (option_map (λ at. sought.Change at) (address_in number))
     else numbered_said name (turns_in turns) (kind_in kind) (number_in number)
 
--- ---- a name and the words after it: `notes` has none, `mem` two, a search two or three, every other command
--- one
+-- ---- a name and the words after it: `notes`, `help` and `quit` have none, `mem` two, a search two or three,
+-- every other command one
+abbrev pub alone : List ℕ → Said
+alone name =
+    if bytes_eq name (codes "notes") then Ok (Some Notes)
+    else if bytes_eq name (codes "help") then Ok (Some Help)
+    else if bytes_eq name (codes "quit") then Ok (Some Quit)
+    else Err 2
+
 abbrev pub two_said : List ℕ → List ℕ → List ℕ → Said
 two_said name one two = if bytes_eq name (codes "mem") then mem_said (address_in one) (length_in two) else search_of_kind name one two
 
 abbrev pub form_said : List ℕ → List (List ℕ) → Said
-form_said name [] = if bytes_eq name (codes "notes") then Ok (Some Notes) else Err 2
+form_said name [] = alone name
 form_said name (word ∷ []) = named name word
 form_said name (one ∷ two ∷ []) = two_said name one two
 form_said name (one ∷ two ∷ three ∷ []) = search_of_number name one two three

@@ -1,11 +1,11 @@
--- A session with a run: a cursor, which is a turn, and breakpoints (docs/FORMATS.md, Commands).
-use Rattle.std.specs.Prelude.{ℕ, ◌+◌, ◌-◌, ◌==◌, Bool, not, List, [], ◌∷◌, ◌++◌, length, filter, find, Option, Some, None, if◌then◌else◌, nat_lt}
+-- A session with a run: a cursor, which is a turn, breakpoints, and whether it is over (docs/FORMATS.md, Commands).
+use Rattle.std.specs.Prelude.{ℕ, ◌+◌, ◌-◌, ◌==◌, Bool, false, true, not, List, [], ◌∷◌, ◌++◌, length, filter, find, Option, Some, None, if◌then◌else◌, nat_lt}
 use Rattle.std.specs.List.{range_with_len}
 use Rattle.board_model.specs.Script.{Scenario}
 use Rattle.board_model.specs.Turn.{turned}
 use Rattle.board_core.specs.fast.Breakpoints.{stands, is_hit}
 use Rattle.debug_core.specs.declared.command.Command.{Command}
-use Rattle.debug_core.specs.declared.command.Command.TheVariants.{Break, Clear, Step, Back, Go, At, GoFor, BackFor, Notes, Regs, Task, Irq, Device, Mem}
+use Rattle.debug_core.specs.declared.command.Command.TheVariants.{Break, Clear, Step, Back, Go, At, GoFor, BackFor, Notes, Help, Quit, Regs, Task, Irq, Device, Mem}
 use Rattle.debug_core.specs.declared.command.Sought.{Sought}
 use Rattle.debug_core.specs.Runs.{forward, state_at}
 use Rattle.debug_core.specs.Searched.{can_be, first_found, last_found}
@@ -17,9 +17,10 @@ most_breakpoints = 16
 pub record Session : Type 0 where
   pub cursor : ℕ
   pub breakpoints : List ℕ  -- none of them twice
+  pub is_over : Bool  -- after `quit`: no further command is carried out
 
 abbrev pub opened : Session
-opened = record { cursor = 0; breakpoints = [] }
+opened = record { cursor = 0; breakpoints = []; is_over = false }
 
 -- ---- breakpoints
 
@@ -83,6 +84,8 @@ after x s (At turn) = record s { cursor = forward x 0 turn }
 after x s (GoFor n what) = record s { cursor = if_there x s what (gone x s n (ahead x s n what)) }
 after x s (BackFor n what) = record s { cursor = if_there x s what (gone_back s n (behind x s n what)) }
 after x s Notes = s
+after x s Help = s
+after x s Quit = record s { is_over = true }
 after x s (Regs task) = s
 after x s (Task task) = s
 after x s (Irq line) = s

@@ -1,5 +1,5 @@
 -- A session in the middle of a text: the lines that ended with an LF, and the line under way.
-use Rattle.std.specs.Prelude.{ℕ, ◌≡◌, ◌==◌, ◌⊎◌, List, [], ◌∷◌, ◌++◌, length, take, Option, None, Result, Ok, OnOk, OnErr}
+use Rattle.std.specs.Prelude.{ℕ, ◌≡◌, ◌==◌, ◌⊎◌, true, List, [], ◌∷◌, ◌++◌, length, take, Option, None, Result, Ok, OnOk, OnErr}
 use Rattle.std.specs.List.{count_by}
 use Rattle.std.specs.Io.KnownBytes.{Appends}
 use Rattle.text_lines.specs.Text.{HasNoLf, lines_of}
@@ -10,16 +10,11 @@ use Rattle.board_core.specs.Data.{Shows}
 use Rattle.debug_core.specs.declared.debugger.Debugger.{Debugger}
 use Rattle.debug_core.specs.declared.live.LineUnderWay.{LineUnderWay}
 use Rattle.debug_core.specs.Lines.{Said}
-use Rattle.debug_core.specs.Live.{HasGiven, MayBeTaken, after_line, lines_told, live_said, live_text}
+use Rattle.debug_core.specs.Live.{HasGiven, MayBeTaken, after_lines, lines_told, live_said, live_text}
 use Rattle.debug_core.specs.Session.{Session}
 use Rattle.debug_core.specs.Sessions.{IsSession}
 
 -- ---- lines
-
--- the session after some lines
-abbrev pub after_lines : Scenario → Session → List (List ℕ) → Session
-after_lines x s [] = s
-after_lines x s (line ∷ lines) = after_lines x (after_line x s (live_said line)) lines
 
 -- a line or a part of a line, with or without the LF at its end
 abbrev pub IsOneLine : List ℕ → Type 0
@@ -78,9 +73,11 @@ BreaksAmid shown more w w' d under_way result = (x : Scenario) (s : Session) (te
 abbrev pub HasLived : {X : Type 0} {H : X → Type 0} → Shows X H → Scenario → Session → Option (List ℕ) → Debugger X H → Type 0
 HasLived shown x s contents d = (bytes : List ℕ) × MayBeTaken contents bytes × IsSession shown x d (after_lines x s (lines_of bytes))
 
--- all bytes that a session takes of a file were taken
+-- The bytes that a session takes of a file were taken: all of them, or so many that it is over.
 pub record HasTaken {X : Type 0} {H : X → Type 0} (shown : Shows X H) (x : Scenario) (s : Session) (name : List ℕ) (before after : FilesSeen) (w w' : SinkSeen) (d : Debugger X H) (under_way : LineUnderWay) : Type 0 where
   pub text : List ℕ
-  pub taken : MayBeTaken (before.contents name) text
+  pub rest : List ℕ
+  pub taken : MayBeTaken (before.contents name) (text ++ rest)
   pub given : HasGiven before.given after.given (length text)
   pub amid : IsAmid shown x s text w.written w'.written d under_way
+  pub all : (rest ≡ []) ⊎ ((after_lines x s amid.lines).is_over ≡ true)

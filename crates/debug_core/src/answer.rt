@@ -77,4 +77,8 @@ pub enum Answer {
         at: u32,
         bytes: ArrayVec<u8, 64>,
     },
+    /// The forms of the commands.
+    Help,
+    /// The session is over. This answer has no text.
+    Over,
 }

@@ -34,6 +34,10 @@ pub enum Command {
     BackFor { turns: u32, sought: Sought },
     /// Shows the notes of the turn before the cursor.
     Notes,
+    /// Names the forms of the commands.
+    Help,
+    /// Ends the session.
+    Quit,
     /// Shows the registers of a task, by its index.
     Regs { task: u16 },
     /// Shows the state of a task, by its index.

@@ -173,6 +173,7 @@ fn bytes(board: &Board, at: u32, len: u8) -> Answer
 pub struct Debugger {
     replay: Replay,
     breakpoints: Breakpoints,
+    pub(crate) is_over: bool,
 }
 
 impl Debugger {
@@ -190,6 +191,7 @@ impl Debugger {
         Ok(Debugger {
             replay: Replay::open(alloc, board)?,
             breakpoints: ArrayVec::new(),
+            is_over: false,
         })
     }
 
@@ -309,6 +311,11 @@ impl Debugger {
             Command::GoFor { turns, sought } => self.go_for(*turns, sought),
             Command::BackFor { turns, sought } => self.back_for(*turns, sought),
             Command::Notes => Answer::Absent,
+            Command::Help => Answer::Help,
+            Command::Quit => {
+                self.is_over = true;
+                Answer::Over
+            }
             Command::Regs { task } => registers(&self.replay, *task),
             Command::Task { task: i } => task(&self.replay, *i),
             Command::Irq { line } => irq(&self.replay.board, *line),
@@ -374,8 +381,9 @@ impl Debugger {
         out.flush()
     }
 
-    /// Carries out all commands of a text, one after the other. It pushes and flushes the answer of
-    /// each command before it carries out the next one. It takes no memory.
+    /// Carries out the commands of a text, one after the other, up to the first `quit`. It pushes
+    /// and flushes the answer of each command before it carries out the next one. It takes no
+    /// memory.
     ///
     /// # Errors
     ///
@@ -388,6 +396,9 @@ impl Debugger {
         ensures cause { HasCause (S.seen out.old).faults (S.seen out.new).faults result }
     {
         for command in commands.as_slice() {
+            if self.is_over {
+                return Ok(());
+            }
             self.command(command, out)?;
         }
         Ok(())

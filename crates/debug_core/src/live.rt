@@ -8,11 +8,11 @@ ghost use Rattle.board_core.specs.Data.{boxed};
 ghost use Rattle.outside_io.specs.Seen.{OnlyReads};
 ghost use Rattle.debug_core.specs.Answers.{refusal_line};
 ghost use Rattle.debug_core.specs.declared.live.LiveFault.TheVariants.{Unread, Failed as Broken};
-ghost use Rattle.debug_core.specs.Live.{BreaksTelling, BreaksUnread, TellsLive, after_line, line_told, live_said, live_text};
+ghost use Rattle.debug_core.specs.Live.{BreaksTelling, BreaksUnread, TellsLive, after_line, after_lines, line_told, live_said, live_text};
 ghost use Rattle.debug_core.specs.Reading.{AsksForFew};
 ghost use Rattle.debug_core.specs.Session.{Session};
 ghost use Rattle.debug_core.specs.Sessions.{IsSession};
-ghost use Rattle.debug_core.specs.UnderWay.{BreaksAmid, HasLived, HasTaken, IsAtLine, IsOneLine, IsTaking, IsUnderWay, TakesOn, after_lines, first_said};
+ghost use Rattle.debug_core.specs.UnderWay.{BreaksAmid, HasLived, HasTaken, IsAtLine, IsOneLine, IsTaking, IsUnderWay, TakesOn, first_said};
 
 use crate::command::Command;
 use crate::debugger::Debugger;
@@ -100,7 +100,8 @@ fn refuse<S: Sink>(cause: u8, out: &mut S) -> Result<(), Failed>
 }
 
 impl Debugger {
-    /// Carries out what a line says, pushes the answer and flushes the sink.
+    /// Carries out what a line says, pushes the answer and flushes the sink. It does nothing if the
+    /// session is over.
     fn answer_line<S: Sink>(
         &mut self,
         said: Result<Option<Command>, u8>,
@@ -114,6 +115,9 @@ impl Debugger {
             IsSession (boxed shown) x self.new (after_line x s said) }
         ensures cause { HasCause (S.seen out.old).faults (S.seen out.new).faults result }
     {
+        if self.is_over {
+            return Ok(());
+        }
         match said {
             Err(cause) => refuse(cause, out),
             Ok(None) => Ok(()),
@@ -184,8 +188,8 @@ impl Debugger {
         Ok(())
     }
 
-    /// Takes all reads of a file, one after the other. Afterwards the bytes after the last LF are
-    /// under way.
+    /// Takes the reads of a file, one after the other, until the file ends or the session is over.
+    /// Afterwards the bytes after the last LF are under way.
     fn take_pieces<F: Files, S: Sink>(
         &mut self,
         files: &mut F,
@@ -218,6 +222,9 @@ impl Debugger {
         let mut buf = [0u8; 4096];
         let mut place = 0u64;
         'pieces: while place < MOST_BYTES {
+            if self.is_over {
+                return Ok(());
+            }
             let room = buf.len().min((MOST_BYTES - place) as usize);
             let Ok(count) = files.read(name, place, &mut buf[..room]) else {
                 return Err(LiveFault::Unread);
@@ -234,9 +241,9 @@ impl Debugger {
     }
 
     /// Carries out the lines of a file one by one as they are read. It pushes and flushes the
-    /// answer to each line before it reads more (docs/FORMATS.md, Live). The answer to a refused
-    /// line is its cause, and such a line changes nothing. Up to 4,294,967,295 bytes are read. It
-    /// takes no memory.
+    /// answer to each line before it reads more (docs/FORMATS.md, Live). After `quit` it reads no
+    /// more. The answer to a refused line is its cause, and such a line changes nothing. Up to
+    /// 4,294,967,295 bytes are read. It takes no memory.
     ///
     /// # Errors
     ///

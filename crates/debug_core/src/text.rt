@@ -6,7 +6,7 @@ ghost use Rattle.arrayvec.specs.ArrayString.{array_string_len};
 ghost use Rattle.outside_io.specs.Outside.{Pushes, HasCause};
 ghost use Rattle.trace_text.specs.Text.{bit as bit_digit, byte_hex, line_of};
 ghost use Rattle.board_run.specs.Text.{low_text, high_text};
-ghost use Rattle.debug_core.specs.Answers.{address_line, at_line, bytes_line, change_line, device_line, end_word, hit_line, irq_line, kind_words, refusal_line, text_of};
+ghost use Rattle.debug_core.specs.Answers.{address_line, at_line, bytes_line, change_line, device_line, end_word, help_line, hit_line, irq_line, kind_words, refusal_line, text_of};
 
 use crate::answer::Answer;
 use arrayvec::ArrayString;
@@ -202,8 +202,18 @@ fn device_line(device: u8, kind: Kind, base: u32, count: u32, queue: &[u8], line
     line.push_str("\n");
 }
 
-/// Pushes the text of an answer: one line, or two lines for registers, one push for each. After a
-/// failing push nothing more is pushed.
+/// Pushes the forms of the commands.
+fn push_help<S: Sink>(out: &mut S) -> Result<(), Failed>
+    ensures bytes { Pushes (S.seen out.old).written (S.seen out.new).written help_line result }
+    ensures cause { HasCause (S.seen out.old).faults (S.seen out.new).faults result }
+{
+    out.push(
+        "commands: break H, clear H, step N, back N, go N, go N KIND [M], back N KIND [M], go N change H, back N change H, at N, notes, help, quit, regs T, task T, line L, device D, mem H L\n".as_bytes(),
+    )
+}
+
+/// Pushes the text of an answer, one push for each line: one line, two lines for registers, or none
+/// where the session is over. After a failing push nothing more is pushed.
 pub(crate) fn push_answer<S: Sink>(answer: &Answer, out: &mut S) -> Result<(), Failed>
     ensures bytes { Pushes (S.seen out.old).written (S.seen out.new).written (text_of answer.now)
         result }
@@ -242,6 +252,8 @@ pub(crate) fn push_answer<S: Sink>(answer: &Answer, out: &mut S) -> Result<(), F
             queue,
         } => device_line(*device, *kind, *base, *count, queue.as_slice(), &mut line),
         Answer::Bytes { at, bytes } => bytes_line(*at, bytes.as_slice(), &mut line),
+        Answer::Help => return push_help(out),
+        Answer::Over => return Ok(()),
     }
     out.push(line.as_str().as_bytes())
 }
