@@ -1,5 +1,5 @@
 -- Where the contents are seen: a reason gives the one verdict, but that a file cannot be read.
-use Rattle.std.proofs.Common.{◌≡◌, ℕ, ◌⊎◌, Bool, false, true, List, length, Option, Some, None, [], sym, ap, subst, ◌∙◌, inl, inr, arith, cond}
+use Rattle.std.proofs.Common.{◌≡◌, ℕ, ◌⊎◌, Bool, false, true, List, length, Option, Some, None, [], sym, ap, subst, ◌∙◌, inl, inr, arith, cond, zero, suc, refl, ◌<◌}
 use Rattle.std.specs.Prelude.{slice_get, slice_index_or, Result, Ok}
 use Rattle.std.proofs.lemmas.Option.{same_Some}
 use Rattle.kernel_abi.specs.Devices.{DeviceData}
@@ -32,7 +32,7 @@ use Rattle.run_cover.specs.Counted.{counts}
 use Rattle.run_cover.proofs.Knowing.{one_known}
 use Rattle.command_files.proofs.Faulting.{where_seen}
 use Rattle.trace_cli.proofs.Agreeing.{first_file}
-use Rattle.command_files.proofs.Agreeing.{Meets, less, more, same, meets, not_accepted, not_refused, no_file, refused_not_done, same_files, seen_further, may_further, same_contents}
+use Rattle.command_files.proofs.Agreeing.{Meets, less, more, same, not_accepted, not_refused, no_file, refused_not_done, same_files, seen_further, may_further, same_contents}
 
 -- ## what is done with files is one thing
 
@@ -75,6 +75,18 @@ same_done devices (lcov app script out steps) cs u v p q =
 same_done devices (help about) cs u v p q = p ∙ sym q
 
 -- ## a refusal by seen contents, and one by contents that may be
+
+-- three ways in which lengths meet
+meets_more : (m n : ℕ) → Meets m n → Meets (suc m) (suc n)
+meets_more m n (less lt) = less (omega arith)
+meets_more m n (more lt) = more (omega arith)
+meets_more m n (same e) = same (ap suc e)
+
+meets : (m n : ℕ) → Meets m n
+meets zero zero = same refl
+meets zero (suc n) = less (omega arith)
+meets (suc m) zero = more (omega arith)
+meets (suc m) (suc n) = meets_more m n (meets m n)
 
 -- two refusals are one
 same_refusal : (devices : List DeviceData) (seen : List ℕ → Option (List ℕ)) (job : Asked) (f g : File) (why why' : Why) (cs : List (List ℕ)) (c : List ℕ) → IsRefused (files_of devices job) seen f why

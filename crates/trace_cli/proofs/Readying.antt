@@ -173,7 +173,7 @@ answers_below {devices} {files} {D} {a} {b} (inr h) job same doing good = inr (h
 pub run_below : {devices : List DeviceData} {files : List ℕ → List File} {D : List (List ℕ) → Verdict → Type 0} {a b : FilesSeen} {w w' : SinkSeen} {r : ℕ} (n : ℕ) (detail : Detail) → AnswersRun files D n detail a b w w' r
     → (job : Asked) (same : (first : List ℕ) → files first ≡ files_of devices job first) (doing : (contents : List (List ℕ)) (v : Verdict) → D contents v → Does devices job contents v) → ((v : Verdict) → TellsFit n detail v r → TellsGood job v r) → AnswersJob devices job a b w w' r
 run_below n detail (inl s) job same doing good = inl s
-run_below {devices} {files} {D} {a} {b} n detail (inr h) job same doing good = inr (h.0, reason_below devices files D job same doing a b h.0 h.1, h.2.0, good h.0 h.2.1)
+run_below {devices} {files} {D} {a} {b} n detail (inr h) job same doing good = inr (h.0, reason_below devices files D job same doing a b h.0 h.1, h.2, good h.0 h.3)
 
 -- a file is not accepted
 pub answers_named_fault : {devices : List DeviceData} (job : Asked) (a b : FilesSeen) (w w' : SinkSeen) (h : NamedFault) (r : ℕ) → ((v : Verdict) → TellsGood job v r) → b.contents ≡ a.contents → IsNamedFaultIn (files_of devices job) a b h → SaysNamedFault w w' h r → AnswersJob devices job a b w w' r

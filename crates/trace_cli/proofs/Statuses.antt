@@ -15,7 +15,7 @@ use Rattle.trace_cli.specs.Verdict.{IsVerdict, Does, usage, usage_line}
 use Rattle.trace_cli.specs.Answer.{JobReason, cannot_read, refuses, does, CommandReason, no_job, of_job, TellsGoodIn, AnswersJob, Answers, HasDone, HasRefused, HasUnread, HasFront, Answered, IsComplete, IsDone}
 use Rattle.command_files.specs.Answer.{whole, cut}
 use Rattle.command_files.specs.Answer.{HasPut, HasSpoiled, Tells, spoiled, short}
-use Rattle.trace_cli.specs.Pushed as seen
+use Rattle.command_files.specs.Pushed as seen
 use Rattle.command_files.specs.Pushed.{Pushed, Says, pushed, silent}
 use Rattle.command_files.proofs.Answering.{audited_alone}
 use Rattle.trace_cli.proofs.Deciding.{Decided, agreed, not_read, decided}
