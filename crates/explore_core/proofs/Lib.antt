@@ -1,0 +1,6 @@
+pub mod Counting
+pub mod Showing
+pub mod EachOnce
+pub mod Enough
+pub mod Ahead
+pub mod Generations
