@@ -4,3 +4,4 @@ pub mod EachOnce
 pub mod Enough
 pub mod Ahead
 pub mod Generations
+pub mod OneTurn

@@ -7,3 +7,5 @@ pub mod Answers
 pub mod Views
 pub mod Ahead
 pub mod Clean
+pub mod There
+pub mod Made

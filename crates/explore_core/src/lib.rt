@@ -8,6 +8,7 @@ mod looking;
 mod seen;
 mod shown;
 mod standing;
+mod watching;
 
 pub use asked::{Condition, Fact, Line, Property, TaskFact, Test};
 pub use laws::{

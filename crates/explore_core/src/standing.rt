@@ -1,13 +1,9 @@
 //! What is kept of a run for a property, from turn to turn.
-ghost use Rattle.std.specs.Prelude.{◌≡◌, ◌≤◌};
-ghost use Rattle.task_table.specs.model.State.{State};
-ghost use Rattle.board_model.specs.Script.{Scenario};
-ghost use Rattle.board_core.specs.Data.{boxed};
-ghost use Rattle.board_core.specs.Stands.{Stands};
+ghost use Rattle.std.specs.Prelude.{◌≡◌};
 ghost use Rattle.explore_core.specs.Asked.{passes};
 ghost use Rattle.explore_core.specs.Kept.{owed_on, held_by};
 
-use crate::asked::{Condition, Fact, Test};
+use crate::asked::Test;
 
 /// What is kept of a property, or that it is broken.
 #[derive(Clone, Copy, PartialEq, Eq)]
@@ -26,14 +22,12 @@ pub(crate) fn passes(test: Test, value: u32, number: u32) -> bool
 }
 
 /// At a state where a condition holds, or does not: for how many states on end it has.
-fn held_by(holds: bool, turns: u32, kept: u32) -> Standing
-    requires below { kept ≤ turns }
-    requires few { turns ≤ 1000000000 }
+pub(crate) fn held_by(holds: bool, turns: u32, kept: u32) -> Standing
     ensures { result ≡ held_by holds turns kept }
 {
     if !holds {
         Standing::Kept { turns: 0 }
-    } else if turns < kept + 1 {
+    } else if turns <= kept {
         Standing::Broken
     } else {
         Standing::Kept { turns: kept + 1 }
@@ -42,7 +36,7 @@ fn held_by(holds: bool, turns: u32, kept: u32) -> Standing
 
 /// By a turn of which the line is told, or is not, and its answer, or is not: in how many turns the
 /// answer may still come, where it is owed.
-fn owed_on(told: bool, answered: bool, turns: u32, kept: u32) -> Standing
+pub(crate) fn owed_on(told: bool, answered: bool, turns: u32, kept: u32) -> Standing
     ensures { result ≡ owed_on told answered turns kept }
 {
     if answered {
