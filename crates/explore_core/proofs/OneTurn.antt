@@ -7,14 +7,19 @@ use Rattle.kernel_abi.specs.Devices.{DeviceData, device_at}
 use Rattle.mem_banks.specs.Memory.{Memory, byte_at, bytes_at, number_at, number_of}
 use Rattle.board_model.specs.Turn.{or_zero}
 use Rattle.task_table.specs.model.State.{State}
+use Rattle.board_model.specs.declared.outcomes.End.{End}
 use Rattle.board_model.specs.declared.outcomes.Level.TheVariants.{Calls}
 use Rattle.board_model.specs.Run.{ending}
 use Rattle.board_model.specs.Script.{Scenario}
 use Rattle.board_model.specs.Turn.{turn}
 use Rattle.explore_core.specs.declared.asked.Property.{Property}
+use Rattle.explore_core.specs.declared.standing.Standing.{Standing}
 use Rattle.explore_core.specs.declared.standing.Standing.TheVariants as standing
+use Rattle.explore_core.specs.declared.verdict.Verdict.{Verdict}
+use Rattle.explore_core.specs.declared.verdict.Verdict.TheVariants as verdict
+use Rattle.explore_core.specs.Verdicts.{broken_by, ended, stepped, unless_broken}
 use Rattle.explore_core.specs.Asked.{is_waiting}
-use Rattle.explore_core.specs.Kept.{broken_from, by_turn, from_standing, on_state, unless_ended}
+use Rattle.explore_core.specs.Kept.{broken_from, by_turn, found_at_end, from_standing, on_state, unless_ended}
 
 -- ## a word
 
@@ -99,15 +104,28 @@ module _ (p : Property) (x : Scenario) (left kept : ℕ) (s : State) (goes : end
   unfolding broken_from
   one_turn = ap (λ o. unless_ended p kept s o (from_standing s.turn (by_turn p kept x s) (λ later. from_standing next.turn (on_state p later next) (λ now. broken_from p x left now next)))) goes
 
-  pub broken_here : by_turn p kept x s ≡ standing.Broken → broken_from p x (suc left) kept s ≡ Some s.turn
-  broken_here e = one_turn ∙ ap (λ t. from_standing s.turn t (λ later. from_standing next.turn (on_state p later next) (λ now. broken_from p x left now next))) e
+pub goes_on : (p : Property) (x : Scenario) (left : ℕ) (v : Verdict) (s : State) → ending x (suc left) s ≡ None → broken_by p x (suc left) v s ≡ broken_by p x left (stepped p x v s) (turn Calls x s).state
+goes_on p x left (verdict.Broken t) s goes = refl
+goes_on p x left (verdict.Open kept) s goes = one_turn p x left kept s goes ∙ by_first (by_turn p kept x s)
+  where
+    next : State
+    next = (turn Calls x s).state
 
-  pub broken_there : (later : ℕ) → by_turn p kept x s ≡ standing.Kept later → on_state p later next ≡ standing.Broken → broken_from p x (suc left) kept s ≡ Some next.turn
-  broken_there later e f =
-      one_turn ∙ ap (λ t. from_standing s.turn t (λ later. from_standing next.turn (on_state p later next) (λ now. broken_from p x left now next))) e
-      ∙ ap (λ t. from_standing next.turn t (λ now. broken_from p x left now next)) f
+    by_second : (t : Standing) → from_standing next.turn t (λ now. broken_from p x left now next) ≡ broken_by p x left (unless_broken next.turn t (λ now. verdict.Open now)) next
+    by_second standing.Broken = refl
+    by_second (standing.Kept now) = refl
 
-  pub still_open : (later now : ℕ) → by_turn p kept x s ≡ standing.Kept later → on_state p later next ≡ standing.Kept now → broken_from p x (suc left) kept s ≡ broken_from p x left now next
-  still_open later now e f =
-      one_turn ∙ ap (λ t. from_standing s.turn t (λ later. from_standing next.turn (on_state p later next) (λ now. broken_from p x left now next))) e
-      ∙ ap (λ t. from_standing next.turn t (λ now. broken_from p x left now next)) f
+    by_first : (t : Standing) → from_standing s.turn t (λ later. from_standing next.turn (on_state p later next) (λ now. broken_from p x left now next)) ≡
+        broken_by p x left (unless_broken s.turn t (λ later. unless_broken next.turn (on_state p later next) (λ now. verdict.Open now))) next
+    by_first standing.Broken = refl
+    by_first (standing.Kept later) = by_second (on_state p later next)
+
+ended_from : (p : Property) (x : Scenario) (left kept : ℕ) (s : State) (e : End) → ending x left s ≡ Some e → broken_from p x left kept s ≡ found_at_end p kept e s
+unfolding broken_from
+ended_from p x zero kept s e h = ap (λ o. unless_ended p kept s o None) h
+ended_from p x (suc left) kept s e h =
+    ap (λ o. unless_ended p kept s o (from_standing s.turn (by_turn p kept x s) (λ later. from_standing (turn Calls x s).state.turn (on_state p later (turn Calls x s).state) (λ now. broken_from p x left now (turn Calls x s).state)))) h
+
+pub ends : (p : Property) (x : Scenario) (left : ℕ) (v : Verdict) (s : State) (e : End) → ending x left s ≡ Some e → broken_by p x left v s ≡ ended p v e s
+ends p x left (verdict.Broken t) s e h = refl
+ends p x left (verdict.Open kept) s e h = ended_from p x left kept s e h

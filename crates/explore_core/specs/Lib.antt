@@ -9,3 +9,4 @@ pub mod Ahead
 pub mod Clean
 pub mod There
 pub mod Made
+pub mod Verdicts

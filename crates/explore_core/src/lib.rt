@@ -8,6 +8,7 @@ mod looking;
 mod seen;
 mod shown;
 mod standing;
+mod verdict;
 mod watching;
 
 pub use asked::{Condition, Fact, Line, Property, TaskFact, Test};
@@ -17,3 +18,4 @@ pub use laws::{
     what_is_to_come_decides_nothing_yet,
 };
 pub use shown::{is_so_of_byte, is_so_of_task};
+pub use verdict::a_verdict_decides_as_the_run_does;
