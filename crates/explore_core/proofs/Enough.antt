@@ -16,10 +16,10 @@ use Rattle.board_model.specs.Script.{Scenario, start_of}
 use Rattle.board_model.specs.Turn.{turn}
 use Rattle.board_model.proofs.Counts.{turn_more}
 use Rattle.board_model.proofs.RunKeeps.{state_run, sane_turns}
-use Rattle.explore_core.specs.declared.asked.Condition.{Condition}
-use Rattle.explore_core.specs.declared.asked.Line.{Line}
-use Rattle.explore_core.specs.declared.asked.Property.{Property}
-use Rattle.explore_core.specs.declared.asked.Property.TheVariants as property
+use Rattle.run_question.specs.declared.asked.Condition.{Condition}
+use Rattle.run_question.specs.declared.asked.Line.{Line}
+use Rattle.run_question.specs.declared.asked.Property.{Property}
+use Rattle.run_question.specs.declared.asked.Property.TheVariants as property
 use Rattle.explore_core.specs.declared.standing.Standing.TheVariants.{Kept, Broken}
 use Rattle.explore_core.specs.Asked.{broken_in, changes, due, ends_well, has_lasted, holds, is_left, is_owed, is_some_other, is_unanswered, run_of, state_at, tells, turns_in, unless_good}
 use Rattle.explore_core.specs.Asked as asked

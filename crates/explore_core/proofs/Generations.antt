@@ -21,13 +21,13 @@ use Rattle.snapshot.specs.Loaded.{IsSpelledBy, sites}
 use Rattle.snapshot.specs.Saved.{SpellsState}
 use Rattle.snapshot.proofs.Runs.{counted_reduced}
 use Rattle.snapshot.proofs.StandsForSome.{reduced_again}
-use Rattle.explore_core.specs.declared.asked.Condition.{Condition}
-use Rattle.explore_core.specs.declared.asked.Fact.{Fact}
-use Rattle.explore_core.specs.declared.asked.Fact.TheVariants as fact
-use Rattle.explore_core.specs.declared.asked.Property.{Property}
-use Rattle.explore_core.specs.declared.asked.Property.TheVariants as property
-use Rattle.explore_core.specs.declared.asked.TaskFact.{TaskFact}
-use Rattle.explore_core.specs.declared.asked.TaskFact.TheVariants as task_fact
+use Rattle.run_question.specs.declared.asked.Condition.{Condition}
+use Rattle.run_question.specs.declared.asked.Fact.{Fact}
+use Rattle.run_question.specs.declared.asked.Fact.TheVariants as fact
+use Rattle.run_question.specs.declared.asked.Property.{Property}
+use Rattle.run_question.specs.declared.asked.Property.TheVariants as property
+use Rattle.run_question.specs.declared.asked.TaskFact.{TaskFact}
+use Rattle.run_question.specs.declared.asked.TaskFact.TheVariants as task_fact
 use Rattle.explore_core.specs.Answers.{Asking}
 use Rattle.explore_core.specs.Asked.{holds, is_so, is_so_of_task, is_some_other}
 use Rattle.explore_core.specs.Clean.{AreClean, IsClean}

@@ -9,8 +9,8 @@ use Rattle.task_table.specs.kept.Holds.{wait_of}
 use Rattle.task_table.specs.model.Reading.{task_at, call_of, listen_of, is_ready, is_well}
 use Rattle.board_core.specs.declared.views.TaskView.{TaskView}
 use Rattle.board_core.specs.Views.{IsTask}
-use Rattle.explore_core.specs.declared.asked.TaskFact.{TaskFact}
-use Rattle.explore_core.specs.declared.asked.TaskFact.TheVariants as task_fact
+use Rattle.run_question.specs.declared.asked.TaskFact.{TaskFact}
+use Rattle.run_question.specs.declared.asked.TaskFact.TheVariants as task_fact
 use Rattle.explore_core.specs.Asked.{is_so_of_task}
 use Rattle.explore_core.specs.Views.{is_call, is_listen, is_nothing, is_shown}
 

@@ -1,24 +1,16 @@
--- What is answered to a question: of each property whether all schedules keep it, and the first that does not (docs/FORMATS.md, Exploration).
+-- What is answered to a question: of each property whether all schedules keep it, and the first that does not (docs/EXPLORE.md, Exploration).
 use Rattle.std.specs.Prelude.{ℕ, ◌≡◌, ◌==◌, Bool, nat_le, nat_lt, if◌then◌else◌, List, [], ◌∷◌, ◌++◌, length, map, filter, fold, codes, decimal, find, Contains, Option, Some, None, is_some}
 use Rattle.std.specs.List.{flat_map, list_any}
 use Rattle.std.specs.Option.{option_or}
 use Rattle.run_script.specs.declared.events.Event.{Event}
 use Rattle.run_script.specs.declared.events.Event.TheVariants.{Tick, Irq, Feed}
 use Rattle.run_script.specs.Scripts.{Listed, ScriptData}
+pub use Rattle.run_question.specs.Questions.{Question, Stated}
 use Rattle.board_model.specs.Script.{Scenario}
-use Rattle.explore_core.specs.declared.asked.Property.{Property}
+use Rattle.run_question.specs.declared.asked.Property.{Property}
 use Rattle.explore_core.specs.Asked.{asks, broken_in}
 use Rattle.explore_core.specs.Schedules.{Arrival, Coming, Offer, Schedule, events_of_schedule, how_many, scheduled, schedules}
 use Rattle.explore_core.specs.Walked.{courses_of, schedule_of}
-
--- a property with its words
-pub record Stated : Type 0 where
-  pub words : List ℕ
-  pub property : Property
-
-pub record Question : Type 0 where
-  pub arrivals : List Arrival
-  pub properties : List Stated
 
 -- what is explored: a scenario, a question, and how many turns a run has at most
 pub record Asking : Type 0 where

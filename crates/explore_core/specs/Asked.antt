@@ -1,4 +1,4 @@
--- What is asked of a run: conditions of its states, and properties (docs/FORMATS.md, Question).
+-- What is asked of a run: conditions of its states, and properties (docs/EXPLORE.md, Question).
 use Rattle.std.specs.Prelude.{ℕ, ◌+◌, ◌-◌, ◌==◌, ◌&&◌, nat_le, nat_lt, Bool, true, false, not, if◌then◌else◌, find, length, min, bit_and, Option, Some, None, is_some, is_none}
 use Rattle.std.specs.List.{list_any, list_all, range_with_len}
 use Rattle.std.specs.Option.{option_map}
@@ -15,16 +15,16 @@ use Rattle.board_model.specs.Turn.{turn}
 use Rattle.board_core.specs.Changes.{change_in}
 use Rattle.board_core.specs.declared.changes.Change.{Change}
 use Rattle.trace_text.specs.Kinds.{is_sought}
-use Rattle.explore_core.specs.declared.asked.Fact.{Fact}
-use Rattle.explore_core.specs.declared.asked.Fact.TheVariants as fact
-use Rattle.explore_core.specs.declared.asked.TaskFact.{TaskFact}
-use Rattle.explore_core.specs.declared.asked.TaskFact.TheVariants as task_fact
-use Rattle.explore_core.specs.declared.asked.Test.{Test}
-use Rattle.explore_core.specs.declared.asked.Test.TheVariants.{Is, Above}
-use Rattle.explore_core.specs.declared.asked.Condition.{Condition}
-use Rattle.explore_core.specs.declared.asked.Line.{Line}
-use Rattle.explore_core.specs.declared.asked.Property.{Property}
-use Rattle.explore_core.specs.declared.asked.Property.TheVariants as property
+use Rattle.run_question.specs.declared.asked.Fact.{Fact}
+use Rattle.run_question.specs.declared.asked.Fact.TheVariants as fact
+use Rattle.run_question.specs.declared.asked.TaskFact.{TaskFact}
+use Rattle.run_question.specs.declared.asked.TaskFact.TheVariants as task_fact
+use Rattle.run_question.specs.declared.asked.Test.{Test}
+use Rattle.run_question.specs.declared.asked.Test.TheVariants.{Is, Above}
+use Rattle.run_question.specs.declared.asked.Condition.{Condition}
+use Rattle.run_question.specs.declared.asked.Line.{Line}
+use Rattle.run_question.specs.declared.asked.Property.{Property}
+use Rattle.run_question.specs.declared.asked.Property.TheVariants as property
 
 -- ## conditions of a state
 

@@ -2,7 +2,7 @@
 use Rattle.std.specs.Prelude.{ℕ, ◌≡◌, ◌-◌, List, slice_index, Contains, Option, None}
 use Rattle.task_table.specs.model.State.{State}
 use Rattle.snapshot.specs.Loaded.{IsSpelledBy}
-use Rattle.explore_core.specs.declared.asked.Property.{Property}
+use Rattle.run_question.specs.declared.asked.Property.{Property}
 use Rattle.explore_core.specs.Answers.{Asking}
 use Rattle.explore_core.specs.Kept.{broken_from}
 use Rattle.explore_core.specs.Schedules.{scheduled}

@@ -12,10 +12,10 @@ use Rattle.board_model.specs.Script.{Scenario, start_of}
 use Rattle.board_model.specs.Turn.{turn}
 use Rattle.board_core.specs.Changes.{change_in}
 use Rattle.trace_text.specs.Kinds.{is_sought}
-use Rattle.explore_core.specs.declared.asked.Condition.{Condition}
-use Rattle.explore_core.specs.declared.asked.Line.{Line}
-use Rattle.explore_core.specs.declared.asked.Property.{Property}
-use Rattle.explore_core.specs.declared.asked.Property.TheVariants as property
+use Rattle.run_question.specs.declared.asked.Condition.{Condition}
+use Rattle.run_question.specs.declared.asked.Line.{Line}
+use Rattle.run_question.specs.declared.asked.Property.{Property}
+use Rattle.run_question.specs.declared.asked.Property.TheVariants as property
 use Rattle.explore_core.specs.declared.standing.Standing.{Standing}
 use Rattle.explore_core.specs.declared.standing.Standing.TheVariants.{Kept, Broken}
 use Rattle.explore_core.specs.Asked.{holds, is_some_other, is_still}

@@ -8,7 +8,7 @@ use Rattle.board_model.specs.Turn.{turn, turned}
 use Rattle.board_core.specs.declared.board.Board.{Board}
 use Rattle.board_core.specs.Data.{Shows}
 use Rattle.board_core.specs.Stands.{Stands, notes_of, turns_of}
-use Rattle.explore_core.specs.declared.asked.Property.{Property}
+use Rattle.run_question.specs.declared.asked.Property.{Property}
 use Rattle.explore_core.specs.There.{AreThere, byte_before}
 
 -- a board has made the turn from a state, of which this byte was looked at before

@@ -1,22 +1,11 @@
--- What may come from outside besides a script, and the schedules of it (docs/FORMATS.md, Question).
+-- What may come from outside besides a script, and the schedules of it (docs/EXPLORE.md, Question).
 use Rattle.std.specs.Prelude.{ℕ, ◌-◌, ◌*◌, Bool, if◌then◌else◌, List, [], ◌∷◌, ◌++◌, length, map, Option, Some, None}
 use Rattle.std.specs.List.{flat_map, range_with_len}
 use Rattle.run_script.specs.declared.events.Event.{Event}
 use Rattle.run_script.specs.Scripts.{Listed}
+pub use Rattle.run_question.specs.Questions.{Arrival, Offer}
 use Rattle.board_model.specs.Laid.{postponed, with_script}
 use Rattle.board_model.specs.Script.{Scenario}
-
--- so many turns behind the arrival there is one of some events
-pub record Offer : Type 0 where
-  pub turn : ℕ
-  pub events : List Event
-
--- what comes once, in some turn of a range; or perhaps not at all
-pub record Arrival : Type 0 where
-  pub first : ℕ
-  pub below : ℕ
-  pub may_fail : Bool
-  pub offers : List Offer
 
 -- an arrival that comes: in which turn, and with which events, whose turns count from it
 pub record Coming : Type 0 where

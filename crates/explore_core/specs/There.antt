@@ -1,11 +1,11 @@
--- What is asked of a state speaks of what is there (docs/FORMATS.md, Question, cause 7), and the bytes that are looked at before a turn.
+-- What is asked of a state speaks of what is there (docs/EXPLORE.md, Question, cause 7), and the bytes that are looked at before a turn.
 use Rattle.std.specs.Prelude.{ℕ, ◌+◌, ◌<◌, ◌≤◌, ◌⊎◌, ⊤, length, Option, None}
 use Rattle.mem_banks.specs.Memory.{byte_at}
 use Rattle.task_table.specs.model.State.{State}
-use Rattle.explore_core.specs.declared.asked.Fact.{Fact}
-use Rattle.explore_core.specs.declared.asked.Fact.TheVariants as fact
-use Rattle.explore_core.specs.declared.asked.Property.{Property}
-use Rattle.explore_core.specs.declared.asked.Property.TheVariants as property
+use Rattle.run_question.specs.declared.asked.Fact.{Fact}
+use Rattle.run_question.specs.declared.asked.Fact.TheVariants as fact
+use Rattle.run_question.specs.declared.asked.Property.{Property}
+use Rattle.run_question.specs.declared.asked.Property.TheVariants as property
 
 -- a word lies in the flash or in the RAM, wherever these end
 abbrev pub LiesInOne : ℕ → Type 0

@@ -5,7 +5,7 @@ use Rattle.board_model.specs.declared.outcomes.End.{End}
 use Rattle.board_model.specs.declared.outcomes.Level.TheVariants.{Calls}
 use Rattle.board_model.specs.Script.{Scenario}
 use Rattle.board_model.specs.Turn.{turn}
-use Rattle.explore_core.specs.declared.asked.Property.{Property}
+use Rattle.run_question.specs.declared.asked.Property.{Property}
 use Rattle.explore_core.specs.declared.standing.Standing.{Standing}
 use Rattle.explore_core.specs.declared.standing.Standing.TheVariants as standing
 use Rattle.explore_core.specs.declared.verdict.Verdict.{Verdict}

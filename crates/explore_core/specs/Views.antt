@@ -4,8 +4,8 @@ use Rattle.task_table.specs.declared.slot.Wait.{Wait}
 use Rattle.task_table.specs.declared.slot.Wait.TheVariants as wait
 use Rattle.task_table.specs.model.Reading.{is_well}
 use Rattle.board_core.specs.declared.views.TaskView.{TaskView}
-use Rattle.explore_core.specs.declared.asked.TaskFact.{TaskFact}
-use Rattle.explore_core.specs.declared.asked.TaskFact.TheVariants as task_fact
+use Rattle.run_question.specs.declared.asked.TaskFact.{TaskFact}
+use Rattle.run_question.specs.declared.asked.TaskFact.TheVariants as task_fact
 
 abbrev pub is_call : Wait → Bool
 is_call wait.Nothing = false

@@ -1,5 +1,5 @@
 -- The schedules in their order: those in which fewer arrivals come before those with more; and of the same arrivals by the turns in which they
--- come, then by their places, then by their bytes (docs/FORMATS.md, Exploration).
+-- come, then by their places, then by their bytes (docs/EXPLORE.md, Exploration).
 use Rattle.std.specs.Prelude.{ℕ, zero, suc, ◌+◌, ◌==◌, ◌&&◌, nat_le, nat_lt, Bool, if◌then◌else◌, List, [], ◌∷◌, ◌++◌, length, map, find, Option, max}
 use Rattle.std.specs.List.{flat_map, range_with_len}
 use Rattle.std.specs.Option.{option_map}

@@ -11,7 +11,7 @@ ghost use Rattle.explore_core.specs.Ahead.{AreSameBefore};
 ghost use Rattle.explore_core.specs.Answers.{Asking, in_order};
 ghost use Rattle.snapshot.specs.Loaded.{sites};
 ghost use Rattle.snapshot.specs.Saved.{SpellsState};
-ghost use Rattle.explore_core.specs.declared.asked.Property.{Property as Asked};
+ghost use Rattle.run_question.specs.declared.asked.Property.{Property as Asked};
 ghost use Rattle.explore_core.specs.Asked.{broken_in};
 ghost use Rattle.explore_core.specs.Clean.{AreClean, IsClean};
 ghost use Rattle.explore_core.specs.Kept.{broken_from, broken_kept};

@@ -1,8 +1,7 @@
-//! What is asked of each run that some arrivals may have (docs/FORMATS.md, Question and
+//! What is asked of each run that some arrivals may have (docs/EXPLORE.md, Question and
 //! Exploration).
 #![tactic(auto)]
 
-mod asked;
 mod laws;
 mod looking;
 mod seen;
@@ -11,7 +10,6 @@ mod standing;
 mod verdict;
 mod watching;
 
-pub use asked::{Condition, Fact, Line, Property, TaskFact, Test};
 pub use laws::{
     a_clean_state_is_clean_for_each_state_of_its_bytes, each_schedule_has_one_course,
     no_arrival_leaves_the_run_as_it_is, schedules_are_counted, what_is_kept_is_enough,

@@ -11,10 +11,10 @@ ghost use Rattle.explore_core.specs.Asked.{has_byte, holds, is_so, is_so_of_task
 ghost use Rattle.explore_core.specs.There.{IsThere, LiesInOne};
 ghost use Rattle.explore_core.specs.Views.{is_call, is_listen, is_nothing, is_shown};
 
-use crate::asked::{Condition, Fact, TaskFact, Test};
 use crate::standing::passes;
 use board_core::{Board, TaskView};
 use kernel_abi::Health;
+use run_question::{Condition, Fact, TaskFact, Test};
 use task_table::Wait;
 
 fn is_well(health: Health) -> bool

@@ -3,7 +3,7 @@ ghost use Rattle.std.specs.Prelude.{◌≡◌};
 ghost use Rattle.explore_core.specs.Asked.{passes};
 ghost use Rattle.explore_core.specs.Kept.{owed_on, held_by};
 
-use crate::asked::Test;
+use run_question::Test;
 
 /// What is kept of a property, or that it is broken.
 #[derive(Clone, Copy, PartialEq, Eq)]

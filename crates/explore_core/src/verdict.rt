@@ -8,16 +8,16 @@ ghost use Rattle.board_model.specs.Script.{Scenario};
 ghost use Rattle.board_model.specs.Turn.{turn};
 ghost use Rattle.board_core.specs.Data.{boxed};
 ghost use Rattle.board_core.specs.Stands.{Stands, turns_of};
-ghost use Rattle.explore_core.specs.declared.asked.Property.{Property as Asked};
+ghost use Rattle.run_question.specs.declared.asked.Property.{Property as Asked};
 ghost use Rattle.explore_core.specs.declared.verdict.Verdict.{Verdict as Decided};
 ghost use Rattle.explore_core.specs.Made.{IsMade};
 ghost use Rattle.explore_core.specs.There.{AreThere};
 ghost use Rattle.explore_core.specs.Verdicts.{broken_by, ended, stepped};
 
-use crate::asked::Property;
 use crate::standing::Standing;
 use crate::watching::{breaks_at_end, by_turn, on_state};
 use board_core::{Board, End, Turned};
+use run_question::Property;
 
 /// A property is still looked for, with a number that is kept for it, or was broken in a turn.
 #[derive(Clone, Copy, PartialEq, Eq)]

@@ -10,11 +10,11 @@ ghost use Rattle.explore_core.specs.Kept.{breaks_at_end, broken_if, by_turn, on_
 ghost use Rattle.explore_core.specs.Made.{IsMade};
 ghost use Rattle.explore_core.specs.There.{AreThere, byte_before};
 
-use crate::asked::{Line, Property};
 use crate::shown::holds;
 use crate::standing::{Standing, held_by, owed_on};
 use board_core::{Board, End, Turned};
 use kernel_abi::Note;
+use run_question::{Line, Property};
 use trace_text::is_sought;
 
 /// Whether one of some notes is told by such a line.

@@ -1,4 +1,4 @@
--- What the words of a property say. docs/FORMATS.md, Question, has the forms and the causes.
+-- What the words of a property say. docs/EXPLORE.md, Question, has the forms and the causes.
 use Rattle.std.specs.Prelude.{ℕ, ◌==◌, Bool, true, false, if◌then◌else◌, List, [], ◌∷◌, length, Option, Some, None, Result, Ok, Err, codes, bytes_eq}
 use Rattle.std.specs.Option.{option_map}
 use Rattle.text_lines.specs.Text.{hex_number_of}

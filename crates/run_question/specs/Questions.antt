@@ -1,4 +1,4 @@
--- What a question is: arrivals, and properties with their words (docs/FORMATS.md, Question).
+-- What a question is: arrivals, and properties with their words (docs/EXPLORE.md, Question).
 use Rattle.std.specs.Prelude.{ℕ, Bool, List, map}
 use Rattle.run_script.specs.declared.events.Event.{Event}
 use Rattle.run_question.specs.declared.asked.Property.{Property}

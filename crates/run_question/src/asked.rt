@@ -1,4 +1,4 @@
-//! What is asked of each run (docs/FORMATS.md, Question).
+//! What is asked of each run (docs/EXPLORE.md, Question).
 
 use trace_text::NoteKind;
 

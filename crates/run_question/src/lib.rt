@@ -1,4 +1,4 @@
-//! What is asked of the runs of a question (docs/FORMATS.md, Question): its types, and the property
+//! What is asked of the runs of a question (docs/EXPLORE.md, Question): its types, and the property
 //! that the words of a line say.
 #![tactic(auto)]
 

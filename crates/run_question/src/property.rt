@@ -505,7 +505,7 @@ fn after_said(text: &[u8]) -> Result<Property, u8>
     }
 }
 
-/// The property that the words of a line say (docs/FORMATS.md, Question).
+/// The property that the words of a line say (docs/EXPLORE.md, Question).
 ///
 /// # Errors
 ///
