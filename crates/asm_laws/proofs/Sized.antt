@@ -155,10 +155,10 @@ lines_laid (l ∷ ls) env env' base used number k front bytes names a f c h =
     let rest = placed_from base (used + size) (number + 1) ls in
     let away : at - base ≡ length front = omega (arith, f) in
     let there : take (length h.0) (drop (at - base) (front ++ bytes)) ≡ h.0 =
-      ap (λ (n : ℕ). take (length h.0) (drop n (front ++ bytes))) away
-      ∙ ap (λ (b : List ℕ). take (length h.0) (drop (length front) b)) parted
-      ∙ ap (take (length h.0)) (drop_front front (h.0 ++ h.1))
-      ∙ take_front h.0 h.1 in
+    ap (λ (n : ℕ). take (length h.0) (drop n (front ++ bytes))) away
+    ∙ ap (λ (b : List ℕ). take (length h.0) (drop (length front) b)) parted
+    ∙ ap (take (length h.0)) (drop_front front (h.0 ++ h.1))
+    ∙ take_front h.0 h.1 in
     all_if (HasItsBytes env base (front ++ bytes)) (nat_lt 1048576 (used + size)) (p ∷ rest)
     (All-cons (HasItsBytes env base (front ++ bytes)) p rest (h.0, h.5, there) (subst (λ (b : List ℕ). All (HasItsBytes env base b) rest) (sym joined) more))
 
