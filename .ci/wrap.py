@@ -3,7 +3,7 @@
 
 usage: wrap.py [--check] FILE..
 
-A clause (`ensures`, `requires`) that is longer than a line is broken at spaces: after an arrow or before a product where one
+A clause (`ensures`, `requires`, what a `ghost` name stands for) that is longer than a line is broken at spaces: after an arrow or before a product where one
 is at hand, and as far out in its parentheses as can be; what follows stands four columns further in. Comments are filled;
 list items, headings, tables and code in them stay as they are. `ghost use` lines, code and clauses that fit stay too.
 With `--check` no file is written, and the status is 1 where one would be. `rt fmt` afterwards lays out records in clauses.
@@ -30,7 +30,7 @@ def spaces(text):
             depth += 1
         elif c in ")]}":
             depth -= 1
-        elif c == " " and text[k + 1:] != "}":
+        elif c == " " and text[k + 1:] not in ("}", "};"):
             before, after = text[:k].split(" ")[-1], text[k + 1:].split(" ")[0]
             out.append((k, depth, before in ("→", "in", "↔") or after in ("×", "⊎", "++")))
         k += 1
@@ -41,7 +41,7 @@ def broken(line):
     """The lines of a clause that is one line."""
     indent = re.match(r" *", line).group(0)
     text, lines, first = line.strip(), [], True
-    further = 4 if re.match(r"(ensures|requires)\b", text) else 0
+    further = 4 if CLAUSE.match(text) else 0
     while len(indent) + (0 if first else further) + len(text) > WIDTH:
         room = WIDTH - len(indent) - (0 if first else further)
         least = text.index("{") + 2 if first and "{" in text else 8
@@ -55,6 +55,9 @@ def broken(line):
     return lines + [indent + " " * (0 if first else further) + text]
 
 
+CLAUSE = re.compile(r" *(ensures\b|requires\b|(pub )?ghost \w+ = )")
+# `rt fmt` decides on a record that a `ghost` name stands for
+FORMATTED = re.compile(r" *(pub )?ghost \w+ = .*\brecord \{")
 COMMENT = re.compile(r"^( *)(///|//!|//)( ?)(.*)$")
 KEEP = re.compile(r"^(\s|[-*+] |\d+\. |#|\||```)")
 
@@ -85,11 +88,11 @@ def wrapped(lines):
                 k += 1
             out += paragraphs(prefix, block)
             continue
-        if re.match(r" *(ensures|requires)\b", line):
+        if CLAUSE.match(line):
             depth = 0
             while True:
                 # a clause that has line breaks keeps them
-                out += broken(lines[k]) if len(lines[k]) > WIDTH else [lines[k]]
+                out += broken(lines[k]) if len(lines[k]) > WIDTH and not FORMATTED.match(lines[k]) else [lines[k]]
                 depth += open_in(lines[k])
                 k += 1
                 if depth <= 0 or k == len(lines):

@@ -1,7 +1,7 @@
 #!/usr/bin/env bash
 # What the built program answers where memory ends: each allocation of each command is refused in turn
-# (refuse.c). Each answer is status 5 with no byte written and no file put, or the whole text with the status of the run in
-# which none is refused. It ends with status 1 where one is neither.
+# (refuse.c). Each answer is status 5 with no byte written and no file put, or status 4 with the same where the put was short
+# of memory, or the whole text with the status of the run in which none is refused. It ends with status 1 where one is none.
 # It needs gcc and the built program (crates/hubris/out/hubris, made by `rt ci` or `rt run`).
 # usage: bench/memory.sh [PROGRAM]
 set -eu
@@ -28,10 +28,11 @@ while read -r words; do
     cmp $out/text $out/again || bad=1
     awk -v words="$words" -v status=$status '
         $2 == 5 && $3 == 0 && $5 == "none" && $6 == "kept" { refused++; next }
+        $2 == 4 && $3 == 0 && $5 == "none" && $6 == "kept" && words ~ /^(build|migrate|save|picture|lcov)/ { unput++; next }
         $2 == status && $5 == "same" && ($6 == "put") == (words ~ /^(build|migrate|save|picture|lcov)/) { whole++; next }
         { print "  allocation " $1 ": status " $2 ", " $3 " bytes before and " $4 " behind (" $5 "), file " $6; wrong++ }
         END {
-            printf "%s: %d allocations, %d with status 5 and nothing told, %d with the whole text, %d otherwise\n", words, NR, refused, whole, wrong
+            printf "%s: %d allocations, %d with status 5 and nothing told, %d with a failed put, %d with the whole text, %d otherwise\n", words, NR, refused, unput, whole, wrong
             exit wrong > 0 || NR == 0
         }' $out/answers || bad=1
 done <<WORDS

@@ -35,9 +35,10 @@ for application in timers messages leases; do
     awk -f "$application/application.awk" > "out/$application.toml"
     made="$made $application"
 done
+for regions in 0 1 2; do awk -v regions=$regions -f calls/application.awk > "out/calls$regions.toml"; done
 awk -v tasks=512 -f timers/application.awk > out/timers512.toml
 awk -v clients=507 -f messages/application.awk > out/messages512.toml
-for application in $made shared regions polls timers512 messages512; do
+for application in $made shared regions polls calls0 calls1 calls2 timers512 messages512; do
     said=$(cd .. && "$program" build "bench/out/$application.toml" "bench/out/$application.img") || { echo "$application not built: $said"; exit 1; }
 done
 for image in crc32 bytecode; do ./endless.sh "$image" > "out/$image.img"; done
@@ -76,6 +77,7 @@ same out/shared.img out/empty.txt 100000
 same out/shared.img out/empty.txt 20000 --all
 same out/regions.img out/empty.txt 100000
 same out/regions.img out/empty.txt 20000 --all
+for regions in 0 1 2; do same "out/calls$regions.img" out/empty.txt 20000 --all; done
 same out/polls.img out/polls.txt 300000
 same out/polls.img out/polls.txt 20000 --all
 same out/polls.img out/empty.txt 100000 --all
@@ -133,6 +135,9 @@ for image in $compiled; do instructions "$image" 50 "out/$image.img" out/empty.t
 instructions "two instructions" 24 "$data/a.img" out/empty.txt
 instructions "shared memory" 50 out/shared.img out/empty.txt
 instructions "two shared regions" 55 out/regions.img out/empty.txt
+instructions "a call in each fifth turn" 203 out/calls0.img out/empty.txt
+instructions "such a call, one region" 232 out/calls1.img out/empty.txt
+instructions "such a call, two regions" 248 out/calls2.img out/empty.txt
 instructions "a driver that polls" 107 out/polls.img out/empty.txt
 instructions "32 tasks with timers" 288 out/timers.img timers/script.txt
 instructions "16 clients, 4 servers" 203 out/messages.img out/empty.txt

@@ -498,3 +498,4 @@ goes_on() {
 goes_on "a run that goes on" "2 call 0 9$(printf ' %08d' 0 0 0 0 0 0 0)" run "$made/busy.img" "$task/empty.txt" --steps 1000000000
 printf '%s\n' 'step 1' 'go 1000000000' > "$made/commands.txt"
 goes_on "a session that goes on" "at 1 0 -" debug "$made/busy.img" "$task/empty.txt" "$made/commands.txt"
+bash examples/out.sh

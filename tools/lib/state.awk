@@ -21,6 +21,23 @@ END {
         for (k = 0; k < u32(at + 4); k++) printf "%s%02x", k ? " " : ": ", byte[at + 8 + k]
         print ""
     }
+    for (t = 0; t < tasks; t++) if (awaited(t) >= 0) print waiting(t)
+}
+# the task that a task waits for: the receiver of its call, or the one that it listens to; -1 where it waits for no task
+function awaited(t,    at) {
+    at = 100 + 132 * t
+    return byte[at + 1] == 0 && (byte[at + 3] == 1 || byte[at + 3] == 2 || byte[at + 3] == 5) ? u16(at + 104) % 1024 : -1
+}
+# whom a task waits for, whom that one waits for, and so on to a task that waits for no other, or round to one that was named
+function waiting(t,    text, named) {
+    text = task(t)
+    while (awaited(t) >= 0) {
+        named[t] = 1
+        t = awaited(t)
+        text = text (text ~ / waits for / ? ", which" : "") " waits for " task(t)
+        if (t in named) return text ": these wait for each other"
+    }
+    return text ", which " (byte[100 + 132 * t + 1] ? "is " health[byte[100 + 132 * t + 1] + 1] : byte[100 + 132 * t + 3] ? waits[byte[100 + 132 * t + 3]] : "is ready")
 }
 function told(at,    kind, text) {
     kind = byte[at + 3]

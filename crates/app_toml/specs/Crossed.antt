@@ -81,7 +81,7 @@ abbrev pub unknown_owner : List TaskData → ℕ → InterruptData → Option Re
 unknown_owner tasks k i =
     refuse_if (not (has_task i.task tasks)) 8 (interrupt_site k (codes "task"))
 
--- where there is no task, cause 12 says so
+-- none if there is no task: that is cause 12
 abbrev pub unknown_fault_bit : Text → List TaskData → Option Refusal
 unknown_fault_bit fault [] = None
 unknown_fault_bit fault (t ∷ ts) =

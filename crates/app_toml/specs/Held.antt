@@ -36,7 +36,7 @@ parts_of p = record {
   interrupts = map interrupt_of p.interrupts.items;
 }
 
--- what these tables say
+-- the contents of these tables
 abbrev pub tables_of : (flash ram : ℕ) → Text → List TaskSpec → List RegionSpec → List DeviceSpec → List LineSpec → AppData
 tables_of flash ram fault tasks regions devices interrupts = record {
   flash = flash;
@@ -48,7 +48,7 @@ tables_of flash ram fault tasks regions devices interrupts = record {
   interrupts = map interrupt_of interrupts;
 }
 
--- the cause and the place that it states; none for want of memory
+-- the cause and the place that it states; none if memory ran out
 abbrev pub stated : AppFault → Option (ℕ × Text)
 stated (fault.Refused cause place) = Some (cause, string_bytes place)
 stated fault.Memory = None

@@ -58,7 +58,7 @@ refusal_text r = (r.cause, site_text r.site)
 
 -- ---- the first of several
 
--- the first refusal, and where there is none the next
+-- the first refusal; the next one if there is none
 abbrev pub or_else : Option Refusal → Option Refusal → Option Refusal
 or_else None next = next
 or_else (Some r) next = Some r

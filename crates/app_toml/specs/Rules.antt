@@ -1,4 +1,4 @@
--- What is asked of each task alone.
+-- The rules that each task has to keep by itself.
 use Rattle.std.specs.Prelude.{ℕ, Option}
 use Rattle.app_toml.specs.declared.tasks.Rule.{Rule}
 use Rattle.app_toml.specs.declared.tasks.Rule.TheVariants as rules

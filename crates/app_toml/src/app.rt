@@ -6,7 +6,7 @@ ghost use Rattle.app_toml.specs.Sites.{device_of, interrupt_of, region_of, task_
 
 use crate::parts::{DeviceSpec, LineSpec, RegionSpec, TaskSpec};
 
-/// A description that no cause refuses; `app_of` of its specs is what it says.
+/// A description that no cause refuses. `app_of` in the specs gives its contents.
 #[derive(Drop)]
 pub struct App {
     pub(crate) flash: u32,

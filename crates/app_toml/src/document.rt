@@ -21,7 +21,7 @@ fn is_top(name: &str) -> bool
     )
 }
 
-/// The first unknown key in byte order at the top.
+/// The first unknown key at the top level, in byte order.
 fn top_fault<'a>(document: &'a Table) -> Option<PlacedCause<'a>>
     ensures { option_map refusal_of result ≡ top_fault (table_view document.now) }
 {
@@ -48,7 +48,7 @@ fn single_fault<'a>(
     }
 }
 
-/// Each table of a list, in order.
+/// The first fault of the tables of a list, in order.
 fn tables_fault<'a>(
     name: &'static str,
     keys: &[Key],

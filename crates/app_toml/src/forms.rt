@@ -35,7 +35,7 @@ fn name_fault<'a>(place: Location<'a>, value: &Value) -> Option<PlacedCause<'a>>
     }
 }
 
-/// Of the names of a list, in order.
+/// The first fault of the names of a list, in order.
 fn names_fault<'a>(place: Location<'a>, values: &[Value]) -> Option<PlacedCause<'a>>
     ensures { option_map refusal_of result
         ≡ names_fault (site_of place.entry) 0 (items_view values.now) }
@@ -94,7 +94,7 @@ fn number_fault<'a>(
     }
 }
 
-/// A value against its form: its type, then its range or its form.
+/// The first fault of a value: of its type, then of its range or its form.
 pub(crate) fn value_fault<'a>(
     form: ValueForm,
     place: Location<'a>,

@@ -25,7 +25,7 @@ pub(crate) fn member<'a>(table: &'a Table, name: &str) -> Option<&'a Value>
     table.get(name)
 }
 
-/// One key of a table: missing, then the fault of its value.
+/// The fault of one key of a table: it is missing, or its value has a fault.
 fn key_fault<'a>(key: Key, place: Location<'a>, table: &Table) -> Option<PlacedCause<'a>>
     ensures { option_map refusal_of result
         ≡ key_fault (key_of key) (site_of place.entry) (table_view table.now) }
@@ -37,7 +37,7 @@ fn key_fault<'a>(key: Key, place: Location<'a>, table: &Table) -> Option<PlacedC
     }
 }
 
-/// The keys of a table one by one.
+/// The first fault of the keys of a table, one by one.
 fn keys_fault<'a>(keys: &[Key], place: Location<'a>, table: &Table) -> Option<PlacedCause<'a>>
     ensures { option_map refusal_of result
         ≡ keys_fault (keys_of keys.now) (site_of place.entry) (table_view table.now) }
@@ -75,7 +75,7 @@ fn unknown_fault<'a>(keys: &[Key], place: Location<'a>, table: &'a Table) -> Opt
     None
 }
 
-/// One table: its unknown keys, then its keys one by one.
+/// The first fault of one table: of its unknown keys, then of its keys one by one.
 pub(crate) fn table_fault<'a>(
     keys: &[Key],
     place: Location<'a>,

@@ -1,5 +1,4 @@
-//! Names kept in the order of their bytes, so that one among many is found in few steps, whatever
-//! the names are.
+//! Names that are kept in the order of their bytes, so that one of many is found in few steps.
 
 ghost use Rattle.std.specs.Prelude.{◌≡◌, ◌||◌, ◌++◌, ◌∷◌, [], IfOk, List, OnOk, map, not, string_bytes};
 ghost use Rattle.std.specs.BTreeSet.{contains_text};
@@ -25,7 +24,7 @@ pub(crate) fn is_known(known: &Names, name: &str) -> bool
     known.contains(name)
 }
 
-/// Adds a name, and tells whether it is a new one.
+/// Adds a name, and returns whether it is new.
 pub(crate) fn learn(alloc: Global, known: &mut Names, name: &str) -> Result<bool, AllocError>
     ensures new { IfOk result (λ added. added ≡ not (contains_text known.old name.now)) }
     ensures known { OnOk result ((q : Text) →
@@ -89,7 +88,7 @@ pub(crate) fn is_area(known: &Names, name: &str) -> bool
     known.contains(name)
 }
 
-/// Adds a task, unless one of its name is there.
+/// Adds a task, unless there is already one of this name.
 fn keep_task(alloc: Global, kept: &mut TaskNames, task: &TaskSpec) -> Result<(), AllocError>
     ensures { OnOk result ((tasks : List TaskData) → Keeps kept.old tasks →
         Keeps kept.new (tasks ++ task_of task.now ∷ [])) }

@@ -5,8 +5,8 @@
 //! forms: `document`, which holds the tables in it to the keys of `tables`, by `keys` and `forms`;
 //! then `values` makes them `parts`. Forms to rules between tables: `crossed`, by causes `repeats`,
 //! `unknowns`, `tasks`, `lines` with `overlaps`, over the sets of `known`, and `names`. Parts:
-//! `app` keeps what is accepted, `views` tells it, and `making` has it of tables with no text.
-//! Where a fault lies is said by `places`.
+//! `app` keeps an accepted description, `views` reads it, and `making` makes one from tables
+//! without a text. `places` says where a fault is.
 #![tactic(auto)]
 
 mod app;

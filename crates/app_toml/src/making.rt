@@ -12,7 +12,7 @@ use crate::parts::{DeviceSpec, LineSpec, Parts, RegionSpec, TaskSpec};
 use crate::reading::app_of_parts;
 use std::alloc::{AllocError, Global};
 
-/// What a description has lists of. A copy says the same.
+/// An entry of a list in a description. A copy has the same contents.
 trait Item: Sized {
     ghost Data: { Type 0 };
 
@@ -114,12 +114,12 @@ fn copies_of<T: Item + Drop>(alloc: Global, items: &[T]) -> Result<Vec<T>, Alloc
 }
 
 impl App {
-    /// The description that says just what these tables say, whose values have their forms and
-    /// which no cause refuses (docs/FORMATS.md, Application). Sizes are in bytes.
+    /// The description with exactly these tables. Their values need to have their forms, and no
+    /// cause may refuse them (docs/FORMATS.md, Application). Sizes are in bytes.
     ///
     /// # Errors
     ///
-    /// Only want of memory.
+    /// Only if memory runs out.
     pub fn of(
         alloc: Global,
         flash: u32,

@@ -1,4 +1,4 @@
-//! Names looked up.
+//! Looks up names.
 
 ghost use Rattle.std.specs.Prelude.{◌≡◌, map, string_bytes};
 ghost use Rattle.app_toml.specs.Crossed.{is_among};

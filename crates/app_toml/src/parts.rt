@@ -42,7 +42,7 @@ pub struct LineSpec {
     pub notification: String,
 }
 
-/// What a description is to be, before causes 7 to 20 are looked for.
+/// A description before the check for causes 7 to 20.
 #[derive(Drop)]
 pub(crate) struct Parts {
     pub(crate) flash: u32,

@@ -87,7 +87,7 @@ pub(crate) fn fault_if<'a>(refused: bool, cause: u8, place: Location<'a>) -> Opt
     }
 }
 
-/// The first fault, and where there is none the next.
+/// The first fault; the next one if there is none.
 pub(crate) fn first_of<'a>(
     first: Option<PlacedCause<'a>>,
     next: Option<PlacedCause<'a>>,

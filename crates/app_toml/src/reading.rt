@@ -1,4 +1,4 @@
-//! From bytes to an application description, or the first cause by which they are refused.
+//! Reads an application description from bytes, or gives the first cause why they are refused.
 
 ghost use Rattle.std.specs.Prelude.{◌≡◌, IfErr, IfOk, IfSome, Err, None, Ok, Some};
 ghost use Rattle.toml.specs.View.{table_view};
@@ -49,7 +49,7 @@ fn document_of(alloc: Global, bytes: &[u8]) -> Result<Table, AppFault>
     }
 }
 
-/// The description that the parts are, whose values have their forms and which no cause refuses.
+/// The description of these parts, whose values have their forms and which no cause refuses.
 pub(crate) fn app_of_parts(parts: Parts) -> App
     requires { IsAccepted (parts_of parts) }
     ensures { app_of result ≡ parts_of parts }
@@ -89,8 +89,8 @@ fn app_of_document(alloc: Global, document: &Table) -> Result<App, AppFault>
 }
 
 impl App {
-    /// The description that the bytes hold, or the first cause by which they are refused with its
-    /// place, in the order of docs/FORMATS.md, Application; `Memory` where memory ran out.
+    /// The description that the bytes hold. Otherwise the first cause why they are refused, with
+    /// its place, in the order of docs/FORMATS.md, Application, or `Memory` if memory ran out.
     pub fn read(alloc: Global, bytes: &[u8]) -> Result<App, AppFault>
         ensures ok { IfOk result (λ a. read_app bytes.now ≡ Ok (app_of a)) }
         ensures refused { IfErr result (λ e.

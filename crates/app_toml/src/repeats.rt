@@ -13,8 +13,8 @@ use crate::tasks::task_place;
 use std::alloc::{AllocError, Global};
 use std::collections::BTreeSet;
 
-/// Of a list of the k-th task: the first name that is among the earlier ones, or before it in its
-/// own list.
+/// The first name in a list of the k-th task that is among the earlier ones, or occurs before in
+/// the same list.
 fn entries_twice(
     alloc: Global,
     earlier: &[String],
@@ -46,7 +46,8 @@ fn named_twice(head: &'static str, i: usize) -> Option<PlacedCause<'static>>
     fault_at(7, key_place(index_place(head, i), "name"))
 }
 
-/// Of the k-th task: its notifications, then what it uses and reads together.
+/// The first repeated name of the k-th task: among its notifications, then among `uses` and `reads`
+/// together.
 fn lists_twice(
     alloc: Global,
     k: usize,
@@ -68,7 +69,7 @@ fn lists_twice(
     Ok(first_of(of_bits, first_of(of_uses, of_reads)))
 }
 
-/// Of the tasks: each one's name, then its lists.
+/// The first repeated name of the tasks: for each task its name, then its lists.
 fn tasks_twice(
     alloc: Global,
     tasks: &[TaskSpec],
@@ -111,7 +112,7 @@ fn regions_twice(
     Ok(None)
 }
 
-/// Of the devices, whose names stand with those of the regions.
+/// The first repeated name of the devices, which share their names with the regions.
 fn devices_twice(
     alloc: Global,
     regions: &[RegionSpec],

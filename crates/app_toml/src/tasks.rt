@@ -17,7 +17,7 @@ pub(crate) fn task_place(k: usize, key: &'static str) -> Location<'static>
     key_place(index_place("task", k), key)
 }
 
-/// What is asked of each task alone.
+/// The rules that each task has to keep by itself.
 #[derive(Clone, Copy)]
 pub(crate) enum Rule {
     Notifications,
@@ -44,7 +44,7 @@ fn is_bad_stack(ram: u32, stack: u32) -> bool
     stack > ram || stack % 8 != 0
 }
 
-/// Of the k-th task.
+/// The fault of the k-th task by a rule.
 fn rule_fault(rule: Rule, k: usize, task: &TaskSpec) -> Option<PlacedCause<'static>>
     ensures { option_map refusal_of result ≡ rule_fault rule k (task_of task.now) }
 {

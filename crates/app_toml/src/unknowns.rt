@@ -24,7 +24,7 @@ pub(crate) fn interrupt_place(k: usize, key: &'static str) -> Location<'static>
     key_place(index_place("interrupt", k), key)
 }
 
-/// The first interrupt whose task there is not.
+/// The first interrupt whose task does not exist.
 fn unknown_owner(kept: &TaskNames, interrupts: &[LineSpec]) -> Option<PlacedCause<'static>>
     ensures { (tasks : List TaskData) → Keeps kept.now tasks → option_map refusal_of result
         ≡ first_fault (unknown_owner tasks) 0 (map interrupt_of interrupts.now) }
@@ -37,7 +37,7 @@ fn unknown_owner(kept: &TaskNames, interrupts: &[LineSpec]) -> Option<PlacedCaus
     None
 }
 
-/// The supervisor's fault notification is one of task 0, where there is one.
+/// The fault of a fault notification that task 0 does not have. None if there is no task.
 fn unknown_fault_bit(fault: &str, tasks: &[TaskSpec]) -> Option<PlacedCause<'static>>
     ensures { option_map refusal_of result ≡ unknown_fault_bit fault.now (map task_of tasks.now) }
 {
@@ -48,7 +48,7 @@ fn unknown_fault_bit(fault: &str, tasks: &[TaskSpec]) -> Option<PlacedCause<'sta
     fault_if(!known, 9, key_place(head_place("supervisor"), "fault"))
 }
 
-/// The first interrupt whose notification its task has not.
+/// The first interrupt whose notification its task does not have.
 fn unknown_bit(kept: &TaskNames, interrupts: &[LineSpec]) -> Option<PlacedCause<'static>>
     ensures { (tasks : List TaskData) → Keeps kept.now tasks → option_map refusal_of result
         ≡ first_fault (unknown_bit tasks) 0 (map interrupt_of interrupts.now) }
@@ -63,7 +63,7 @@ fn unknown_bit(kept: &TaskNames, interrupts: &[LineSpec]) -> Option<PlacedCause<
     None
 }
 
-/// The first name of a list of the k-th task that is neither a region's nor a device's.
+/// The first name in a list of the k-th task that no region and no device has.
 fn unknown_entry(
     known: &Names,
     k: usize,
@@ -84,7 +84,7 @@ fn unknown_entry(
     None
 }
 
-/// Of what the k-th task uses, then of what it reads.
+/// The first unknown name in `uses` of the k-th task, then in `reads`.
 fn unknown_region(known: &Names, k: usize, task: &TaskSpec) -> Option<PlacedCause<'static>>
     ensures { (regions : List RegionData) (devices : List DeviceData) →
         NamesAreas known.now regions devices → option_map refusal_of result

@@ -1,4 +1,4 @@
-//! What a document says.
+//! Reads the contents of a document.
 
 ghost use Rattle.std.specs.Prelude.{◌≡◌, IfOk, map, string_bytes};
 ghost use Rattle.toml.specs.Data.{Members, no_members};
@@ -75,7 +75,7 @@ fn texts_of(alloc: Global, values: &[Value]) -> Result<Vec<String>, AllocError>
     Ok(texts)
 }
 
-/// The values of a list; none where there is no list.
+/// The values of a list; none if there is no list.
 fn values_in<'a>(table: &'a Table, name: &str) -> &'a [Value]
     ensures { items_view result.now ≡ items_in name.now (table_view table.now) }
 {
@@ -115,7 +115,7 @@ fn members_in<'a>(empty: &'a Table, document: &'a Table, name: &str) -> &'a Tabl
     }
 }
 
-/// What a list of tables is of: what each says is read from its table.
+/// An entry of a list of tables, which is read from its table.
 trait Row: Sized {
     ghost Data: { Type 0 };
 
@@ -221,7 +221,7 @@ fn rows_in<T: Row + Drop>(
     Ok(rows)
 }
 
-/// What a document says whose values have their forms.
+/// The contents of a document whose values have their forms.
 pub(crate) fn parts_in(alloc: Global, document: &Table) -> Result<Parts, AllocError>
     ensures { IfOk result (λ p. parts_of p ≡ app_in (table_view document.now)) }
 {

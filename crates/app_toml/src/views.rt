@@ -56,7 +56,8 @@ impl App {
         self.interrupts.as_slice()
     }
 
-    /// What is known of each description: its values have their forms, and no cause refuses it.
+    /// The facts that are true of each description: its values have their forms, and no cause
+    /// refuses it.
     pub fn facts(&self)
         ensures { IsAccepted (app_of self.now) }
     {}

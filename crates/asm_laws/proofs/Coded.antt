@@ -1,4 +1,4 @@
--- What an instruction that has a code is: it fits, and its list is a byte.
+-- An instruction that has a code is in range, and its register list fits in a byte.
 use Rattle.std.specs.Prelude.{◌≡◌, ◌<◌, ℕ, ◌*◌, ◌+◌, Some, None}
 use Rattle.std.proofs.Common.{ap, subst}
 use Rattle.thumb_insn.specs.declared.Insn.{Insn}

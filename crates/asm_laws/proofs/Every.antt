@@ -1,4 +1,4 @@
--- Each instruction that fits is read as it.
+-- The text of each instruction in range is read as that instruction.
 use Rattle.std.proofs.Common.{◌≡◌, ℕ, None}
 use Rattle.thumb_insn.specs.declared.Shift.TheVariants as shift
 use Rattle.thumb_insn.specs.declared.Insn.{Insn}

@@ -1,4 +1,4 @@
--- A statement has one length, whatever the values of the names that have one.
+-- A statement has only one length, whatever values its names have.
 use Rattle.std.proofs.Common.{◌≡◌, ℕ, zero, suc, ◌+◌, ◌*◌, ◌/◌, ◌-ℤ◌, List, [], ◌∷◌, length, length-append, refl, ap, ◌∙◌, sym, subst, cond, Bool, true, false, Option, Some, None, Result, Ok, Err, ℤ, pos, negsuc}
 use Rattle.std.specs.Prelude.{is_some}
 use Rattle.thumb_insn.specs.declared.Insn.{Insn}

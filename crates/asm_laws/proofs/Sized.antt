@@ -1,6 +1,7 @@
--- A source is assembled to as many bytes as its lines take.
-use Rattle.std.proofs.Common.{◌≡◌, ℕ, ◌+◌, ◌*◌, List, [], ◌∷◌, length, length-append, mul-zero, mul-suc, add_comm, refl, ap, ◌∙◌, sym, subst, Bool, true, false, Option, Some, None, Result, Ok, Err}
+-- An assembly has as many bytes as its lines take.
+use Rattle.std.proofs.Common.{◌≡◌, ℕ, ◌+◌, ◌*◌, ◌-◌, List, [], ◌∷◌, ◌++◌, All, cond, take, drop, nat_lt, arith, append_assoc, length, length-append, mul-zero, mul-suc, add_comm, refl, ap, ◌∙◌, sym, subst, Bool, true, false, Option, Some, None, Result, Ok, Err}
 use Rattle.std.proofs.lemmas.Bool.{or_parts}
+use Rattle.std.proofs.lemmas.List.Elements.{All-nil, All-cons}
 use Rattle.std.specs.Prelude.{is_some}
 use Rattle.std.specs.List.{list_any}
 use Rattle.thumb_encode.proofs.Decodes.{sized}
@@ -16,6 +17,8 @@ use Rattle.thumb_asm.specs.Assembly.{Assembles}
 use Rattle.thumb_asm.specs.Causes.{is_unknown, shape_cause, second_group, second_in, at_line, size_by, line_size, labels_from, first_in, first_cause}
 use Rattle.thumb_asm.proofs.Values.{repeat_length, known_length}
 use Rattle.thumb_asm.specs.Passes.{size_from}
+use Rattle.thumb_asm.specs.Listed.{Placed, placed_from, placed}
+use Rattle.asm_laws.specs.Lines.{HasItsBytes, EachLineHasItsBytes}
 use Rattle.asm_laws.proofs.Steady.{Steady, IsSteady, steady_statement}
 use Rattle.asm_laws.proofs.Lengths.{Alike, CodesOf, data_length, coded_length, shape_long, insn_long}
 use Rattle.asm_laws.proofs.Single.{same_entries, alike_label, alike_env}
@@ -116,3 +119,58 @@ image_sized lines base given bytes labels h =
     let from = entry_at (labels_from base lines) in
     let alike = alike_env given own from (alike_from lines (env_of own given) base base bytes h.names h.laid) in
     laid_sized lines (env_of own given) (env_of from given) base 1 bytes h.names alike (latter (first_in given base [] 0 1 lines) _ h.accepted) h.laid
+
+-- Each line has its bytes at its address.
+
+take_front : (xs ys : List ℕ) → take (length xs) (xs ++ ys) ≡ xs
+take_front [] ys = refl
+take_front (x ∷ xs) ys = ap (λ (r : List ℕ). x ∷ r) (take_front xs ys)
+
+drop_front : (xs ys : List ℕ) → drop (length xs) (xs ++ ys) ≡ ys
+drop_front [] ys = refl
+drop_front (x ∷ xs) ys = drop_front xs ys
+
+all_if : {A : Type 0} (P : A → Type 0) (b : Bool) (xs : List A) → All P xs → All P (cond b [] xs)
+all_if P true xs h = All-nil P
+all_if P false xs h = h
+
+-- (front: the bytes of the lines before these; number: of the first of these lines, k: the same for causes)
+lines_laid : (lines : List (List ℕ)) (env env' : Env) (base used number k : ℕ) (front bytes : List ℕ) (names : Names) → Alike env env' → length front ≡ used → second_in env' (base + used) k lines ≡ None → Lays env (base + used) lines bytes names → All (HasItsBytes env base (front ++ bytes)) (placed_from base used number lines)
+unfolding Lays second_in line_size placed_from
+lines_laid [] env env' base used number k front bytes names a f c h = All-nil (HasItsBytes env base (front ++ bytes))
+lines_laid (l ∷ ls) env env' base used number k front bytes names a f c h =
+    let s = statement_of (parts l).statement in
+    let at = base + used in
+    let size = size_by at s in
+    let cause = second_group env' at s in
+    let later = second_in env' (at + size) (k + 1) ls in
+    let z : length h.0 ≡ size = spells_sized env env' at s h.0 a (steady_statement (parts l).statement) (here k cause later c) h.5 in
+    let laid : Lays env (base + (used + size)) ls h.1 h.2 = let e : at + length h.0 ≡ base + (used + size) = omega (arith, z) in subst (λ (n : ℕ). Lays env n ls h.1 h.2) e h.6 in
+    let good : second_in env' (base + (used + size)) (k + 1) ls ≡ None = let e : at + size ≡ base + (used + size) = omega arith in subst (λ (n : ℕ). second_in env' n (k + 1) ls ≡ None) e (below k cause later c) in
+    let behind : length (front ++ h.0) ≡ used + size = length-append front h.0 ∙ (λ i. f i + z i) in
+    let parted : front ++ bytes ≡ front ++ (h.0 ++ h.1) = ap (λ (b : List ℕ). front ++ b) h.3 in
+    let more = lines_laid ls env env' base (used + size) (number + 1) (k + 1) (front ++ h.0) h.1 h.2 a behind good laid in
+    let joined : front ++ bytes ≡ (front ++ h.0) ++ h.1 = parted ∙ sym (append_assoc front h.0 h.1) in
+    let p : Placed = record { number = number; at = at; text = l } in
+    let rest = placed_from base (used + size) (number + 1) ls in
+    let away : at - base ≡ length front = omega (arith, f) in
+    let there : take (length h.0) (drop (at - base) (front ++ bytes)) ≡ h.0 =
+    ap (λ (n : ℕ). take (length h.0) (drop n (front ++ bytes))) away
+    ∙ ap (λ (b : List ℕ). take (length h.0) (drop (length front) b)) parted
+    ∙ ap (take (length h.0)) (drop_front front (h.0 ++ h.1))
+    ∙ take_front h.0 h.1 in
+    all_if (HasItsBytes env base (front ++ bytes)) (nat_lt 1048576 (used + size)) (p ∷ rest)
+    (All-cons (HasItsBytes env base (front ++ bytes)) p rest (h.0, h.5, there) (subst (λ (b : List ℕ). All (HasItsBytes env base b) rest) (sym joined) more))
+
+pub lines_have_bytes : EachLineHasItsBytes
+unfolding first_cause
+lines_have_bytes lines base given bytes labels h =
+    let own = entry_at h.names in
+    let from = entry_at (labels_from base lines) in
+    let alike = alike_env given own from (alike_from lines (env_of own given) base base bytes h.names h.laid) in
+    let start : base ≡ base + 0 = omega arith in
+    let good = subst (λ (n : ℕ). second_in (env_of from given) n 1 lines ≡ None) start (latter (first_in given base [] 0 1 lines) _ h.accepted) in
+    let laid = subst (λ (n : ℕ). Lays (env_of own given) n lines bytes h.names) start h.laid in
+    let same : own ≡ labels = λ i name. sym (h.labelled name) i in
+    subst (λ (e : Env). All (HasItsBytes (env_of e given) base bytes) (placed base lines)) same
+    (lines_laid lines (env_of own given) (env_of from given) base 0 1 1 [] bytes h.names alike refl good laid)

@@ -1,4 +1,4 @@
--- A statement's instruction is equally long for every value of its expression.
+-- The instruction of a statement has the same length for every value of its expression.
 use Rattle.std.proofs.Common.{◌≡◌, ℕ, ℤ, pos, List, [], ◌∷◌, refl, Bool, true, false, if◌then◌else◌, nat_eq, Option, Some, None, Result, Ok, Err}
 use Rattle.std.specs.Prelude.{map, codes, bytes_eq}
 use Rattle.thumb_insn.specs.declared.Reg.{Reg}

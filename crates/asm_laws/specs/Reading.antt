@@ -15,7 +15,7 @@ abbrev pub IsAddress : ℤ → Type 0
 IsAddress (pos n) = n < 2 ^ 32
 IsAddress (negsuc n) = ⊥
 
--- where the text names a target, that is an address: it does not go round at 2^32
+-- If the text names a target, the target is an address: it does not wrap around at 2^32.
 abbrev pub HasTarget : Insn → ℕ → Type 0
 HasTarget (LdrLiteral t i) at = (at + 4) / 4 * 4 + i < 2 ^ 32
 HasTarget (Adr d i) at = (at + 4) / 4 * 4 + i < 2 ^ 32
@@ -24,21 +24,21 @@ HasTarget (Branch z) at = IsAddress (pos (at + 4) +ℤ z)
 HasTarget (Bl z) at = IsAddress (pos (at + 4) +ℤ z)
 HasTarget i at = Unit {0}
 
--- The line of the instruction's text has no label, and a statement that is this instruction at the address, whatever the
--- values of names.
+-- The line of the instruction's text has no label. Its statement is this instruction at the address, whatever
+-- values the names have.
 abbrev pub IsRead : Insn → ℕ → Type 0
 IsRead i at = ((parts (insn_text i at)).label ≡ None) × ((s : Shape) × (statement_of (parts (insn_text i at)).statement ≡ Ok (Some s)) × ((env : Env) → insn_at env at s ≡ Ok i))
 
--- The bytes of the line at the address are those of a code of the instruction, and each code's bytes are its bytes.
+-- The bytes of the line at the address are exactly the bytes of the instruction's codes.
 abbrev pub IsSpelled : Insn → ℕ → Type 0
 IsSpelled i at = (env : Env) (own : List ℕ) → (Codes i own → Spells env at (statement_of (parts (insn_text i at)).statement) own) × (Spells env at (statement_of (parts (insn_text i at)).statement) own → Codes i own)
 
--- At an even address the line is not refused for an address or a value.
+-- At an even address the line is refused neither for an address nor for a value.
 abbrev pub IsAccepted : Insn → ℕ → Type 0
 IsAccepted i at = (env : Env) → at % 2 ≡ 0 → second_group env at (statement_of (parts (insn_text i at)).statement) ≡ None
 
--- The text alone, at its address, an even one, is refused for no cause, and is assembled to the bytes of a code of the
--- instruction, and to nothing else, whatever symbols are given.
+-- A source of this line alone, at an even address, is not refused. It is assembled to the bytes of a code of
+-- the instruction and to nothing else, whatever symbols are given.
 abbrev pub IsAssembled : Insn → ℕ → Type 0
 IsAssembled i at = (given : Env) → at % 2 ≡ 0 →
     (first_cause (lines_of (insn_text i at)) at given ≡ None)

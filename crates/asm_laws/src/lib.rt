@@ -1,9 +1,10 @@
-//! Laws that stand over the definitions of the text of instructions and of the assembler's
-//! language. Nothing runs here.
+//! Laws about the definitions of the text of instructions and of the assembler's language. Nothing
+//! runs here.
 //!
 //! - The text of an instruction is read as that instruction (`text_is_read`).
-//! - No source has two assemblies (`one_image`).
-//! - A source is assembled to as many bytes as its lines take (`image_length`).
+//! - No source has two assemblies (`a_source_has_one_assembly`).
+//! - An assembly has as many bytes as its lines take (`image_length`).
+//! - Each line has its bytes at its address (`each_line_has_its_bytes`).
 #![tactic(auto)]
 
 mod image;
@@ -13,13 +14,13 @@ ghost use Rattle.thumb_insn.specs.Range.{IsCoded};
 ghost use Rattle.thumb_insn.specs.declared.Insn.{Insn as Instruction};
 ghost use Rattle.asm_laws.specs.Reading.{HasTarget, IsRead, IsSpelled, IsAccepted, IsAssembled};
 
-pub use image::{a_source_has_one_assembly, image_length};
+pub use image::{a_source_has_one_assembly, each_line_has_its_bytes, image_length};
 
-/// What `Insn::text` writes of an instruction at an address is a line that the assembler's
-/// definitions read, at that address, as this very instruction, whatever names stand for: for
-/// every instruction that the table pairs with a code, and every address from which its target is
-/// an address too (the text shows another one modulo 2^32). `spelled` and `accepted` are of the
-/// line in any text, `assembled` is of a text of this line alone.
+/// The text of an instruction at an address, as `Insn::text` writes it, is a line that the
+/// assembler's definitions read as this very instruction at that address, whatever values names
+/// have. This holds for every instruction that has a code in the table. Its target has to be an
+/// address too (the text shows any other target modulo 2^32). `spelled` and `accepted` are about
+/// the line in any source, `assembled` is about a source of this line alone.
 pub fn text_is_read()
     ensures read { (i : Instruction) (at : ℕ) → IsCoded i → HasTarget i at → IsRead i at }
     ensures spelled { (i : Instruction) (at : ℕ) → IsCoded i → HasTarget i at → IsSpelled i at }

@@ -1,4 +1,4 @@
--- Notes with all that their lines need.
+-- Notes that meet every requirement of their lines.
 use Rattle.std.proofs.Common.{ℕ, ◌^◌, ◌<◌, ◌≤◌, List, [], ◌∷◌}
 use Rattle.kernel_abi.specs.declared.Note.{Note}
 use Rattle.trace_text.specs.Fit.{IsFitNote, AreFit}

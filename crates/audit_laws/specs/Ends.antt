@@ -7,7 +7,7 @@ use Rattle.trace_audit.specs.declared.reading.FinalWait.{FinalWait}
 use Rattle.trace_audit.specs.declared.reading.FinalWait.TheVariants as wait
 use Rattle.trace_text.specs.Fit.{IsFit}
 
--- how the turns ended
+-- the word for how the turns ended
 abbrev pub IsHow : List ℕ → Type 0
 IsHow how = (how ≡ codes "bound") ⊎ ((how ≡ codes "still") ⊎ (how ≡ codes "supervisor"))
 
@@ -20,7 +20,7 @@ IsFitHealth Well = Unit {0}
 IsFitHealth Stopped = Unit {0}
 IsFitHealth (Faulted fault) = IsFit fault.number
 
--- a text of what a task waits for, and what it is read as
+-- a text for what a task waits for, and what an audit reads it as
 abbrev pub IsWaitText : List ℕ → FinalWait → Type 0
 IsWaitText text wait.Other = (text ≡ codes "-") ⊎ (text ≡ codes "listen")
 IsWaitText text (wait.Offered k) = (text ≡ codes "offered:" ++ decimal k) × IsFit k

@@ -18,22 +18,23 @@ use Rattle.trace_audit.specs.Meaning.{read}
 use Rattle.std.specs.List.{list_all}
 use Rattle.trace_audit.specs.Judgements.{is_printable}
 
--- ## what the numbers of a note do not tell
+-- ## what the ranges of a note's numbers do not say
 
--- for information nothing moves, from offset 0
+-- a borrow for information moves no bytes, and its offset is 0
 abbrev pub IsRightBorrow : Borrow → ℕ → ℕ → Type 0
 IsRightBorrow borrow.Read offset moved = Unit {0}
 IsRightBorrow borrow.Write offset moved = Unit {0}
 IsRightBorrow borrow.Info offset moved = (offset ≡ 0) × (moved ≡ 0)
 
--- a code that is an instruction
+-- the code is an instruction
 abbrev pub IsInsn : Decoded → Type 0
 IsInsn (decoded.Narrow i) = Unit {0}
 IsInsn (decoded.Wide i) = Unit {0}
 IsInsn decoded.Illegal = ⊥
 IsInsn decoded.NeedsSecond = ⊥
 
--- a device is told by its index, which is small
+-- The note is right beyond the ranges of its numbers: a borrow is right, a code is an instruction, and the
+-- index of a device that gives out a byte is below 2^32.
 abbrev pub IsRight : Note → Type 0
 IsRight (note.Borrow call way lease offset moved) = IsRightBorrow way offset moved
 IsRight (note.Insn task at code) = IsInsn (code_decoded code)
@@ -56,7 +57,7 @@ IsRight note.Idle = Unit {0}
 IsRight (note.Low registers) = Unit {0}
 IsRight (note.High registers n z c v) = Unit {0}
 
--- ## what a note says of calls
+-- ## what a note says about calls
 
 abbrev pub is_answer : Ending → Bool
 is_answer Reply = true
@@ -88,7 +89,7 @@ told_by (note.High registers n z c v) = saying.Nothing
 
 -- ## one line
 
--- the bytes are one line with its LF, and it says this
+-- the bytes are one line with its LF, and this is what the line says
 pub record IsLine (bytes : List ℕ) (l : TraceLine) : Type 0 where
   pub text : List ℕ
   pub spelled : bytes ≡ text ++ 10 ∷ []

@@ -1,4 +1,4 @@
--- When the text of a run is good: its notes in order and in range, then its last lines.
+-- When the text of a run is good: its notes are in order and in range, and its last lines follow.
 use Rattle.std.specs.Prelude.{ℕ, ◌≤◌, ◌≡◌, List, [], ◌∷◌, ◌++◌, length, map}
 use Rattle.std.specs.List.{flat_map}
 use Rattle.kernel_abi.specs.declared.Note.{Note}
@@ -11,28 +11,28 @@ use Rattle.audit_laws.specs.Told.{IsRight, told_by, IsLine}
 abbrev pub notes_told : List (ℕ × Note) → List Saying
 notes_told notes = map (λ n. told_by n.1) notes
 
--- their turns do not fall, from this one on
+-- the turns of the notes do not decrease, and none is below `last`
 abbrev pub AreInOrder : ℕ → List (ℕ × Note) → Type 0
 AreInOrder last [] = Unit {0}
 AreInOrder last (n ∷ notes) = (last ≤ n.0) × AreInOrder n.0 notes
 
--- each is right
+-- each note is right
 abbrev pub AreRight : List (ℕ × Note) → Type 0
 AreRight [] = Unit {0}
 AreRight (n ∷ notes) = IsRight n.1 × AreRight notes
 
--- each is good after those before it
+-- each saying is good after the ones before it
 abbrev pub AreGoodSayings : List Saying → Type 0
 AreGoodSayings all = (before : List Saying) (s : Saying) (after : List Saying) → all ≡ before ++ s ∷ after → IsGoodSaying before s
 
--- each text is one line, which says this
+-- each text is one line, and this is what the lines say
 abbrev pub AreLines : List (List ℕ) → List TraceLine → Type 0
 AreLines [] [] = Unit {0}
 AreLines [] (l ∷ ls) = ⊥
 AreLines (t ∷ texts) [] = ⊥
 AreLines (t ∷ texts) (l ∷ ls) = IsLine t l × AreLines texts ls
 
--- none has more than 159 bytes before its LF
+-- no line has more than 159 bytes before its LF
 abbrev pub AreShort : List (List ℕ) → Type 0
 AreShort [] = Unit {0}
 AreShort (t ∷ texts) = (length t ≤ 160) × AreShort texts
@@ -40,7 +40,7 @@ AreShort (t ∷ texts) = (length t ≤ 160) × AreShort texts
 abbrev pub joined : List (List ℕ) → List ℕ
 joined texts = flat_map (λ t. t) texts
 
--- a line after the end shows something, or what a task waits for, as was said
+-- a line after the end shows something, or says what a task waits for and agrees with the notes
 abbrev pub IsLastLine : List Saying → TraceLine → Type 0
 IsLastLine told (line.Tells turn s) = ⊥
 IsLastLine told line.Ends = ⊥

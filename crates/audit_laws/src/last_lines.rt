@@ -11,9 +11,9 @@ ghost use Rattle.audit_laws.specs.Told.{IsLine};
 ghost use Rattle.audit_laws.specs.Ends.{IsHow, end_line, IsFitHealth, IsWaitText, mem_line, row_line};
 ghost use Rattle.trace_text.specs.Lines.{task_line};
 
-/// Each line after the notes with numbers in range is one line of printable bytes, and an audit
-/// reads it as what it is: the end of the turns, what a task waits for, or its registers, a region
-/// and bytes, which show something.
+/// Each line after the notes, with numbers in range, is one line of printable bytes. An audit reads
+/// it as what it is: the end of the turns, or what a task waits for, or a line that only shows
+/// something (registers, a region, or bytes).
 pub fn last_lines_are_read()
     ensures ends { (how : List ℕ) (turns now : ℕ) → IsHow how → turns < 2 ^ 32 → now < 2 ^ 64 →
         IsLine (end_line how turns now) line.Ends }

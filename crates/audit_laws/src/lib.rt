@@ -1,11 +1,11 @@
-//! Laws over the lines of a trace and how an audit reads them. Nothing runs here.
+//! Laws about the lines of a trace and how an audit reads them. Nothing runs here.
 //!
-//! - A number and eight digits are read back from how they are written (`words_are_read`).
-//! - The line of each note is one line, and is read as what the note says of calls
-//!   (`lines_of_notes_are_read`).
-//! - So is each line after the notes (`last_lines_are_read`).
-//! - A text of notes that say what is good of calls, and of last lines that agree with them, is
-//!   good (`texts_of_good_notes_are_good`).
+//! - A decimal number reads back, and a word in hexadecimal is eight digits (`words_are_read`).
+//! - The line of each note is one line, and an audit reads it as what the note says about calls
+//! (`lines_of_notes_are_read`).
+//! - The same is true of each line after the notes (`last_lines_are_read`).
+//! - A text is good if its notes say good things about calls and its last lines agree with them
+//! (`texts_of_good_notes_are_good`).
 #![tactic(auto)]
 
 mod last_lines;

@@ -5,9 +5,9 @@ ghost use Rattle.trace_text.specs.Fit.{IsFitNote};
 ghost use Rattle.audit_laws.specs.Told.{IsRight, IsReadAs};
 
 /// The line of each note with numbers in range, in a turn below 2^32, is one line of printable
-/// bytes, and an audit reads it as what the note says of calls in that turn; where the code of an
-/// instruction is one, for information nothing moves, and the index of a device that gives out a
-/// byte is below 2^32.
+/// bytes. An audit reads it as what the note says about calls in that turn. The note has to be
+/// right: the code of an instruction is an instruction, a borrow for information moves no bytes,
+/// and the index of a device that gives out a byte is below 2^32.
 pub fn lines_of_notes_are_read()
     ensures { (turn : ℕ) (note : Note) → turn < 2 ^ 32 → IsFitNote note → IsRight note →
         IsReadAs turn note }

@@ -10,9 +10,10 @@ ghost use Rattle.trace_text.specs.Fit.{AreFit};
 ghost use Rattle.audit_laws.specs.Whole.{notes_told, joined, AreInOrder, AreRight, AreGoodSayings, AreLines, AreShort, AreLastLines};
 ghost use Rattle.trace_text.specs.Lines.{notes_text};
 
-/// A text is good of notes that are in range and right, in turns that do not fall, which say what
-/// is good of calls; then a line of the end; then lines which show something, or tell what a task
-/// waits for as the notes say. No line of it has a cause, where none is too long.
+/// A text is good if it has three parts. First come notes that are in range and right, in turns
+/// that do not decrease, and that say good things about calls. Then comes a line of the end. Then
+/// come lines that show something, or that say what a task waits for and agree with the notes. No
+/// line of such a text has a cause, if no line is too long.
 pub fn texts_of_good_notes_are_good()
     ensures good { (notes : List (ℕ × Note)) (texts : List (List ℕ)) (rest : List TraceLine)
         → AreInOrder 0 notes → AreFit notes → AreRight notes → AreGoodSayings (notes_told notes) →

@@ -4,8 +4,8 @@ ghost use Rattle.trace_text.specs.Text.{hex};
 ghost use Rattle.trace_audit.specs.Texts.{plain_number};
 ghost use Rattle.trace_audit.specs.Fields.{is_hex};
 
-/// A number below 2^64 is read back from its digits, and the low 32 bits of each number are written
-/// as eight digits.
+/// A number below 2^64 reads back from its decimal digits. The low 32 bits of any number are
+/// written as eight hexadecimal digits.
 pub fn words_are_read()
     ensures numbers { (n max : ℕ) → n < 2 ^ 64 → n ≤ max → plain_number max (decimal n) ≡ Some n }
     ensures digits { (n : ℕ) → is_hex 8 (hex n) ≡ true }

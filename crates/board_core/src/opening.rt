@@ -10,7 +10,7 @@ ghost use Rattle.board_core.specs.Regions.{ArePlaces, HavePlaces};
 ghost use Rattle.board_core.specs.Opened.{setup_of_image, setup_of_task, setup_of_line};
 ghost use Rattle.board_core.specs.Machine.{IsStarted};
 ghost use Rattle.board_core.specs.fast.Sights.{is_port};
-ghost use Rattle.board_core.specs.fast.IoRegions.{ArePorts};
+ghost use Rattle.board_core.specs.fast.IoRegions.{AreIoRegions};
 
 use image_format::Image;
 use region_check::Region;
@@ -117,7 +117,7 @@ pub fn kernel(alloc: Global, image: &Image) -> Result<Kernel, AllocError>
 }
 
 /// The I/O regions among these regions: those of devices that may be read.
-fn ports_among(alloc: Global, regions: &[Region]) -> Result<Vec<Region>, AllocError>
+fn io_regions_among(alloc: Global, regions: &[Region]) -> Result<Vec<Region>, AllocError>
     ensures { IfOk result (λ v. v.items ≡ filter is_port regions.now) }
 {
     regions
@@ -129,12 +129,12 @@ fn ports_among(alloc: Global, regions: &[Region]) -> Result<Vec<Region>, AllocEr
 
 /// The regions of devices that each task may read.
 pub fn io_regions(alloc: Global, kernel: &Kernel) -> Result<Vec<Vec<Region>>, AllocError>
-    ensures { IfOk result (λ v. ArePorts (setup_of kernel.now) (task_count kernel.now)
+    ensures { IfOk result (λ v. AreIoRegions (setup_of kernel.now) (task_count kernel.now)
         (map vec_items v.items)) }
 {
     let mut io_regions = Vec::new(alloc);
     for task in 0..kernel.task_count() {
-        io_regions.push(ports_among(alloc, kernel.regions(task))?)?;
+        io_regions.push(io_regions_among(alloc, kernel.regions(task))?)?;
     }
     Ok(io_regions)
 }

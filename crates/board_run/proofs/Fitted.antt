@@ -1,7 +1,7 @@
 -- Notes in range, one more and joined, and told in parts.
 use Rattle.std.proofs.Common.{ℕ, suc, zero, ◌+◌, ◌<◌, List, [], ◌∷◌, ◌++◌, length, take, get_or, Option, sym, subst, add-one, arith}
-use Rattle.std.specs.Io.KnownBytes.{Appends}
-use Rattle.std.specs.Prelude.{◌≡◌, Result, Ok, Err, MatchResult, refl}
+use Rattle.std.specs.Io.KnownBytes.{Appends, Keeps}
+use Rattle.std.specs.Prelude.{Result, Ok, Err, MatchResult}
 use Rattle.std.proofs.lemmas.List.Concat.{flat_map-append}
 use Rattle.kernel_abi.specs.declared.Note.{Note}
 use Rattle.trace_text.specs.Fit.{IsFit, IsFitNote, AreFit}
@@ -10,7 +10,7 @@ use Rattle.board_model.specs.Run.{at_turn}
 use Rattle.outside_io.specs.Outside.{AppendsFront, HasCause}
 use Rattle.board_run.specs.Telling.{BreaksText, HearsText}
 use Rattle.trace_text.specs.Lines.{notes_text}
-use Rattle.outside_io.proofs.Pushing.{appends_more, appends_none, front_more}
+use Rattle.outside_io.proofs.Pushing.{appends_more, appends_none, pushes_kept, front_more}
 
 pub fit_joined : (a b : List (ℕ × Note)) → AreFit a → AreFit b → AreFit (a ++ b)
 fit_joined [] b h k = k
@@ -40,6 +40,6 @@ breaks_after a b c f k m x y h i = record {
 }
 
 -- what was told is passed on, and nothing more is told
-pub passed_on : {T E : Type 0} (w w' : Option (List ℕ)) (f f' : ℕ) (r : Result T E) → w' ≡ w → HasCause f f' r → MatchResult r (λ _. HearsText w w' f f' []) (λ _. BreaksText w w' f f' [])
-passed_on w w' f f' (Ok v) same h = record { pushed = subst (λ u. Appends w u []) (sym same) (appends_none w); later = h.later; fit = tt }
-passed_on w w' f f' (Err e) same h = record { pushed = ([], ([], refl), subst (λ u. Appends w u []) (sym same) (appends_none w)); later = h.later; rose = h.failed }
+pub passed_on : {T E : Type 0} (w w' : Option (List ℕ)) (f f' : ℕ) (r : Result T E) → Keeps w w' → HasCause f f' r → MatchResult r (λ _. HearsText w w' f f' []) (λ _. BreaksText w w' f f' [])
+passed_on {T} {E} w w' f f' (Ok v) kept h = record { pushed = pushes_kept {T = T} {E = E} w w w' [] (Ok v) (appends_none w) kept; later = h.later; fit = tt }
+passed_on {T} {E} w w' f f' (Err e) kept h = record { pushed = pushes_kept {T = T} {E = E} w w w' [] (Err e) (appends_none w) kept; later = h.later; rose = h.failed }

@@ -124,7 +124,7 @@ length_at : (n : ℕ) (notes : List Note) → length (at_turn n notes) ≡ lengt
 length_at n [] = refl
 length_at n (x ∷ xs) = ap suc (length_at n xs)
 
--- ## midway, as a teller has heard
+-- ## midway, as a observer has heard
 
 module _ {T : Type 0} {X : Type 0} {H : X → Type 0} (shown : Shows X H) (heard : T → List (ℕ × Note) → T → Type 0) (level : Level) (x : Scenario) where
   pub midway_start : (t : T) (s : State) (b : Board X H) → heard t [] t → Stands shown x b s → Midway shown heard level x t t s b

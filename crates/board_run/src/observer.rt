@@ -44,9 +44,11 @@ pub trait Observer {
 
 /// A sink gets the text of the notes, with one push for each line.
 impl<S: Sink> Observer for S {
-    ghost heard = { λ t notes u. HearsText (S.seen t).written (S.seen u).written (S.seen t).faults (S.seen u).faults notes };
+    ghost heard = { λ t notes u. HearsText (S.seen t).written (S.seen u).written (S.seen t).faults
+        (S.seen u).faults notes };
 
-    ghost broke = { λ t notes u. BreaksText (S.seen t).written (S.seen u).written (S.seen t).faults (S.seen u).faults notes };
+    ghost broke = { λ t notes u. BreaksText (S.seen t).written (S.seen u).written (S.seen t).faults
+        (S.seen u).faults notes };
 
     fn tell(&mut self, turn: u32, notes: &[Note], lines: &mut TurnLines) -> Result<(), Failed> {
         push_notes(turn, notes, lines, self)

@@ -71,14 +71,15 @@ fn tell_last<T: Observer>(
     due: u32,
     limit: u32,
     lines: &mut TurnLines,
-    teller: &mut T,
+    observer: &mut T,
 ) -> Result<u32, Failed>
     requires made { 0 < turns_of board.now }
     requires within { due ≤ limit }
     ensures told { MatchResult result
-        (λ _. T.heard teller.old (at_turn (turns_of board.now - 1) (notes_of board.now)) teller.new)
-        (λ _. T.broke teller.old (at_turn (turns_of board.now - 1) (notes_of board.now))
-        teller.new) }
+        (λ _. T.heard observer.old (at_turn (turns_of board.now - 1) (notes_of board.now))
+        observer.new)
+        (λ _. T.broke observer.old (at_turn (turns_of board.now - 1) (notes_of board.now))
+        observer.new) }
     ensures within { IfOk result (λ next. next ≤ limit) }
     ensures later { IfOk result (λ next. turns_of board.now < limit → turns_of board.now < next) }
 
@@ -91,9 +92,9 @@ fn tell_last<T: Observer>(
     T::hears_in_parts();
     let turns = board.turns();
     let notes = board.notes();
-    teller.tell(turns - 1, notes, lines)?;
+    observer.tell(turns - 1, notes, lines)?;
     if turns >= due {
-        teller.pass_on()?;
+        observer.pass_on()?;
         return Ok(limit);
     }
     if due == limit && !notes.is_empty() {
@@ -112,14 +113,14 @@ pub fn play<T: Observer>(
     board: &mut Board,
     limit: u32,
     level: Level,
-    teller: &mut T,
+    observer: &mut T,
 ) -> Result<End, Failed>
     requires stood { StandsForSome (boxed shown) board.old }
     requires from { turns_of board.old ≤ limit }
     requires few { limit ≤ 1000000000 }
 
     ensures told { (x : Scenario) (s : State) → Stands (boxed shown) x board.old s →
-        OnOk result (T.heard teller.old (run level x (limit - s.turn) s).notes teller.new) }
+        OnOk result (T.heard observer.old (run level x (limit - s.turn) s).notes observer.new) }
     ensures end { (x : Scenario) (s : State) → Stands (boxed shown) x board.old s →
         IfOk result (λ e. e ≡ (run level x (limit - s.turn) s).end) }
     ensures last { (x : Scenario) (s : State) → Stands (boxed shown) x board.old s →
@@ -136,7 +137,7 @@ pub fn play<T: Observer>(
     // If telling failed, the notes of the turns before the last one were told, and no further turn
     // is made.
     ensures broken { (x : Scenario) (s : State) → Stands (boxed shown) x board.old s →
-        OnErr result (BreaksTelling T.heard T.broke level x teller.old teller.new s board.new) }
+        OnErr result (BreaksTelling T.heard T.broke level x observer.old observer.new s board.new) }
     ensures midway { (x : Scenario) (s : State) → Stands (boxed shown) x board.old s →
         StandsMidway (boxed shown) level x board.new s }
     ensures within { turns_of board.new ≤ limit }
@@ -150,7 +151,7 @@ pub fn play<T: Observer>(
             None => {}
         }
         board.advance(level, due);
-        due = tell_last(board, due, limit, &mut lines, teller)?;
+        due = tell_last(board, due, limit, &mut lines, observer)?;
     }
 }
 

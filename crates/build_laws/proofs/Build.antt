@@ -1,4 +1,4 @@
--- Nothing of the sample is refused by a build.
+-- A build refuses nothing in the sample.
 use Rattle.std.proofs.Common.{◌≡◌, ℕ, ◌≤◌, ◌<◌, [], length, refl, ap, ◌∙◌, sym, arith, subst, true, Option, Some, None, nat_eq}
 use Rattle.std.proofs.lemmas.Bool.{agree_below_at, eqb-true}
 use Rattle.std.proofs.lemmas.List.FromFn.{get_or-map-range_with_len}

@@ -1,4 +1,4 @@
--- What the causes of a text need of each of its lines, so that lines with other numbers can stand in.
+-- What the causes of a text depend on in each line, so that a line with other numbers can replace it.
 use Rattle.std.proofs.Common.{◌≡◌, ℕ, ◌+◌, ◌≤◌, List, [], ◌∷◌, ◌++◌, length, map, refl, ap, ◌∙◌, sym, Bool, true, false, not, nat_lt, Option, Some, None, Result}
 use Rattle.std.specs.List.{list_all}
 use Rattle.thumb_asm.specs.declared.Cause.{Cause}

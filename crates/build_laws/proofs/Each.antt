@@ -1,4 +1,4 @@
--- The assembler takes each source of the sample, at each task's base and with its symbols.
+-- The assembler refuses no source of the sample, at the base and with the symbols of its task.
 use Rattle.std.proofs.Common.{◌≡◌, ℕ, ◌+◌, ◌≤◌, ◌<◌, List, map, refl, arith, Bool, true, false, None, ◌==◌, nat_lt, if◌then◌else◌}
 use Rattle.text_lines.specs.Text.{lines_of}
 use Rattle.thumb_asm.specs.Causes.{first_cause}

@@ -1,4 +1,4 @@
--- An application and its sources are built to at most one image.
+-- An application and its sources have at most one image.
 use Rattle.std.proofs.Common.{◌≡◌, ◌∙◌, ℕ, ◌+◌, ◌-◌, ◌≤◌, ◌<◌, List, length, get_or, refl, sym, ap, arith}
 use Rattle.std.proofs.lemmas.List.{ext_get_or}
 use Rattle.app_toml.specs.Apps.{AppData}

@@ -1,4 +1,4 @@
--- The text of a server is taken.
+-- The assembler refuses no source of a server.
 use Rattle.std.proofs.Common.{◌≡◌, ℕ, ◌<◌, List, ◌++◌, map, refl, codes, decimal}
 use Rattle.std.specs.List.{range_with_len}
 use Rattle.std.specs.Fmt.{digits}

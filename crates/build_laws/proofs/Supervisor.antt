@@ -1,4 +1,4 @@
--- The text of the supervisor is taken.
+-- The assembler refuses no source of the supervisor.
 use Rattle.std.proofs.Common.{map, refl}
 use Rattle.std.specs.Fmt.{digits}
 use Rattle.text_lines.specs.Text.{value_in}

@@ -1,8 +1,8 @@
--- Which region of a plan a byte lies in.
+-- The region of a plan in which a byte lies.
 use Rattle.std.specs.Prelude.{ℕ, List, ◌+◌, ◌≤◌, ◌<◌, length, get_or}
 use Rattle.mem_plan.specs.Placing.{placed}
 
--- the address is one of the bytes that the i-th size takes
+-- the address is that of a byte in the region of the i-th size
 pub record LiesIn (base : ℕ) (sizes : List ℕ) (i address : ℕ) : Type 0 where
   pub index : i < length sizes
   pub low : placed base sizes i ≤ address

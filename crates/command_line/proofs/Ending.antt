@@ -1,5 +1,5 @@
--- What the matches of one level hold where it is not refused: each required argument, and each with
--- a default, has a value that its parser took.
+-- What the matches of one level have if the level is not refused: each required argument, and each with a
+-- default, has a value that its parser accepted.
 use Rattle.std.proofs.Common.{◌≡◌, ◌∙◌, ◌<◌, ◌&&◌, ◌||◌, ap, refl, cond, Bool, true, false, not, List, [], ◌∷◌, ◌++◌, length, Option, Some, None, arith}
 use Rattle.std.specs.Prelude.{IfSome}
 use Rattle.std.specs.List.{find, fold, list_any}

@@ -1,4 +1,4 @@
--- Words that are accepted name a command, with all that it wants.
+-- Words that are accepted name a command, with all that it requires.
 use Rattle.std.proofs.Common.{◌≡◌, ◌<◌, ◌≤◌, ap, sym, subst, refl, cond, codes, drop, Bool, true, false, ℕ, List, [], ◌∷◌, Option, Some, None, is_some, arith}
 use Rattle.std.specs.Prelude.{IfSome, unwrap_or, pos, ◌==◌}
 use Rattle.std.specs.Bool.{⊤}

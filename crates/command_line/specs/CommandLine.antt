@@ -1,7 +1,6 @@
--- The command line: what `clap` is told, which words it then takes, and what they ask for.
--- docs/FORMATS.md, Command line. How a definition reads words is the crate `clap`'s own: its
--- specs/Simple.antt (what building adds), specs/Walk.antt (the walk over the words) and
--- specs/Faults.antt (what is refused).
+-- The command line: the definition for `clap`, which words it accepts, and what they ask for.
+-- docs/FORMATS.md, Command line. The crate `clap` defines how a definition reads words: its specs/Simple.antt
+-- (what building adds), specs/Walk.antt (the walk over the words) and specs/Faults.antt (what is refused).
 use Rattle.std.specs.Prelude.{ℕ, Bool, ◌&&◌, pos, true, false, List, [], ◌∷◌, Option, Some, None, codes, unwrap_or, is_some, option_map, option_and_then, find, map}
 use Rattle.std.specs.Str.{bytes_eq}
 use Rattle.std.specs.Str.Parse.{digits_value, without_leading_plus}
@@ -60,7 +59,8 @@ flag_rule name = record (new_rule name) { long = Some name; action = Some SetTru
 
 -- ---- what clap finds
 
--- What it found for an id. The defaults never show in words that are accepted (specs/Required.antt).
+-- What clap found for an id. The default values here are never used for words that are accepted
+-- (specs/Required.antt).
 abbrev pub text_in : Text → List Row → Text
 text_in id rows = unwrap_or (first_of id rows) []
 
@@ -75,18 +75,17 @@ number_in id rows = number_of (unwrap_or (one_of id rows) [])
 
 -- ---- the commands
 
--- What the program may be asked for: to build an application, and the name of the image; a run of an
--- image with a script, for so many turns at most, and in which detail it is told; the same of an
--- application; a list of an image; a run of the sample of a seed for so many turns at most, of which the
--- notes are counted; to write an image in the form of today, and the name of that file; whether a trace
--- holds together; the state of a run of an image with a script after so many turns at most, and the name of that
--- file; the run of an image with a script from the state in a file, up to so many turns, and in which detail it is
--- told; the commands in a file, carried out over the run of an image with a script; how often such a run executes each
--- instruction, or one of an application, with the labels of its sources; how such runs end into which the events of a further script
--- come, from each turn of a range on, and whether with the memory; such a run as events for a viewer, with the names of an application
--- or without; the lines of a file, carried out over such a run as they come; such a run as a picture, and the name of that file;
--- how often the run of an application with a script executes each line of its sources, and the name of that file; what the commands
--- are, or what one of them takes and answers.
+-- What the program may be asked for, with the values of each command. Runs have at most the given number of turns.
+-- Build an application, and write the image to a file. Run an image with a script, in some detail. Do the same with
+-- an application. List an image. Run the sample of a seed, and count its notes. Write an image in the form in which
+-- images are built, to a file. Check whether a trace can be that of a whole run. Save the state of a run of an image
+-- with a script to a file. Resume a run of an image with a script from the state in a file, up to a turn, in some
+-- detail. Carry out the commands in a file over a run. Count how often a run executes each instruction; with labels,
+-- the run is that of an application. Say how runs end in which the events of another script come too, from each turn
+-- of a range on, and whether with the memory. Write a run as events for a viewer, with the names of an application or
+-- without. Carry out the lines of a file over a run as they come. Draw a run as a picture in a file, with the names
+-- of an application or without. Write to a file how often a run of an application executes each line of its sources.
+-- Say what the commands are, or what one of them takes and answers.
 pub data Asked : Type 0 where
   build : Text → Text → Asked
   run : Text → Text → ℕ → Detail → Asked
@@ -124,8 +123,8 @@ build_form = record {
   asks = λ rows. Some (build (text_in (codes "app") rows) (text_in (codes "out") rows));
 }
 
--- what a command that runs something asks for: of which subject, with which script, for how many turns
--- at most, in which detail
+-- what a command that runs something asks for, given its subject, its script, the largest number of turns,
+-- and the detail
 abbrev pub Running : Type 0
 Running = Text → Text → ℕ → Detail → Asked
 
@@ -264,7 +263,7 @@ named_in known word = option_map (λ c. c.1) (find (λ c. bytes_eq word c.0) kno
 abbrev pub command_by : Text → Option CommandName
 command_by word = named_in commands word
 
--- what `help` with this word behind it, or with none, asks for: nothing where the word names no command
+-- what `help` with this word, or without one, asks for: nothing if the word names no command
 abbrev pub help_on : Option Text → Option Asked
 help_on None = Some (help None)
 help_on (Some word) = option_map (λ c. help (Some c)) (command_by word)
@@ -309,11 +308,12 @@ shape_of_form form = record (new_shape form.name) { rules = form.rules }
 abbrev pub app_of_form : Form → App
 app_of_form form = record { top = shape_of_form form; subs = [] }
 
--- `hubris` before its commands are added, of which one is wanted; `help` is its own, and not clap's
+-- `hubris` before its commands are added, one of which is required; `help` is a command of the program, not
+-- that of clap
 abbrev pub bare_app : App
 bare_app = record { top = record (new_shape (codes "hubris")) { subcommand_required = true; disable_help_subcommand = true }; subs = [] }
 
--- `hubris`, of which one command is wanted
+-- `hubris`, with its commands, one of which is required
 abbrev pub hubris_app : App
 hubris_app = record {
   top = record (new_shape (codes "hubris")) { is_leaf = false; subcommand_required = true; disable_help_subcommand = true };
@@ -328,7 +328,7 @@ has_none (kind ∷ more) = false
 abbrev pub asked_by : Text → List Row → Option Asked
 asked_by name rows = option_and_then (λ form. form.asks rows) (find (λ form. bytes_eq form.name name) forms)
 
--- what the words ask for, where they are accepted
+-- what the words ask for, if they are accepted
 abbrev pub job_of : List Text → Option Asked
 job_of words = option_and_then (λ p. asked_by p.0 p.1) (subcommand_of hubris_app words)
 

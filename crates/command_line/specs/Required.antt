@@ -1,4 +1,4 @@
--- What words that are accepted hold: a command, and each value that it asks for.
+-- What accepted words have: a command, and each value that it requires.
 use Rattle.std.specs.Prelude.{◌≡◌, ℕ, Bool, true, false, List, Option, Some, None, codes, is_some}
 use Rattle.std.specs.Bool.{⊤}
 use Rattle.clap.specs.Walk.{Row, Text, first_of, one_of}
@@ -103,7 +103,7 @@ pub record IsWholeCover (rows : List Row) : Type 0 where
   pub steps : HasSteps rows
   pub labels : IsSwitch (first_of (codes "labels") rows)
 
--- of a command that plays a script on an image, and wants no more words
+-- of a command that plays a script on an image, and requires no more words
 pub record IsWholePlay (rows : List Row) : Type 0 where
   pub image : HasText (codes "image") rows
   pub script : HasText (codes "script") rows
@@ -122,7 +122,7 @@ pub record IsWholeSweep (rows : List Row) : Type 0 where
   pub turns : AreTurns rows
   pub mem : IsSwitch (first_of (codes "mem") rows)
 
--- the rows have all that a command wants
+-- the rows have all that a command requires
 abbrev pub HoldsAll : CommandName → List Row → Type 0
 HoldsAll command.Build rows = IsWholeBuild rows
 HoldsAll command.Run rows = IsWholeRun rows
@@ -142,7 +142,7 @@ HoldsAll command.Picture rows = IsWholePut rows
 HoldsAll command.Lcov rows = IsWholeLcov rows
 HoldsAll command.Help rows = ⊤
 
--- a command of the program, with all that it wants
+-- a command of the program, with all that it requires
 abbrev pub IsWhole : Option (Text × List Row) → Type 0
 IsWhole None = ⊥
 IsWhole (Some p) = (c : CommandName) × (p.0 ≡ (form_of c).name) × HoldsAll c p.1

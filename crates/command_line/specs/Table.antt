@@ -25,7 +25,7 @@ shape_of_row row = record (new_shape row.name.now) { rules = map rule_of_argumen
 abbrev pub app_of_row : CommandRow → App
 app_of_row row = record { top = shape_of_row row; subs = [] }
 
--- the program with the commands of these rows more
+-- the program with the commands of these rows added
 abbrev pub with_rows : App → List CommandRow → App
 with_rows app [] = app
 with_rows app (row ∷ rest) = with_rows (with_subcommand app (shape_of_row row)) rest

@@ -1,4 +1,4 @@
-//! The commands: a row for each, by which `clap` is told of it and a word names it.
+//! The table of commands. A row defines the command for `clap` and gives its name.
 ghost use Rattle.std.specs.Prelude.{◌≡◌};
 ghost use Rattle.command_line.specs.CommandLine.{command_by, named_in};
 ghost use Rattle.command_line.specs.Table.{commands_of};
@@ -6,14 +6,14 @@ ghost use Rattle.command_line.specs.Table.{commands_of};
 use self::Argument::{Flag, OptionalWord, Seed, Setting, Steps, Turn, Word};
 use crate::job::CommandName;
 
-/// An argument of a command, with its name where that can differ.
+/// An argument of a command, with its name if this kind of argument can have different names.
 #[derive(Clone, Copy)]
 pub enum Argument {
     /// A word that must be there.
     Word(&'static str),
-    /// A word that must be there, and is a seed.
+    /// A word that must be there, a seed.
     Seed,
-    /// A word that must be there, and is the number of a turn.
+    /// A word that must be there, the number of a turn.
     Turn(&'static str),
     /// A word that may be left out.
     OptionalWord(&'static str),
@@ -25,7 +25,7 @@ pub enum Argument {
     Flag(&'static str),
 }
 
-/// A command, its name, and what it takes, in this order.
+/// A command, its name, and its arguments in their order.
 #[derive(Clone, Copy)]
 pub struct CommandRow {
     pub command: CommandName,

@@ -1,4 +1,4 @@
-//! What `clap` is told: loops make its value of the rows of the commands.
+//! The definition for `clap`: loops make its value from the rows of the commands.
 ghost use Rattle.std.specs.Prelude.{◌≡◌, IfOk, false};
 ghost use Rattle.clap.specs.Words.{app_of, rule_of};
 ghost use Rattle.clap.specs.declared.builder.command.Command.TheViews.{out-Command as fields_of};
@@ -56,8 +56,8 @@ fn command_of<'a>(alloc: Global, row: &CommandRow) -> Result<Command<'a>, AllocE
     Ok(command)
 }
 
-// The program before its commands are added, of which one is wanted. clap's own `help` would only
-// print.
+// The program before its commands are added; one of them is required. clap's own `help` is
+// disabled, since it would only print.
 fn bare_program<'a>(alloc: Global) -> Command<'a>
     ensures { app_of result ≡ bare_app }
 {
@@ -81,7 +81,7 @@ fn with_commands<'a>(
     Ok(program)
 }
 
-/// The program's command line: one command of those above is wanted.
+/// The program's command line: one of the commands above is required.
 pub fn hubris_command<'a>(alloc: Global) -> Result<Command<'a>, AllocError>
     ensures shape { IfOk result (λ c. app_of c ≡ hubris_app) }
 {

@@ -1,4 +1,4 @@
-//! What the matches of a command ask for.
+//! From the matches of a command to the job that they ask for.
 ghost use Rattle.std.specs.Prelude.{◌≡◌, ◌≤◌, ◌<◌, ◌^◌, ℕ, Some, IfSome, option_map, codes};
 ghost use Rattle.clap.specs.Words.{rows_of, found_of, one_of};
 ghost use Rattle.clap.specs.Walk.{first_of};
@@ -9,8 +9,8 @@ ghost use Rattle.command_line.specs.Asking.{asked, steps_of};
 use crate::commands::command_named;
 use clap::ArgMatches;
 
-/// What is told of a run besides calls, events and faults: each instruction and the registers after
-/// it; the memory after the run.
+/// What the output of a run has besides calls, events and faults: each instruction with the
+/// registers after it; the memory after the run.
 #[derive(Clone, Copy, Debug, PartialEq, Eq)]
 pub struct Detail {
     pub instructions: bool,
@@ -39,7 +39,8 @@ pub enum CommandName {
     Help,
 }
 
-/// What the program is asked to do; names are those of files, and `steps` is at most 1,000,000,000.
+/// What the program is asked to do. The names are those of files, and `steps` is at most
+/// 1,000,000,000.
 #[derive(Clone, Copy, Drop)]
 pub enum Job<'a> {
     /// Build APP, and put the image under OUT.
@@ -61,7 +62,7 @@ pub enum Job<'a> {
         steps: u32,
         detail: Detail,
     },
-    /// List what IMAGE says.
+    /// List the contents of IMAGE.
     List {
         image: &'a str,
     },
@@ -75,11 +76,11 @@ pub enum Job<'a> {
         image: &'a str,
         out: &'a str,
     },
-    /// Whether TRACE is a trace that holds together.
+    /// Check whether TRACE can be the trace of a whole run.
     Audit {
         trace: &'a str,
     },
-    /// The state of the run of IMAGE with SCRIPT after at most `steps` turns, put under OUT.
+    /// Save the state of the run of IMAGE with SCRIPT after at most `steps` turns to OUT.
     Save {
         image: &'a str,
         script: &'a str,
@@ -100,18 +101,18 @@ pub enum Job<'a> {
         script: &'a str,
         commands: &'a str,
     },
-    /// How often the run of IMAGE with SCRIPT executes each instruction, in at most `steps` turns;
-    /// with labels IMAGE is the name of an application, which is built as by `Go`, and the labels
-    /// of its sources are shown.
+    /// Count how often the run of IMAGE with SCRIPT executes each instruction, in at most `steps`
+    /// turns. With labels, IMAGE is the name of an application, which is built as by `Go`, and the
+    /// labels of its sources are shown.
     Cover {
         image: &'a str,
         script: &'a str,
         steps: u32,
         labels: bool,
     },
-    /// How the run of IMAGE with SCRIPT ends in at most `steps` turns where the events of ARRIVAL
-    /// come besides, from each turn on that is not below `from` and below `to`; and whether with
-    /// its memory.
+    /// Say how the run of IMAGE with SCRIPT ends in at most `steps` turns if the events of ARRIVAL
+    /// come too, for each arrival time that is at least `from` and below `to`; `memory` says
+    /// whether with its memory.
     Sweep {
         image: &'a str,
         script: &'a str,
@@ -121,8 +122,8 @@ pub enum Job<'a> {
         steps: u32,
         memory: bool,
     },
-    /// The run of IMAGE with SCRIPT for at most `steps` turns as events that viewers of timelines
-    /// read, with the names of tasks that APP has, where one is given.
+    /// Write the run of IMAGE with SCRIPT for at most `steps` turns as events that timeline viewers
+    /// read, with the task names of APP if it is given.
     Timeline {
         image: &'a str,
         script: &'a str,
@@ -135,8 +136,8 @@ pub enum Job<'a> {
         script: &'a str,
         commands: &'a str,
     },
-    /// The run of IMAGE with SCRIPT for at most `steps` turns as a picture, put under OUT, with the
-    /// names of tasks that APP has, where one is given.
+    /// Draw the run of IMAGE with SCRIPT for at most `steps` turns as a picture in OUT, with the
+    /// task names of APP if it is given.
     Picture {
         image: &'a str,
         script: &'a str,
@@ -144,8 +145,8 @@ pub enum Job<'a> {
         steps: u32,
         names: Option<&'a str>,
     },
-    /// How often the run of APP with SCRIPT executes each line of its sources, in at most `steps`
-    /// turns, put under OUT.
+    /// Write to OUT how often the run of APP with SCRIPT executes each line of its sources, in at
+    /// most `steps` turns.
     Lcov {
         app: &'a str,
         script: &'a str,
@@ -203,7 +204,7 @@ fn number_of(matches: &ArgMatches<'_>, id: &str) -> u32
     }
 }
 
-// The number of turns that is found for an id.
+// The number of turns that clap found for an id.
 fn turns_in(matches: &ArgMatches<'_>, id: &str) -> u32
     ensures number { HasTurns id.now (rows_of (found_of matches.now)) →
         result ≡ number_in id.now (rows_of (found_of matches.now)) }

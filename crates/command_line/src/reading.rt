@@ -11,10 +11,10 @@ use std::alloc::Global;
 /// Why words give no job.
 #[derive(Clone, Copy, Drop)]
 pub enum Refusal {
-    /// The definition does not take them, or `help` is asked about what is no command; clap's own
-    /// calls for help and for the version are not accepted either.
+    /// The definition does not accept the words, or `help` is asked about a word that names no
+    /// command. The options of clap for help and for the version are not accepted either.
     NotAccepted,
-    /// Want of memory.
+    /// Memory ran out.
     Memory,
 }
 
@@ -27,13 +27,12 @@ fn refusal_by(kind: ErrorKind) -> Refusal
     }
 }
 
-/// What the words ask for, of which the first is the program's own name (docs/FORMATS.md, Command
+/// The job that the words ask for. The first word is the program's name (docs/FORMATS.md, Command
 /// line).
 ///
 /// # Errors
 ///
-/// `NotAccepted` only where the definition does not take the words, and `Memory` where memory ran
-/// out.
+/// `NotAccepted` only if the definition does not accept the words, and `Memory` if memory ran out.
 pub fn read_words<'a>(alloc: Global, words: &'a [String]) -> Result<Job<'a>, Refusal>
     ensures accepted { IfOk result (λ _. is_accepted (map string_bytes words.now) ≡ true) }
     ensures job { IfOk result (λ j. job_of (map string_bytes words.now) ≡ Some (asked j)) }

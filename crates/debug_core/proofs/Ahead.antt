@@ -1,4 +1,5 @@
--- The run from the start, seen at its turns: a state that is as the run's at one turn goes on as the run does.
+-- The run from the start, turn by turn: a state that equals the run's state at a turn goes on as the run
+-- does.
 use Rattle.std.proofs.Common.{◌≡◌, ◌∙◌, ℕ, zero, suc, ◌+◌, ◌-◌, ◌≤◌, ◌<◌, Option, Some, None, refl, sym, ap, subst, arith}
 use Rattle.task_table.specs.model.State.{State, Turn}
 use Rattle.task_table.specs.model.Sane.{Sane}

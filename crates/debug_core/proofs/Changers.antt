@@ -1,17 +1,16 @@
--- The task that is told with a change could make it.
-use Rattle.std.proofs.Common.{◌≡◌, ◌≢◌, ◌∙◌, ◌⊎◌, inl, inr, ℕ, eqb, Bool, true, false, cond, Option, Some, None, refl, sym, ap}
+-- The task that an answer names with a change could make it.
+use Rattle.std.proofs.Common.{◌≡◌, ◌≢◌, ◌∙◌, ℕ, eqb, Bool, true, false, cond, Option, Some, None, refl, sym, ap}
 use Rattle.std.specs.Option.{option_map}
-use Rattle.std.proofs.lemmas.Bool.{eqb-true, eq-eqb}
+use Rattle.std.proofs.lemmas.Bool.{eq-eqb}
 use Rattle.mem_banks.specs.Memory.{byte_at}
 use Rattle.task_table.specs.model.Reading.{chosen}
 use Rattle.task_table.specs.model.Sane.{Sane}
 use Rattle.task_table.specs.model.State.{State}
 use Rattle.board_model.specs.declared.outcomes.Level.TheVariants.{Calls}
-use Rattle.board_model.specs.Lifetimes.{IsOnGround}
 use Rattle.board_model.specs.Script.{Scenario, start_of}
 use Rattle.board_model.specs.Turn.{after_events, turn, turned, turned_of}
 use Rattle.board_model.proofs.Changes.{changes_on_grounds}
-use Rattle.board_core.specs.Changes.{change_by, change_of, runner_of}
+use Rattle.board_core.specs.Changes.{change_by, runner_of}
 use Rattle.board_core.specs.declared.changes.Change.{Change as AChange}
 use Rattle.debug_core.specs.declared.answer.Answer.{Answer}
 use Rattle.debug_core.specs.declared.answer.Answer.TheVariants.{Changed}

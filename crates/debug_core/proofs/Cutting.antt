@@ -1,4 +1,4 @@
--- A text that is cut into lines, and a line that is cut at its most bytes.
+-- A text that is cut into lines, and a line that is cut at its largest length.
 use Rattle.std.proofs.Common.{◌≡◌, ◌∙◌, ◌⊎◌, inl, inr, ℕ, zero, suc, ◌+◌, ◌<◌, ◌≤◌, ◌==◌, cond, Bool, true, false, List, [], ◌∷◌, ◌++◌, length, get_or, take, refl, sym, ap, subst, arith, append_assoc, zero-add, if◌then◌else◌, nat_eq, Err, drop, drop-cons}
 use Rattle.std.specs.List.{count_by}
 use Rattle.std.proofs.lemmas.Bool.{lt-ltb, ne_eqb}

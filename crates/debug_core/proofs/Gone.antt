@@ -1,4 +1,4 @@
--- What a run on past breakpoints comes to.
+-- Where a run past breakpoints gets to.
 use Rattle.std.proofs.Common.{◌≡◌, ◌∙◌, ℕ, ◌+◌, ◌-◌, List, Some, None, sym, ap, subst}
 use Rattle.std.specs.Prelude.{min}
 use Rattle.board_model.specs.Script.{Scenario}

@@ -1,4 +1,4 @@
--- What a turn ran, and the first turn that is hit.
+-- What a turn ran, and the first turn that is a hit.
 use Rattle.std.proofs.Common.{◌≡◌, ◌∙◌, ℕ, ◌+◌, ◌-◌, ◌≤◌, ◌<◌, Bool, true, false, cond, List, Option, Some, None, refl, sym, ap, arith}
 use Rattle.std.proofs.lemmas.Option.{none-some}
 use Rattle.board_model.specs.declared.outcomes.Level.TheVariants.{Calls}

@@ -1,4 +1,4 @@
--- Turns that a search finds, and what stands since then.
+-- Turns that a search finds, and what has not changed since.
 use Rattle.std.proofs.Common.{◌≡◌, ◌∙◌, ℕ, zero, suc, ◌+◌, ◌-◌, ◌≤◌, ◌<◌, eqb, leb, Bool, true, false, cond, is_some, List, [], ◌∷◌, ◌++◌, length, Option, Some, None, refl, sym, ap, subst, arith}
 use Rattle.std.specs.Prelude.{Contains, find, min, slice_get}
 use Rattle.std.specs.List.{range_with_len}

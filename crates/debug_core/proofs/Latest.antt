@@ -1,4 +1,4 @@
--- The last of some checkpoints until a turn.
+-- The last checkpoint at or before a turn.
 use Rattle.std.proofs.Common.{◌≡◌, ◌∙◌, ℕ, zero, suc, ◌+◌, ◌-◌, ◌≤◌, ◌<◌, ◌&&◌, ◌⊎◌, inl, inr, Bool, true, false, cond, leb, List, length, get_or, Option, Some, None, refl, sym, ap, arith}
 use Rattle.std.specs.List.{HoldsAt}
 use Rattle.std.proofs.lemmas.Bool.{leb-true, leb-false}

@@ -10,6 +10,7 @@ pub mod Lasts
 pub mod Latest
 pub mod Onward
 pub mod Others
+pub mod Over
 pub mod Owners
 pub mod Passing
 pub mod Ranges

@@ -1,4 +1,4 @@
--- The run from its start: before a turn that it reaches it goes on, turn by turn.
+-- The run from its start: it goes on turn by turn before any turn that it reaches.
 use Rattle.std.proofs.Common.{◌≡◌, ◌∙◌, ℕ, zero, suc, ◌+◌, ◌-◌, ◌<◌, Option, Some, None, refl, sym, ap, arith}
 use Rattle.task_table.specs.model.State.{State}
 use Rattle.task_table.specs.model.Sane.{Sane}

@@ -1,4 +1,4 @@
--- Addresses of which none is twice.
+-- Lists of different addresses.
 use Rattle.std.proofs.Common.{◌≡◌, ◌∙◌, ℕ, suc, ◌≤◌, ◌<◌, ◌||◌, not, Bool, true, false, cond, eqb, List, [], ◌∷◌, length, refl, ap, arith}
 use Rattle.std.proofs.lemmas.Bool.{lt-ltb, le-ltb, or_parts}
 use Rattle.board_core.specs.fast.Breakpoints.{stands}

@@ -10,7 +10,7 @@ use Rattle.run_script.proofs.Numbers.{number_within_bounds}
 use Rattle.trace_text.specs.declared.kinds.NoteKind.{NoteKind}
 use Rattle.trace_text.specs.Kinds.{kind_in}
 use Rattle.debug_core.specs.declared.command.Command.{Command}
-use Rattle.debug_core.specs.declared.command.Command.TheVariants.{Break, Clear, Step, Back, Go, At, GoFor, BackFor, Notes, Regs, Task, Irq, Device, Mem}
+use Rattle.debug_core.specs.declared.command.Command.TheVariants.{Break, Clear, Step, Back, Go, At, GoFor, BackFor, Notes, Help, Quit, Regs, Task, Irq, Device, Mem}
 use Rattle.debug_core.specs.declared.command.Sought.{Sought}
 use Rattle.debug_core.specs.declared.command.Sought.TheVariants as sought
 use Rattle.debug_core.specs.Lines.{Said, address_in, device_in, form_said, is_search, kind_said, length_in, line_in, mem_said, named, number_in, numbered_said, said, search_of_number, search_said, task_in, turns_in, two_said, with_number, words_said}
@@ -32,6 +32,8 @@ InRange (Go turns) = Unit {0}
 InRange (GoFor turns what) = Unit {0}
 InRange (BackFor turns what) = Unit {0}
 InRange Notes = Unit {0}
+InRange Help = Unit {0}
+InRange Quit = Unit {0}
 InRange (Regs task) = Unit {0}
 InRange (Task task) = Unit {0}
 InRange (Device device) = Unit {0}
@@ -104,7 +106,10 @@ short_three name one two three =
     (short_numbered name (turns_in one) (kind_in two) (number_in three)))
 
 short_form : (name : List ℕ) (rest : List (List ℕ)) → IsShort (form_said name rest)
-short_form name [] = choice (bytes_eq name (codes "notes")) (Ok (Some Notes)) (Err 2) tt tt
+short_form name [] =
+    choice (bytes_eq name (codes "notes")) (Ok (Some Notes)) _ tt
+    (choice (bytes_eq name (codes "help")) (Ok (Some Help)) _ tt
+    (choice (bytes_eq name (codes "quit")) (Ok (Some Quit)) (Err 2) tt tt))
 short_form name (word ∷ []) = short_named name word
 short_form name (one ∷ two ∷ []) = short_two name one two
 short_form name (one ∷ two ∷ three ∷ []) = short_three name one two three

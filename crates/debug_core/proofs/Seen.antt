@@ -1,4 +1,4 @@
--- What is seen of two states that are equal with births modulo 64: of a task, of a line, of a device.
+-- The views of tasks, lines and devices of two states that are equal with births modulo 64.
 use Rattle.std.proofs.Common.{◌≡◌, ◌∙◌, ℕ, zero, suc, ◌+◌, ◌*◌, ◌%◌, ◌≤◌, ◌<◌, eqb, Bool, cond, List, [], ◌∷◌, length, get_or, Option, Some, None, refl, sym, ap, arith}
 use Rattle.std.specs.Prelude.{find, slice_get, slice_index_or}
 use Rattle.std.specs.Option.{option_map}
@@ -9,8 +9,6 @@ use Rattle.std.proofs.lemmas.Option.{slice_get-get_or, slice_get_within}
 use Rattle.kernel_abi.specs.Devices.{AreSaneDevices, DeviceData}
 use Rattle.kernel_abi.specs.declared.TaskId.{TaskId}
 use Rattle.task_table.specs.declared.Line.{Line}
-use Rattle.task_table.specs.declared.slot.FromId.TheVariants as from_id
-use Rattle.task_table.specs.declared.slot.Wait.TheVariants as wait
 use Rattle.task_table.specs.kept.Holds.{id_at, wait_of}
 use Rattle.task_table.specs.model.State.{Birth, LineSetup, Setup, State, Task}
 use Rattle.task_table.specs.model.Reading.{call_of, line_at, listen_of, no_line as no_line_there, task_at}

@@ -1,4 +1,4 @@
--- What a search forwards or back comes to.
+-- The result of a search forwards or back.
 use Rattle.std.proofs.Common.{◌≡◌, ◌∙◌, ℕ, ◌+◌, ◌-◌, Bool, true, false, cond, Option, Some, None, sym, ap, subst}
 use Rattle.std.specs.Prelude.{min}
 use Rattle.std.specs.Option.{unwrap_or}

@@ -1,4 +1,4 @@
--- A board with its checkpoints, as it goes from turn to turn of the run.
+-- A board with its checkpoints while it goes from turn to turn of the run.
 use Rattle.std.proofs.Common.{◌≡◌, ◌≢◌, ◌∙◌, ℕ, zero, suc, ◌+◌, ◌-◌, ◌≤◌, ◌<◌, List, [], ◌∷◌, length, get_or, set, map, true, is_some, Option, Some, None, refl, sym, ap, subst, arith, Global}
 use Rattle.std.specs.Prelude.{Vec}
 use Rattle.std.specs.List.{All, HoldsAt}

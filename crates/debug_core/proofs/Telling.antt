@@ -1,5 +1,5 @@
--- Lines that are told one after the other, as a text is taken.
-use Rattle.std.proofs.Common.{◌≡◌, ◌∙◌, ◌⊎◌, inl, inr, ℕ, List, [], ◌∷◌, ◌++◌, Option, refl, sym, ap, subst, append_assoc}
+-- Lines that are answered one after the other while a text is taken.
+use Rattle.std.proofs.Common.{◌≡◌, ◌∙◌, ◌⊎◌, inl, inr, ℕ, true, List, [], ◌∷◌, ◌++◌, Option, refl, sym, ap, subst, append_assoc}
 use Rattle.std.specs.Prelude.{Result, Ok, Err, OnOk, OnErr}
 use Rattle.std.specs.Io.KnownBytes.{Appends}
 use Rattle.std.proofs.lemmas.List.{append-nil}
@@ -11,10 +11,11 @@ use Rattle.board_model.specs.Script.{Scenario}
 use Rattle.board_core.specs.Data.{Shows}
 use Rattle.debug_core.specs.declared.debugger.Debugger.{Debugger}
 use Rattle.debug_core.specs.declared.live.LineUnderWay.{LineUnderWay}
-use Rattle.debug_core.specs.Live.{after_line, begun_text, line_told, lines_told, live_said, live_text}
+use Rattle.debug_core.specs.Live.{IsEnough, after_line, after_lines, begun_text, line_told, lines_told, live_said, live_text}
 use Rattle.debug_core.specs.Session.{Session}
 use Rattle.debug_core.specs.Sessions.{IsSession}
-use Rattle.debug_core.specs.UnderWay.{IsAmid, IsOneLine, IsUnderWay, after_lines, first_said}
+use Rattle.debug_core.specs.UnderWay.{IsAmid, IsOneLine, IsUnderWay, first_said}
+use Rattle.debug_core.proofs.Over.{over_after_lines, over_lines_told}
 use Rattle.debug_core.proofs.Cutting.{cut_ended, cut_lf, cut_more, cut_none, last_line, lf_line}
 
 -- ---- lines, and more of them
@@ -71,6 +72,29 @@ module _ {X : Type 0} {H : X → Type 0} (shown : Shows X H) (x : Scenario) (s :
 
   pub amid_begun : Appends old w (begun_text x s text)
   amid_begun = subst (λ ls. Appends old w (lines_told x s ls)) (sym (cut_ended text h.lines h.behind h.cut)) h.told
+
+  -- where nothing comes behind it that counts: nothing does, or the session is over
+  module _ (rest : List ℕ) where
+    amid_over : here.is_over ≡ true → (more : List ℕ) → live_text x s (text ++ more) ≡ lines_told x s h.lines
+    amid_over over more =
+        amid_whole more ∙ ap (λ (t : List ℕ). lines_told x s h.lines ++ t) (over_lines_told x here (lines_of (h.behind ++ more)) over)
+        ∙ append-nil (lines_told x s h.lines)
+
+    over_behind : here.is_over ≡ true → (more : List ℕ) → after_lines x s (lines_of (text ++ more)) ≡ here
+    over_behind over more =
+        ap (after_lines x s) (h.cut.whole more) ∙ after_more x s h.lines (lines_of (h.behind ++ more)) ∙ over_after_lines x here (lines_of (h.behind ++ more)) over
+
+    pub rest_same : (rest ≡ []) ⊎ (here.is_over ≡ true) → live_text x s text ≡ live_text x s (text ++ rest)
+    rest_same (inl none) = ap (live_text x s) (sym (ap (λ (t : List ℕ). text ++ t) none ∙ append-nil text))
+    rest_same (inr over) = ap (live_text x s) (sym (append-nil text)) ∙ amid_over over [] ∙ sym (amid_over over rest)
+
+    pub rest_after : (rest ≡ []) ⊎ (here.is_over ≡ true) → after_lines x s (lines_of text) ≡ after_lines x s (lines_of (text ++ rest))
+    rest_after (inl none) = ap (λ t. after_lines x s (lines_of t)) (sym (ap (λ (t : List ℕ). text ++ t) none ∙ append-nil text))
+    rest_after (inr over) = ap (λ t. after_lines x s (lines_of t)) (sym (append-nil text)) ∙ over_behind over [] ∙ sym (over_behind over rest)
+
+    pub rest_enough : (rest ≡ []) ⊎ (here.is_over ≡ true) → IsEnough x s text (text ++ rest)
+    rest_enough (inl none) = inl (sym (ap (λ (t : List ℕ). text ++ t) none ∙ append-nil text))
+    rest_enough (inr over) = inr ((rest, refl), ap (λ ls. (after_lines x s ls).is_over) (cut_ended text h.lines h.behind h.cut) ∙ over)
 
   -- at the end of the text
   pub amid_after : after_lines x here (lines_of h.behind) ≡ after_lines x s (lines_of text)

@@ -1,4 +1,4 @@
--- What is answered to a command, and its text (docs/FORMATS.md, Commands).
+-- The answer to a command, and its text (docs/FORMATS.md, Commands).
 use Rattle.std.specs.Prelude.{ℕ, zero, suc, ◌+◌, ◌-◌, ◌%◌, ◌==◌, Bool, List, [], ◌∷◌, ◌++◌, length, map, take, find, slice_get, codes, decimal, Option, Some, None, if◌then◌else◌, nat_lt}
 use Rattle.std.specs.List.{range_with_len, list_all, flat_map}
 use Rattle.std.specs.Option.{option_map, unwrap_or}
@@ -33,13 +33,13 @@ use Rattle.debug_core.specs.Runs.{end_here, forward, state_at}
 use Rattle.debug_core.specs.Searched.{found}
 use Rattle.debug_core.specs.Session.{Session, after, ahead, behind, hit_from, is_full, may_find, opened}
 
--- ---- what it is
+-- ---- the answer
 
--- where the cursor is
+-- the cursor at a turn, the time there, and why the run ends there, if it does
 abbrev pub at_turn : Scenario → ℕ → Answer
 at_turn x turn = At turn (state_at x turn).now (end_here x turn)
 
--- behind a turn: what it ran, and where the PC was
+-- the cursor right after a turn: which task the turn ran, and where its PC was
 abbrev pub hit_at : ℕ → Turned → Answer
 hit_at cursor Idle = Absent
 hit_at cursor (Ran task at) = Hit cursor task at
@@ -51,13 +51,13 @@ gone_to x s n None = at_turn x (forward x s.cursor n)
 abbrev pub registers_of : State → ℕ → Answer
 registers_of s i = if nat_lt i (length s.tasks) then Registers (task_at s i).registers (task_at s i).flags else Absent
 
--- n bytes from an address on, where there is one at each
+-- n bytes from an address on, if memory has a byte at each of these addresses
 abbrev pub bytes_from : Memory → ℕ → ℕ → Answer
 bytes_from m at n =
     if list_all (is_held m) (range_with_len at n)
     then Bytes at (record { items = map (byte_of m) (range_with_len at n) }) else Absent
 
--- what was found; where nothing was, where the cursor is then
+-- what was found, or where the cursor is afterwards if nothing was
 abbrev pub found_at : Scenario → Sought → Option ℕ → ℕ → Answer
 found_at x what (Some turn) cursor = unwrap_or (found x what turn) Absent  -- it is found there
 found_at x what None cursor = at_turn x cursor
@@ -65,7 +65,7 @@ found_at x what None cursor = at_turn x cursor
 abbrev pub sought_for : Scenario → Session → Sought → Option ℕ → ℕ → Answer
 sought_for x s what turn cursor = if may_find x s what then found_at x what turn cursor else Absent
 
--- how a task is: what is told of it at the end of a run, its registers aside
+-- the state of a task, as it is written at the end of a run, without its registers
 abbrev pub task_view : State → ℕ → TaskView
 task_view s i =
     let t = task_at s i in
@@ -82,7 +82,7 @@ task_view s i =
 abbrev pub task_of : State → ℕ → Answer
 task_of s i = if nat_lt i (length s.tasks) then answered.Task i (task_view s i) else Absent
 
--- who owns an interrupt line, as the image says, and how it is
+-- the owner of an interrupt line, as the image says
 abbrev pub owner_of : Setup → ℕ → Option LineSetup
 owner_of g number = find (λ l. l.line == number) g.lines
 
@@ -100,7 +100,7 @@ device_by k (Some d) = answered.Device k d.kind d.base d.count (record { items =
 abbrev pub device_of : State → ℕ → Answer
 device_of s k = device_by k (slice_get s.devices k)
 
--- by the session before the command
+-- the answer to a command in the session before it
 abbrev pub answer : Scenario → Session → Command → Answer
 answer x s (command.Break at) = if is_full s.breakpoints at then Full else Set at
 answer x s (command.Clear at) = if stands s.breakpoints at then Cleared at else Absent
@@ -111,13 +111,15 @@ answer x s (command.At turn) = at_turn x (after x s (command.At turn)).cursor
 answer x s (command.GoFor n what) = sought_for x s what (ahead x s n what) (forward x s.cursor n)
 answer x s (command.BackFor n what) = sought_for x s what (behind x s n what) (s.cursor - n)
 answer x s command.Notes = Absent  -- at turn 0; at others see `told`
+answer x s command.Help = answered.Help
+answer x s command.Quit = answered.Over
 answer x s (command.Regs task) = registers_of (state_at x s.cursor) task
 answer x s (command.Task task) = task_of (state_at x s.cursor) task
 answer x s (command.Irq line) = irq_of x.setup (state_at x s.cursor) line
 answer x s (command.Device device) = device_of (state_at x s.cursor) device
 answer x s (command.Mem at n) = bytes_from (state_at x s.cursor).memory at n
 
--- ---- its text
+-- ---- the text of an answer
 
 abbrev pub end_word : Option End → List ℕ
 end_word (Some end) = end_name end
@@ -153,7 +155,7 @@ unfoldable pub irq_line : ℕ → ℕ → ℕ → Bool → Bool → List ℕ
 irq_line number owner bits enabled pending =
     codes "line " ++ decimal number ++ codes " " ++ decimal owner ++ spaced_hex bits ++ codes " " ++ bit enabled ∷ codes " " ++ bit pending ∷ codes "\n"
 
--- `console <count>`, or `port <waiting>` and, where some wait, a blank and two digits a byte
+-- `console <count>`, or `port <waiting>`; if some bytes wait, a blank and two digits for each byte follow
 abbrev pub queue_word : List ℕ → List ℕ
 queue_word [] = []
 queue_word (byte ∷ bytes) = codes " " ++ flat_map byte_hex (byte ∷ bytes)
@@ -165,9 +167,13 @@ kind_words Port count queue = codes "port " ++ decimal (length queue) ++ queue_w
 unfoldable pub device_line : ℕ → Kind → ℕ → ℕ → List ℕ → List ℕ
 device_line k kind base count queue = codes "device " ++ decimal k ++ spaced_hex base ++ codes " " ++ kind_words kind count queue ++ codes "\n"
 
--- `refused <cause>`, of a line
+-- `refused <cause>`, for a line
 abbrev pub refusal_line : ℕ → List ℕ
 refusal_line cause = codes "refused " ++ decimal cause ++ codes "\n"
+
+-- the forms of the commands, in one line
+abbrev pub help_line : List ℕ
+help_line = codes "commands: break H, clear H, step N, back N, go N, go N KIND [M], back N KIND [M], go N change H, back N change H, at N, notes, help, quit, regs T, task T, line L, device D, mem H L\n"
 
 abbrev pub text_of : Answer → List ℕ
 text_of (Set at) = address_line (codes "break ") at
@@ -183,8 +189,10 @@ text_of (answered.Irq number owner bits enabled pending) = irq_line number owner
 text_of (answered.Device k kind base count queue) = device_line k kind base count queue.items
 text_of (Registers words flags) = low_text words ++ high_text words flags
 text_of (Bytes at bytes) = bytes_line at bytes.items
+text_of answered.Help = help_line
+text_of answered.Over = []
 
--- ---- what a command is told: an answer, or what is noted of the turn before the cursor, with each instruction
+-- ---- what a command writes: an answer, or the notes of the turn before the cursor, with its instruction
 
 abbrev pub told_before : Scenario → ℕ → List ℕ
 told_before x zero = text_of Absent
@@ -200,16 +208,18 @@ told x s (command.Go n) = text_of (answer x s (command.Go n))
 told x s (command.At turn) = text_of (answer x s (command.At turn))
 told x s (command.GoFor n what) = text_of (answer x s (command.GoFor n what))
 told x s (command.BackFor n what) = text_of (answer x s (command.BackFor n what))
+told x s command.Help = text_of (answer x s command.Help)
+told x s command.Quit = text_of (answer x s command.Quit)
 told x s (command.Regs task) = text_of (answer x s (command.Regs task))
 told x s (command.Task task) = text_of (answer x s (command.Task task))
 told x s (command.Irq line) = text_of (answer x s (command.Irq line))
 told x s (command.Device device) = text_of (answer x s (command.Device device))
 told x s (command.Mem at n) = text_of (answer x s (command.Mem at n))
 
--- of all commands of a session, in order
+-- the text of these commands of a session, in order, up to the first `quit`
 abbrev pub told_from : Scenario → Session → List Command → List ℕ
 told_from x s [] = []
-told_from x s (command ∷ rest) = told x s command ++ told_from x (after x s command) rest
+told_from x s (command ∷ rest) = if s.is_over then [] else told x s command ++ told_from x (after x s command) rest
 
 -- the whole text of a session
 abbrev pub text : Scenario → List Command → List ℕ

@@ -1,4 +1,4 @@
--- What `Commands` stand for.
+-- The list that a value of `Commands` holds.
 use Rattle.std.specs.Prelude.{List}
 use Rattle.debug_core.specs.declared.command.Command.{Command}
 use Rattle.debug_core.specs.declared.commands.Commands.{Commands}

@@ -9,27 +9,27 @@ use Rattle.board_model.specs.Cut.{cut_at}
 use Rattle.board_model.specs.Run.{ending, run}
 use Rattle.board_model.specs.Script.{Scenario, start_of}
 
--- the turns of a run, at most
+-- a run has at most this many turns
 abbrev pub most_turns : ℕ
 most_turns = 1000000000
 
--- where the run from the start stands before a turn, or at its end where that comes first
+-- the state of the run from the start before a turn, or at the end of the run if that comes first
 abbrev pub state_at : Scenario → ℕ → State
 state_at x turn = cut_at Calls x turn (start_of x)
 
--- why the run ends at a turn, where it does
+-- why the run ends at a turn, if it does
 abbrev pub end_here : Scenario → ℕ → Option End
 end_here x turn = ending x (most_turns - turn) (state_at x turn)
 
--- the run starts sane and comes to this turn
+-- the run starts sane and reaches this turn
 pub record Reaches (x : Scenario) (turn : ℕ) : Type 0 where
   pub start : Sane x.setup (start_of x)
   pub turn_is : (state_at x turn).turn ≡ turn
 
--- all that it tells, each note with its turn
+-- all notes of the run, each with its turn
 abbrev pub notes_of_run : Scenario → List (ℕ × Note)
 notes_of_run x = (run Calls x most_turns (start_of x)).notes
 
--- so many turns on from a cursor, at most to the end of the run
+-- the turn that is n turns after a cursor, or the end of the run if that comes first
 abbrev pub forward : Scenario → ℕ → ℕ → ℕ
 forward x cursor n = (state_at x (min (cursor + n) most_turns)).turn

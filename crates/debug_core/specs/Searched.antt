@@ -1,4 +1,5 @@
--- What a run is searched for: a turn of which such a note is told, or one that changes a byte (docs/FORMATS.md, Commands).
+-- What a search looks for: a turn with a certain note, or a turn that changes a certain byte
+-- (docs/FORMATS.md, Commands).
 use Rattle.std.specs.Prelude.{ℕ, zero, suc, ◌+◌, Bool, true, find, is_some, Option, Some, None, if◌then◌else◌}
 use Rattle.std.specs.List.{range_with_len}
 use Rattle.std.specs.Option.{option_map}
@@ -17,14 +18,14 @@ use Rattle.debug_core.specs.Runs.{state_at}
 
 -- ---- a turn
 
--- the byte at an address before a turn of the run, and as the turn leaves it
+-- the byte at an address before a turn of the run, and after it
 abbrev pub byte_before : Scenario → ℕ → ℕ → Option ℕ
 byte_before x at n = byte_at (state_at x n).memory at
 
 abbrev pub byte_left : Scenario → ℕ → ℕ → Option ℕ
 byte_left x at n = byte_at (turn Calls x (state_at x n)).state.memory at
 
--- what is found in a turn of the run, as it is answered
+-- the answer about a turn of the run in which something was found
 abbrev pub told_at : Scenario → NoteKind → Option ℕ → ℕ → Option Answer
 told_at x kind number n = option_map (λ note. Told n note) (find (is_sought kind number) (turn Calls x (state_at x n)).notes)
 
@@ -38,14 +39,15 @@ found x (sought.Change at) n = changed_at x at n
 abbrev pub is_found : Scenario → Sought → ℕ → Bool
 is_found x what n = is_some (found x what n)
 
--- there can be such a turn: memory has the byte; it has the same addresses at each turn
+-- Such a turn can exist. For a change of a byte, memory has to have that byte; memory has the same addresses
+-- at every turn.
 abbrev pub can_be : Sought → Memory → Bool
 can_be (sought.Note _ _) m = true
 can_be (sought.Change at) m = is_held m at
 
 -- ---- turns
 
--- the first of n turns from one on in which it is found, and the last of them
+-- the first and the last of n turns, counted from turn `from` on, in which the search finds something
 abbrev pub first_found : Scenario → Sought → ℕ → ℕ → Option ℕ
 first_found x what from n = find (is_found x what) (range_with_len from n)
 

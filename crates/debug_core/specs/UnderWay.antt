@@ -1,5 +1,5 @@
--- A session amid a text: the lines that an LF ended, and the one under way.
-use Rattle.std.specs.Prelude.{ℕ, ◌≡◌, ◌==◌, ◌⊎◌, List, [], ◌∷◌, ◌++◌, length, take, Option, None, Result, Ok, OnOk, OnErr}
+-- A session in the middle of a text: the lines that ended with an LF, and the line under way.
+use Rattle.std.specs.Prelude.{ℕ, ◌≡◌, ◌==◌, ◌⊎◌, true, List, [], ◌∷◌, ◌++◌, length, take, Option, None, Result, Ok, OnOk, OnErr}
 use Rattle.std.specs.List.{count_by}
 use Rattle.std.specs.Io.KnownBytes.{Appends}
 use Rattle.text_lines.specs.Text.{HasNoLf, lines_of}
@@ -10,27 +10,22 @@ use Rattle.board_core.specs.Data.{Shows}
 use Rattle.debug_core.specs.declared.debugger.Debugger.{Debugger}
 use Rattle.debug_core.specs.declared.live.LineUnderWay.{LineUnderWay}
 use Rattle.debug_core.specs.Lines.{Said}
-use Rattle.debug_core.specs.Live.{HasGiven, MayBeTaken, after_line, lines_told, live_said, live_text}
+use Rattle.debug_core.specs.Live.{HasGiven, MayBeTaken, after_lines, lines_told, live_said, live_text}
 use Rattle.debug_core.specs.Session.{Session}
 use Rattle.debug_core.specs.Sessions.{IsSession}
 
 -- ---- lines
 
--- the session that lines leave
-abbrev pub after_lines : Scenario → Session → List (List ℕ) → Session
-after_lines x s [] = s
-after_lines x s (line ∷ lines) = after_lines x (after_line x s (live_said line)) lines
-
--- a line or a part of one, with the LF that ends it or without
+-- a line or a part of a line, with or without the LF at its end
 abbrev pub IsOneLine : List ℕ → Type 0
 IsOneLine bytes = (line : List ℕ) × HasNoLf line × ((bytes ≡ line) ⊎ (bytes ≡ line ++ 10 ∷ []))
 
--- what the first of lines says; nothing where there is none
+-- what the first line says, or nothing if there is no line
 abbrev pub first_said : List (List ℕ) → Said
 first_said [] = Ok None
 first_said (line ∷ lines) = live_said line
 
--- a text is cut into the lines that an LF ends and what stands behind the last LF: whatever comes behind it
+-- A text is cut into the lines that end with an LF and the bytes after the last LF. More text may follow.
 pub record IsCut (text : List ℕ) (lines : List (List ℕ)) (behind : List ℕ) : Type 0 where
   pub no_lf : HasNoLf behind
   pub count : count_by (λ c. c == 10) text ≡ length lines
@@ -38,19 +33,19 @@ pub record IsCut (text : List ℕ) (lines : List (List ℕ)) (behind : List ℕ)
 
 -- ---- the line under way
 
--- the bytes of it so far; of a line that is too long its first
+-- the bytes of the line so far; if the line is too long, its first 1,026 bytes
 abbrev pub IsUnderWay : LineUnderWay → List ℕ → Type 0
 IsUnderWay under_way bytes = under_way.front.items ≡ take 1026 bytes
 
--- a debugger is at a session, and one line, or a part of one, is under way
+-- a debugger holds this session, and one line or a part of one is under way
 pub record IsAtLine {X : Type 0} {H : X → Type 0} (shown : Shows X H) (x : Scenario) (s : Session) (bytes : List ℕ) (d : Debugger X H) (under_way : LineUnderWay) : Type 0 where
   pub at : IsSession shown x d s
   pub begun : IsUnderWay under_way bytes
   pub one : IsOneLine bytes
 
--- ---- amid a text
+-- ---- in the middle of a text
 
--- so much of a text was taken: its ended lines are answered, and what stands behind them is under way
+-- This much of a text was taken: its ended lines are answered, and the bytes after them are under way.
 pub record IsAmid {X : Type 0} {H : X → Type 0} (shown : Shows X H) (x : Scenario) (s : Session) (text : List ℕ) (old new : Option (List ℕ)) (d : Debugger X H) (under_way : LineUnderWay) : Type 0 where
   pub lines : List (List ℕ)
   pub behind : List ℕ
@@ -59,27 +54,30 @@ pub record IsAmid {X : Type 0} {H : X → Type 0} (shown : Shows X H) (x : Scena
   pub told : Appends old new (lines_told x s lines)
   pub begun : IsUnderWay under_way behind
 
--- of some session and some text of it
+-- the same for some session and some text
 abbrev pub IsTaking : {X : Type 0} {H : X → Type 0} → Shows X H → SinkSeen → Debugger X H → LineUnderWay → Type 0
 IsTaking shown w d under_way = (x : Scenario) × (s : Session) × (text : List ℕ) × (old : Option (List ℕ)) × IsAmid shown x s text old w.written d under_way
 
--- of each, these bytes more were taken
+-- these further bytes were taken, for each session and text
 abbrev pub TakesOn : {X : Type 0} {H : X → Type 0} {T E : Type 0} → Shows X H → List ℕ → SinkSeen → SinkSeen → Debugger X H → Debugger X H → LineUnderWay → LineUnderWay → Result T E → Type 0
 TakesOn shown more w w' d d' under_way under_way' result = (x : Scenario) (s : Session) (text : List ℕ) (old : Option (List ℕ))
     → IsAmid shown x s text old w.written d under_way → OnOk result (IsAmid shown x s (text ++ more) old w'.written d' under_way')
 
--- or a push or a flush failed on the way: a front of the answers was appended, whatever comes behind them
+-- A push or a flush failed on the way. A front of the answers was appended, whatever text follows.
 abbrev pub BreaksAmid : {X : Type 0} {H : X → Type 0} {T E : Type 0} → Shows X H → List ℕ → SinkSeen → SinkSeen → Debugger X H → LineUnderWay → Result T E → Type 0
 BreaksAmid shown more w w' d under_way result = (x : Scenario) (s : Session) (text : List ℕ) (old : Option (List ℕ))
     → IsAmid shown x s text old w.written d under_way → OnErr result ((rest : List ℕ) → AppendsFront old w'.written (live_text x s ((text ++ more) ++ rest)))
 
--- the session that a file leaves, by its contents where they are seen
+-- the debugger holds the session that follows all lines of a file; if the file's contents are seen, these are
+-- its lines
 abbrev pub HasLived : {X : Type 0} {H : X → Type 0} → Shows X H → Scenario → Session → Option (List ℕ) → Debugger X H → Type 0
 HasLived shown x s contents d = (bytes : List ℕ) × MayBeTaken contents bytes × IsSession shown x d (after_lines x s (lines_of bytes))
 
--- all that a session takes of a file was taken
+-- The bytes that a session takes of a file were taken: all of them, or so many that it is over.
 pub record HasTaken {X : Type 0} {H : X → Type 0} (shown : Shows X H) (x : Scenario) (s : Session) (name : List ℕ) (before after : FilesSeen) (w w' : SinkSeen) (d : Debugger X H) (under_way : LineUnderWay) : Type 0 where
   pub text : List ℕ
-  pub taken : MayBeTaken (before.contents name) text
+  pub rest : List ℕ
+  pub taken : MayBeTaken (before.contents name) (text ++ rest)
   pub given : HasGiven before.given after.given (length text)
   pub amid : IsAmid shown x s text w.written w'.written d under_way
+  pub all : (rest ≡ []) ⊎ ((after_lines x s amid.lines).is_over ≡ true)

@@ -1,4 +1,4 @@
-//! What is answered to a command.
+//! The answers to commands.
 
 use arrayvec::ArrayVec;
 use board_core::TaskView;
@@ -13,32 +13,32 @@ pub enum Answer {
     Set {
         at: u32,
     },
-    /// As many other breakpoints stand as there may be.
+    /// No room: there are already as many other breakpoints as there may be.
     Full,
     /// The address was a breakpoint.
     Cleared {
         at: u32,
     },
-    /// There is no such breakpoint, task, interrupt line, device or byte, or no turn before.
+    /// There is no such breakpoint, task, interrupt line, device or byte, or no earlier turn.
     Absent,
-    /// The cursor, the time there in ticks, and why the run ends there, where it does.
+    /// The cursor, the time there in ticks, and why the run ends there, if it does.
     At {
         turn: u32,
         now: u64,
         end: Option<End>,
     },
-    /// The cursor behind a turn that ran a task at a breakpoint.
+    /// The cursor right after a turn that ran a task at a breakpoint.
     Hit {
         turn: u32,
         task: u16,
         at: u32,
     },
-    /// The first note of a turn that was sought, and that turn.
+    /// The note that was sought, the first one in its turn, and that turn.
     Told {
         turn: u32,
         note: Note,
     },
-    /// A turn that changed a byte, the task that ran in it, and what the byte was and is.
+    /// A turn that changed a byte, the task that ran in it, and the byte's old and new value.
     Changed {
         turn: u32,
         task: Option<u16>,
@@ -51,12 +51,12 @@ pub enum Answer {
         words: [u32; 16],
         flags: Flags,
     },
-    /// How a task is.
+    /// The state of a task.
     Task {
         task: u16,
         view: TaskView,
     },
-    /// Whose an interrupt line is, with which bits, and how it is.
+    /// The owner of an interrupt line, the bits that the owner gets, and the state of the line.
     Irq {
         line: u8,
         owner: u16,
@@ -64,7 +64,7 @@ pub enum Answer {
         enabled: bool,
         pending: bool,
     },
-    /// How a device is: the bytes are the first 64 that wait in it.
+    /// The state of a device. The bytes are the first 64 that wait in it.
     Device {
         device: u8,
         kind: Kind,
@@ -77,4 +77,8 @@ pub enum Answer {
         at: u32,
         bytes: ArrayVec<u8, 64>,
     },
+    /// The forms of the commands.
+    Help,
+    /// The session is over. This answer has no text.
+    Over,
 }

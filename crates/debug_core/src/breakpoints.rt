@@ -7,7 +7,7 @@ ghost use Rattle.debug_core.specs.Session.{is_full, others, with_breakpoint};
 use crate::answer::Answer;
 use arrayvec::ArrayVec;
 
-/// At most 16 addresses, none of them twice.
+/// At most 16 different addresses.
 pub(crate) type Breakpoints = ArrayVec<u32, 16>;
 
 fn stands(breakpoints: &[u32], at: u32) -> bool
@@ -16,7 +16,7 @@ fn stands(breakpoints: &[u32], at: u32) -> bool
     breakpoints.contains(&at)
 }
 
-/// An address becomes a breakpoint, where there is room for it.
+/// Makes an address a breakpoint, if there is room for it.
 pub(crate) fn set(breakpoints: &mut Breakpoints, at: u32) -> Answer
     ensures answer { result ≡ (if is_full breakpoints.old.items at then Answer.Full else Answer.Set
         at) }
@@ -31,7 +31,7 @@ pub(crate) fn set(breakpoints: &mut Breakpoints, at: u32) -> Answer
     }
 }
 
-/// An address is no breakpoint any more.
+/// Removes the breakpoint at an address.
 pub(crate) fn clear(breakpoints: &mut Breakpoints, at: u32) -> Answer
     ensures answer { result ≡ (if stands breakpoints.old.items at then Answer.Cleared at else
         Answer.Absent) }

@@ -1,12 +1,13 @@
-//! Commands, and why a text of them is refused.
+//! Commands, and why a text is refused as commands.
 
 use thiserror::Error;
 use trace_text::NoteKind;
 
-/// What a run is searched for.
+/// What a search looks for.
 #[derive(Clone, Copy, PartialEq, Eq)]
 pub enum Sought {
-    /// A note of a kind, and where there is a number, one whose line has it first behind the kind.
+    /// A note of a kind. If there is a number, the note's line has it as the first word after the
+    /// kind.
     Note { kind: NoteKind, number: Option<u32> },
     /// A change of the byte at an address.
     Change { at: u32 },
@@ -15,40 +16,44 @@ pub enum Sought {
 /// A command to a run (docs/FORMATS.md, Commands).
 #[derive(Clone, Copy, PartialEq, Eq)]
 pub enum Command {
-    /// An address becomes a breakpoint.
+    /// Makes an address a breakpoint.
     Break { at: u32 },
-    /// An address is no breakpoint any more.
+    /// Removes the breakpoint at an address.
     Clear { at: u32 },
-    /// So many turns on.
+    /// Goes `turns` turns forwards.
     Step { turns: u32 },
-    /// So many turns back.
+    /// Goes `turns` turns back.
     Back { turns: u32 },
-    /// So many turns on, but no further than the first that runs a task at a breakpoint.
+    /// Goes `turns` turns forwards, but stops after the first one that runs a task at a breakpoint.
     Go { turns: u32 },
-    /// To a turn, at most to the end of the run.
+    /// Goes to a turn, or to the end of the run if that comes first.
     At { turn: u32 },
-    /// So many turns on, but no further than behind the first in which this is found.
+    /// Goes `turns` turns forwards, but stops right after the first one in which this is found.
     GoFor { turns: u32, sought: Sought },
-    /// So many turns back, but no further than before the last in which this is found.
+    /// Goes `turns` turns back, but stops right before the last one in which this is found.
     BackFor { turns: u32, sought: Sought },
-    /// What is told of the turn before the cursor.
+    /// Shows the notes of the turn before the cursor.
     Notes,
-    /// The registers of a task, by its index.
+    /// Names the forms of the commands.
+    Help,
+    /// Ends the session.
+    Quit,
+    /// Shows the registers of a task, by its index.
     Regs { task: u16 },
-    /// How a task is, by its index.
+    /// Shows the state of a task, by its index.
     Task { task: u16 },
-    /// How an interrupt line is, by its number.
+    /// Shows the owner and the state of an interrupt line, by its number.
     Irq { line: u8 },
-    /// How a device is, by its index.
+    /// Shows the state of a device, by its index.
     Device { device: u8 },
-    /// So many bytes from an address on, 1 to 64.
+    /// Shows `len` bytes from an address on, 1 to 64.
     Mem { at: u32, len: u8 },
 }
 
 /// Why `Commands::read` gives no commands: the bytes are refused, or memory ran out.
 #[derive(Debug, Drop, Error)]
 pub enum CommandFault {
-    /// A cause of docs/FORMATS.md, Commands, and the line, from 1.
+    /// A cause of docs/FORMATS.md, Commands, and the line, counted from 1.
     #[error("refused with cause {cause} at line {line}")]
     Refused { cause: u8, line: usize },
     #[error("out of memory")]

@@ -11,7 +11,7 @@ use text_lines::Lines;
 
 const MOST: usize = 1024;
 
-/// Takes what a line says, or tells why it is refused there.
+/// Adds the command of a line, if it has one, or returns why the line is refused.
 fn take(
     commands: &mut Vec<Command>,
     said: Result<Option<Command>, u8>,
@@ -53,7 +53,7 @@ fn commands_of(alloc: Global, bytes: &[u8]) -> Result<Vec<Command>, CommandFault
     Ok(commands)
 }
 
-/// Commands as a text says them.
+/// The commands of a text.
 #[derive(Drop)]
 pub struct Commands {
     commands: Vec<Command>,
@@ -63,9 +63,9 @@ pub struct Commands {
 impl Commands {
     ghost use Rattle.debug_core.specs.Listed.{listed};
 
-    /// The commands that the bytes say, or the first cause by which they are refused with its line,
-    /// in the order of docs/FORMATS.md, Commands; `Memory` where memory ran out. Lines are counted
-    /// from 1.
+    /// Reads the commands of a text. Refuses the text with the first cause in the order of
+    /// docs/FORMATS.md, Commands, and its line; lines are counted from 1. Fails with `Memory` if
+    /// memory runs out.
     pub fn read(alloc: Global, bytes: &[u8]) -> Result<Commands, CommandFault>
         ensures ok { IfOk result (λ c. commands_or_fault bytes.now ≡ Ok (listed c)) }
         ensures refused { IfErr result (λ e.

@@ -1,4 +1,4 @@
-//! Commands carried out, one after the other.
+//! `Debugger`: carries out commands one after the other.
 
 ghost use Rattle.std.specs.Prelude.{ℕ, ◌≡◌, ◌≤◌, ◌<◌, ◌+◌, ◌-◌, ◌==◌, find, map, min, IfOk};
 ghost use Rattle.std.specs.Option.{option_map};
@@ -31,17 +31,17 @@ use std::alloc::{AllocError, Global};
 use task_table::LineStart;
 use trace_text::TurnLines;
 
-/// A run has at most so many turns.
+/// A run has at most this many turns.
 const TURNS: u32 = 1_000_000_000;
 
-/// So many turns before one, at most to the start.
+/// The turn that is `turns` turns before this one, or the start.
 fn earlier(turn: u32, turns: u32) -> u32
     ensures { result ≡ turn - turns }
 {
     turn.saturating_sub(turns)
 }
 
-/// Where the cursor is.
+/// The answer that says where the cursor is.
 fn here(replay: &Replay) -> Answer
     requires { (x : Scenario) × (turn : ℕ) × IsAt (boxed shown) x replay.now turn }
     ensures { (x : Scenario) (turn : ℕ) → IsAt (boxed shown) x replay.now turn →
@@ -54,7 +54,7 @@ fn here(replay: &Replay) -> Answer
     }
 }
 
-/// To a turn, forwards or back, or to the end of the run before it.
+/// Goes to a turn, forwards or back, or to the end of the run if that comes first.
 fn to_turn(replay: &mut Replay, turn: u32)
     requires from { (x : Scenario) × (cursor : ℕ) × IsAt (boxed shown) x replay.old cursor }
     requires few { turn ≤ 1000000000 }
@@ -94,7 +94,7 @@ fn task(replay: &Replay, task: u16) -> Answer
     }
 }
 
-/// Who owns an interrupt line, and with which bits.
+/// The index of the task that owns an interrupt line, and the bits that it gets.
 fn owner_of(owners: &[LineStart], line: u8) -> Option<(u16, u32)>
     ensures { result ≡ option_map (λ l. (l.owner, l.bits))
         (find (λ l. l.line == line) (map line_setup owners.now)) }
@@ -143,7 +143,7 @@ fn device(board: &Board, device: u8) -> Answer
     }
 }
 
-/// The byte so far behind an address.
+/// The byte at the address `at + k`.
 fn byte_behind(board: &Board, at: u32, k: u8) -> Option<u8>
     ensures { (x : Scenario) (s : State) → Stands (boxed shown) x board.now s →
         result ≡ byte_at s.memory (at + k) }
@@ -166,22 +166,23 @@ fn bytes(board: &Board, at: u32, len: u8) -> Answer
     Answer::Bytes { at, bytes }
 }
 
-/// A run that is gone over forwards and back: it stands at a turn, the cursor, and stops where a
-/// task is at a breakpoint (docs/FORMATS.md, Commands). Where it has been it keeps states, from
-/// which it goes on when it goes back; no answer shows them.
+/// A run that can go forwards and back. It is at a turn, the cursor, and stops when a task is at a
+/// breakpoint (docs/FORMATS.md, Commands). It keeps checkpoints of the turns where it has been, and
+/// starts from one of them to go back. No answer depends on the checkpoints.
 #[derive(Drop)]
 pub struct Debugger {
     replay: Replay,
     breakpoints: Breakpoints,
+    pub(crate) is_over: bool,
 }
 
 impl Debugger {
-    /// A session with a run at its start, where the board stands. All memory that is taken is taken
-    /// here: room for 64 states.
+    /// Opens a session with a run at its start. The board is at the start of the run. All memory is
+    /// taken here: room for 64 states.
     ///
     /// # Errors
     ///
-    /// Only want of memory. The board is dropped then.
+    /// Only if memory runs out. The board is dropped then.
     pub fn open(alloc: Global, board: Board) -> Result<Debugger, AllocError>
         requires { (x : Scenario) × Stands (boxed shown) x board (start_of x) }
         ensures { (x : Scenario) → Stands (boxed shown) x board (start_of x) →
@@ -190,10 +191,11 @@ impl Debugger {
         Ok(Debugger {
             replay: Replay::open(alloc, board)?,
             breakpoints: ArrayVec::new(),
+            is_over: false,
         })
     }
 
-    /// So many turns on from the cursor, at most to the last turn that a run may have.
+    /// The turn that is `turns` turns after the cursor, or the last one that a run may have.
     fn limit(&self, turns: u32) -> u32
         ensures limit { (x : Scenario) (s : Session) → IsSession (boxed shown) x self.now s →
             result ≡ min (s.cursor + turns) 1000000000 }
@@ -290,7 +292,7 @@ impl Debugger {
         }
     }
 
-    /// What a command does, and its answer.
+    /// Carries out a command and returns its answer.
     fn carry_out(&mut self, command: &Command) -> Answer
         requires session { (x : Scenario) × (s : Session) × IsSession (boxed shown) x self.old s }
         requires few { AsksForFew command.now }
@@ -309,6 +311,11 @@ impl Debugger {
             Command::GoFor { turns, sought } => self.go_for(*turns, sought),
             Command::BackFor { turns, sought } => self.back_for(*turns, sought),
             Command::Notes => Answer::Absent,
+            Command::Help => Answer::Help,
+            Command::Quit => {
+                self.is_over = true;
+                Answer::Over
+            }
             Command::Regs { task } => registers(&self.replay, *task),
             Command::Task { task: i } => task(&self.replay, *i),
             Command::Irq { line } => irq(&self.replay.board, *line),
@@ -317,7 +324,8 @@ impl Debugger {
         }
     }
 
-    /// What is noted of the turn before the cursor, with each instruction, a line a push.
+    /// Pushes the notes of the turn before the cursor, with its instruction, one push for each
+    /// line.
     fn push_notes<S: Sink>(&mut self, out: &mut S) -> Result<(), Failed>
         requires { (x : Scenario) × (s : Session) × IsSession (boxed shown) x self.old s }
         ensures told { (x : Scenario) (s : Session) → IsSession (boxed shown) x self.old s →
@@ -354,12 +362,12 @@ impl Debugger {
         push_answer(&answer, out)
     }
 
-    /// A command is carried out, and its answer pushed, a line a push, and passed on. It takes no
-    /// memory.
+    /// Carries out a command, pushes its answer, one push for each line, and flushes the sink. It
+    /// takes no memory.
     ///
     /// # Errors
     ///
-    /// Only where a push or the flush failed. The command is carried out all the same.
+    /// Only if a push or the flush fails. The command is carried out all the same.
     pub fn command<S: Sink>(&mut self, command: &Command, out: &mut S) -> Result<(), Failed>
         requires session { (x : Scenario) × (s : Session) × IsSession (boxed shown) x self.old s }
         requires few { AsksForFew command.now }
@@ -373,12 +381,13 @@ impl Debugger {
         out.flush()
     }
 
-    /// All commands of a text, one after the other, each with its answer, which is passed on before
-    /// the next one. It takes no memory.
+    /// Carries out the commands of a text, one after the other, up to the first `quit`. It pushes
+    /// and flushes the answer of each command before it carries out the next one. It takes no
+    /// memory.
     ///
     /// # Errors
     ///
-    /// Only where a push or a flush failed. No further command is carried out.
+    /// Only if a push or a flush fails. No further command is carried out.
     pub fn carry_out_all<S: Sink>(&mut self, commands: &Commands, out: &mut S) -> Result<(), Failed>
         requires session { (x : Scenario) × (s : Session) × IsSession (boxed shown) x self.old s }
         ensures told { (x : Scenario) (s : Session) → IsSession (boxed shown) x self.old s →
@@ -387,6 +396,9 @@ impl Debugger {
         ensures cause { HasCause (S.seen out.old).faults (S.seen out.new).faults result }
     {
         for command in commands.as_slice() {
+            if self.is_over {
+                return Ok(());
+            }
             self.command(command, out)?;
         }
         Ok(())

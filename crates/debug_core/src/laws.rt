@@ -1,11 +1,11 @@
-//! Laws of searches and of what they find (docs/FORMATS.md, Commands). Nothing runs here.
+//! Laws about searches and what they find (docs/FORMATS.md, Commands). Nothing runs here.
 //!
-//! - The last turn that changed a byte is why the byte is what it is
-//!   (`the_turn_that_was_found_is_why`).
-//! - A search back right behind one forwards finds the same turn, and so does one forwards behind
-//!   one back (`there_and_back`).
-//! - A note that is found is one that the run tells (`what_is_found_is_told`).
-//! - The task that is told with a change could make it (`who_changed_a_byte_could`).
+//! - The last turn that changed a byte gave the byte its present value
+//! (`the_turn_that_was_found_is_why`).
+//! - A search back right after a search forwards finds the same turn, and the other way round
+//! (`there_and_back`).
+//! - A note that is found is a note of the run (`what_is_found_is_told`).
+//! - The task that an answer names with a change could make it (`who_changed_a_byte_could`).
 
 ghost use Rattle.std.specs.Prelude.{ℕ, ◌≡◌, ◌<◌, ◌≤◌, true, Option, Some, None, Contains};
 ghost use Rattle.kernel_abi.specs.declared.Note.{Note};
@@ -22,8 +22,8 @@ ghost use Rattle.debug_core.specs.Changers.{CouldChange};
 ghost use Rattle.debug_core.specs.Searched.{byte_before, byte_left, found, told_at};
 ghost use Rattle.debug_core.specs.Session.{Session, after, ahead, behind, may_find};
 
-/// Where a search back finds a turn that changed a byte, the byte at the cursor is what that turn
-/// left, and no turn since changed it: so it was that turn.
+/// If a search back finds a turn that changed a byte, the byte at the cursor has the value that
+/// this turn gave it, and no later turn changed it.
 pub fn the_turn_that_was_found_is_why()
     ensures value { (x : Scenario) (s : Session) (n at t : ℕ) → Reaches x s.cursor →
         behind x s n (Change at) ≡ Some t → byte_before x at s.cursor ≡ byte_left x at t }
@@ -32,8 +32,8 @@ pub fn the_turn_that_was_found_is_why()
         change_of (byte_before x at u) (byte_left x at u) ≡ None }
 {}
 
-/// A search back right behind a search forwards that found a turn finds the same turn; and so does
-/// a search forwards right behind a search back, at a cursor that the run reaches.
+/// A search back right after a search forwards that found a turn finds the same turn. So does a
+/// search forwards right after a search back, at a cursor that the run reaches.
 pub fn there_and_back()
     ensures back { (x : Scenario) (s : Session) (n m t : ℕ) (what : Sought) →
         may_find x s what ≡ true → ahead x s n what ≡ Some t → 0 < m →
@@ -43,7 +43,7 @@ pub fn there_and_back()
         ahead x (after x s (BackFor n what)) m what ≡ Some t }
 {}
 
-/// A note that is found in a turn that the run reaches and makes is one that the run tells, with
+/// If the run reaches and makes a turn, a note that is found in the turn is a note of the run, with
 /// that turn.
 pub fn what_is_found_is_told()
     ensures line { (x : Scenario) (kind : NoteKind) (number : Option ℕ) (t : ℕ) (note : Note) →
@@ -51,10 +51,10 @@ pub fn what_is_found_is_told()
         Contains (notes_of_run x) (t, note) }
 {}
 
-/// The task that is told with a change of a byte ran in that turn, and could change the byte: it
-/// lies in one of its own regions, in the buffer of a task that listens and takes what it sends in
-/// this turn, or in the reply buffer or a writable lease of an open call that it serves. Each
-/// change is told with a task: where none runs, no byte changes.
+/// The task that an answer names with a change of a byte ran in that turn, and could change the
+/// byte. The byte lies in one of the task's own regions, in the buffer of a listening task that
+/// takes the task's message in this turn, or in the reply buffer or a writable lease of an open
+/// call that the task serves. Each change has such a task: if no task runs, no byte changes.
 pub fn who_changed_a_byte_could()
     ensures { (x : Scenario) (n at old new : ℕ) (task : Option ℕ) → Sane x.setup (start_of x) →
         found x (Change at) n ≡ Some (Changed n task at old new) → CouldChange x n at task }

@@ -1,4 +1,4 @@
-//! A debugger over time: commands to a run, forwards and back (docs/FORMATS.md, Commands).
+//! A time-travel debugger: commands that take a run forwards and back (docs/FORMATS.md, Commands).
 #![tactic(auto)]
 
 mod answer;

@@ -1,8 +1,8 @@
-//! What a line of commands says.
+//! Reads a line as a command.
 
 ghost use Rattle.std.specs.Prelude.{◌≡◌, ◌∷◌, []};
 ghost use Rattle.run_script.specs.Words.{words};
-ghost use Rattle.debug_core.specs.Lines.{address_in, device_in, form_said, is_search, kind_said, length_in, line_in, mem_said, named, number_in, numbered_said, said, search_of_kind, search_of_number, search_said, task_in, turns_in, two_said, words_said};
+ghost use Rattle.debug_core.specs.Lines.{address_in, alone, device_in, form_said, is_search, kind_said, length_in, line_in, mem_said, moved, named, number_in, numbered_said, said, search_of_kind, search_of_number, search_said, shown, task_in, turns_in, two_said, words_said};
 
 use crate::command::{Command, Sought};
 use run_script::{are_allowed, first_word, number_within, starts_by_hash};
@@ -68,7 +68,7 @@ fn length_in(word: &[u8]) -> Option<u8>
     }
 }
 
-/// `mem`, with the words behind it.
+/// `mem` with the two words after it.
 fn mem_said(at: &[u8], len: &[u8]) -> Result<Option<Command>, u8>
     ensures { result ≡ mem_said (address_in at.now) (length_in len.now) }
 {
@@ -77,44 +77,61 @@ fn mem_said(at: &[u8], len: &[u8]) -> Result<Option<Command>, u8>
     Ok(Some(Command::Mem { at, len }))
 }
 
-/// A command by its name, with the one word behind it.
+/// A command that shows a part of the state.
+fn shown(name: &[u8], word: &[u8]) -> Result<Option<Command>, u8>
+    ensures { result ≡ shown name.now word.now }
+{
+    if name == b"regs".as_slice() {
+        let task = task_in(word).ok_or(3)?;
+        Ok(Some(Command::Regs { task }))
+    } else if name == b"task".as_slice() {
+        let task = task_in(word).ok_or(3)?;
+        Ok(Some(Command::Task { task }))
+    } else if name == b"line".as_slice() {
+        let line = line_in(word).ok_or(3)?;
+        Ok(Some(Command::Irq { line }))
+    } else if name == b"device".as_slice() {
+        let device = device_in(word).ok_or(3)?;
+        Ok(Some(Command::Device { device }))
+    } else {
+        Err(2)
+    }
+}
+
+/// A command that moves the cursor, or else one that shows.
+fn moved(name: &[u8], word: &[u8]) -> Result<Option<Command>, u8>
+    ensures { result ≡ moved name.now word.now }
+{
+    if name == b"step".as_slice() {
+        let turns = turns_in(word).ok_or(3)?;
+        Ok(Some(Command::Step { turns }))
+    } else if name == b"back".as_slice() {
+        let turns = turns_in(word).ok_or(3)?;
+        Ok(Some(Command::Back { turns }))
+    } else if name == b"go".as_slice() {
+        let turns = turns_in(word).ok_or(3)?;
+        Ok(Some(Command::Go { turns }))
+    } else if name == b"at".as_slice() {
+        let turn = turns_in(word).ok_or(3)?;
+        Ok(Some(Command::At { turn }))
+    } else {
+        shown(name, word)
+    }
+}
+
+/// A command by its name and the one word after it.
 fn named(name: &[u8], word: &[u8]) -> Result<Option<Command>, u8>
     ensures { result ≡ named name.now word.now }
 {
-    let command = if name == b"break".as_slice() {
+    if name == b"break".as_slice() {
         let at = address_in(word).ok_or(3)?;
-        Command::Break { at }
+        Ok(Some(Command::Break { at }))
     } else if name == b"clear".as_slice() {
         let at = address_in(word).ok_or(3)?;
-        Command::Clear { at }
-    } else if name == b"step".as_slice() {
-        let turns = turns_in(word).ok_or(3)?;
-        Command::Step { turns }
-    } else if name == b"back".as_slice() {
-        let turns = turns_in(word).ok_or(3)?;
-        Command::Back { turns }
-    } else if name == b"go".as_slice() {
-        let turns = turns_in(word).ok_or(3)?;
-        Command::Go { turns }
-    } else if name == b"at".as_slice() {
-        let turn = turns_in(word).ok_or(3)?;
-        Command::At { turn }
-    } else if name == b"regs".as_slice() {
-        let task = task_in(word).ok_or(3)?;
-        Command::Regs { task }
-    } else if name == b"task".as_slice() {
-        let task = task_in(word).ok_or(3)?;
-        Command::Task { task }
-    } else if name == b"line".as_slice() {
-        let line = line_in(word).ok_or(3)?;
-        Command::Irq { line }
-    } else if name == b"device".as_slice() {
-        let device = device_in(word).ok_or(3)?;
-        Command::Device { device }
+        Ok(Some(Command::Clear { at }))
     } else {
-        return Err(2);
-    };
-    Ok(Some(command))
+        moved(name, word)
+    }
 }
 
 fn is_search(name: &[u8]) -> bool
@@ -123,7 +140,7 @@ fn is_search(name: &[u8]) -> bool
     name == b"go".as_slice() || name == b"back".as_slice()
 }
 
-/// A search by its name, `go` or else `back`.
+/// A search by its name: `go`, or otherwise `back`.
 fn search_said(
     name: &[u8],
     turns: Option<u32>,
@@ -166,7 +183,7 @@ fn numbered_said(
     search_said(name, turns, sought)
 }
 
-/// A name with two words behind it that are turns and a kind.
+/// A name followed by two words: turns and a kind.
 fn search_of_kind(name: &[u8], turns: &[u8], kind: &[u8]) -> Result<Option<Command>, u8>
     ensures { result ≡ search_of_kind name.now turns.now kind.now }
 {
@@ -177,7 +194,7 @@ fn search_of_kind(name: &[u8], turns: &[u8], kind: &[u8]) -> Result<Option<Comma
     }
 }
 
-/// A name with three words behind it: turns, a kind or `change`, and a number or an address.
+/// A name followed by three words: turns, a kind or `change`, and a number or an address.
 fn search_of_number(
     name: &[u8],
     turns: &[u8],
@@ -206,18 +223,22 @@ fn two_said(name: &[u8], one: &[u8], two: &[u8]) -> Result<Option<Command>, u8>
     }
 }
 
-/// A name with no word behind it.
+/// A name without a word after it.
 fn alone(name: &[u8]) -> Result<Option<Command>, u8>
-    ensures { result ≡ form_said name.now [] }
+    ensures { result ≡ alone name.now }
 {
     if name == b"notes".as_slice() {
         Ok(Some(Command::Notes))
+    } else if name == b"help".as_slice() {
+        Ok(Some(Command::Help))
+    } else if name == b"quit".as_slice() {
+        Ok(Some(Command::Quit))
     } else {
         Err(2)
     }
 }
 
-/// A name with two words and more behind it.
+/// A name followed by two words or more.
 fn two_or_more(name: &[u8], one: &[u8], two: &[u8], text: &[u8]) -> Result<Option<Command>, u8>
     ensures { result ≡ form_said name.now (one.now ∷ two.now ∷ words text.now) }
 {
@@ -232,8 +253,8 @@ fn two_or_more(name: &[u8], one: &[u8], two: &[u8], text: &[u8]) -> Result<Optio
     }
 }
 
-/// A name and the words behind it: none of `notes`, two of `mem`, two or three of a search, one of
-/// the others.
+/// A name and the words after it: `notes`, `help` and `quit` have none, `mem` two, a search two or
+/// three, every other command one.
 fn form_said(name: &[u8], text: &[u8]) -> Result<Option<Command>, u8>
     ensures { result ≡ form_said name.now (words text.now) }
 {
@@ -261,7 +282,7 @@ fn words_said(line: &[u8]) -> Result<Option<Command>, u8>
     }
 }
 
-/// What a line says: a command, or none, or the first of the causes 1 to 3.
+/// What a line says: a command, no command, or the first of the causes 1 to 3.
 #[tactic(auto, unfolding(crate::specs::Lines::said))]
 pub(crate) fn said(line: &[u8]) -> Result<Option<Command>, u8>
     ensures { result ≡ said line.now }

@@ -1,4 +1,4 @@
-//! Lines that come one by one, each carried out and answered as it is read (docs/FORMATS.md, Live).
+//! Carries out lines one by one and answers each as soon as it is read (docs/FORMATS.md, Live).
 
 ghost use Rattle.std.specs.Prelude.{◌≡◌, ◌≤◌, ℕ, List, [], ◌∷◌, ◌++◌, Some, Ok, OnOk, IsErrOf};
 ghost use Rattle.text_lines.specs.Text.{lines_of};
@@ -8,11 +8,11 @@ ghost use Rattle.board_core.specs.Data.{boxed};
 ghost use Rattle.outside_io.specs.Seen.{OnlyReads};
 ghost use Rattle.debug_core.specs.Answers.{refusal_line};
 ghost use Rattle.debug_core.specs.declared.live.LiveFault.TheVariants.{Unread, Failed as Broken};
-ghost use Rattle.debug_core.specs.Live.{BreaksTelling, BreaksUnread, TellsLive, after_line, line_told, live_said, live_text};
+ghost use Rattle.debug_core.specs.Live.{BreaksTelling, BreaksUnread, TellsLive, after_line, after_lines, line_told, live_said, live_text};
 ghost use Rattle.debug_core.specs.Reading.{AsksForFew};
 ghost use Rattle.debug_core.specs.Session.{Session};
 ghost use Rattle.debug_core.specs.Sessions.{IsSession};
-ghost use Rattle.debug_core.specs.UnderWay.{BreaksAmid, HasLived, HasTaken, IsAtLine, IsOneLine, IsTaking, IsUnderWay, TakesOn, after_lines, first_said};
+ghost use Rattle.debug_core.specs.UnderWay.{BreaksAmid, HasLived, HasTaken, IsAtLine, IsOneLine, IsTaking, IsUnderWay, TakesOn, first_said};
 
 use crate::command::Command;
 use crate::debugger::Debugger;
@@ -31,10 +31,10 @@ pub enum LiveFault {
     Failed,
 }
 
-/// A line has at most so many bytes.
+/// A line has at most this many bytes.
 const LONGEST_LINE: usize = 1024;
 
-/// A session takes at most so many.
+/// A session takes at most this many bytes.
 const MOST_BYTES: u64 = 4_294_967_295;
 
 /// What a line says, or the first of the causes 5 and 1 to 3.
@@ -49,8 +49,8 @@ fn live_said(line: &[u8]) -> Result<Option<Command>, u8>
     }
 }
 
-/// The bytes of a line that were read, with its CR and LF: all of them, or so many that it is too
-/// long whatever comes behind them.
+/// The bytes of a line that were read so far, with its CR and LF. If there are too many, only the
+/// first ones are kept: enough to show that the line is too long, whatever follows.
 #[derive(Drop)]
 struct LineUnderWay {
     front: ArrayVec<u8, 1026>,
@@ -65,7 +65,7 @@ impl LineUnderWay {
         }
     }
 
-    /// One byte more, which may be the LF that ends it.
+    /// Adds a byte, which may be the LF at the end of the line.
     fn push(&mut self, byte: u8)
         ensures { (bytes : List ℕ) → IsUnderWay self.old bytes →
             IsUnderWay self.new (bytes ++ byte ∷ []) }
@@ -75,7 +75,7 @@ impl LineUnderWay {
         }
     }
 
-    /// What it says; nothing where it has no byte.
+    /// What the line says, or nothing if it has no bytes.
     fn said(&self) -> Result<Option<Command>, u8>
         ensures said { (bytes : List ℕ) → IsUnderWay self.now bytes → IsOneLine bytes →
             result ≡ first_said (lines_of bytes) }
@@ -89,7 +89,7 @@ impl LineUnderWay {
     }
 }
 
-/// The answer to a line that is refused is pushed and passed on.
+/// Pushes the answer to a refused line and flushes the sink.
 fn refuse<S: Sink>(cause: u8, out: &mut S) -> Result<(), Failed>
     ensures told { Pushes (S.seen out.old).written (S.seen out.new).written (refusal_line cause)
         result }
@@ -100,7 +100,8 @@ fn refuse<S: Sink>(cause: u8, out: &mut S) -> Result<(), Failed>
 }
 
 impl Debugger {
-    /// What a line says is carried out, and its answer pushed and passed on.
+    /// Carries out what a line says, pushes the answer and flushes the sink. It does nothing if the
+    /// session is over.
     fn answer_line<S: Sink>(
         &mut self,
         said: Result<Option<Command>, u8>,
@@ -114,6 +115,9 @@ impl Debugger {
             IsSession (boxed shown) x self.new (after_line x s said) }
         ensures cause { HasCause (S.seen out.old).faults (S.seen out.new).faults result }
     {
+        if self.is_over {
+            return Ok(());
+        }
         match said {
             Err(cause) => refuse(cause, out),
             Ok(None) => Ok(()),
@@ -121,7 +125,7 @@ impl Debugger {
         }
     }
 
-    /// The line under way is answered, and the next one begins.
+    /// Answers the line under way and begins the next one.
     fn take_line<S: Sink>(
         &mut self,
         under_way: &mut LineUnderWay,
@@ -142,7 +146,7 @@ impl Debugger {
         self.answer_line(said, out)
     }
 
-    /// One byte of the text: an LF ends the line under way.
+    /// Takes one byte of the text. An LF ends the line under way.
     fn take_byte<S: Sink>(
         &mut self,
         byte: u8,
@@ -164,7 +168,7 @@ impl Debugger {
         }
     }
 
-    /// What one read gave: lines, and parts of lines.
+    /// Takes what one read gave: lines, and parts of lines.
     fn take_piece<S: Sink>(
         &mut self,
         piece: &[u8],
@@ -184,7 +188,8 @@ impl Debugger {
         Ok(())
     }
 
-    /// All reads of a file, one after the other. What stands behind the last LF is under way then.
+    /// Takes the reads of a file, one after the other, until the file ends or the session is over.
+    /// Afterwards the bytes after the last LF are under way.
     fn take_pieces<F: Files, S: Sink>(
         &mut self,
         files: &mut F,
@@ -217,6 +222,9 @@ impl Debugger {
         let mut buf = [0u8; 4096];
         let mut place = 0u64;
         'pieces: while place < MOST_BYTES {
+            if self.is_over {
+                return Ok(());
+            }
             let room = buf.len().min((MOST_BYTES - place) as usize);
             let Ok(count) = files.read(name, place, &mut buf[..room]) else {
                 return Err(LiveFault::Unread);
@@ -232,14 +240,15 @@ impl Debugger {
         Ok(())
     }
 
-    /// The lines of a file, one by one as they are read: each is carried out, and its answer passed
-    /// on, before more is read (docs/FORMATS.md, Live). A line that is refused is answered by its
-    /// cause and changes nothing. Up to 4,294,967,295 bytes are read. It takes no memory.
+    /// Carries out the lines of a file one by one as they are read. It pushes and flushes the
+    /// answer to each line before it reads more (docs/FORMATS.md, Live). After `quit` it reads no
+    /// more. The answer to a refused line is its cause, and such a line changes nothing. Up to
+    /// 4,294,967,295 bytes are read. It takes no memory.
     ///
     /// # Errors
     ///
-    /// `Unread` where a read failed, with each line answered that had ended by then, and `Failed`
-    /// where a push or a flush did. No further line is carried out.
+    /// `Unread` if a read fails; each line that had ended by then is answered. `Failed` if a push
+    /// or a flush fails. No further line is carried out.
     pub fn carry_out_live<F: Files, S: Sink>(
         &mut self,
         files: &mut F,

@@ -1,5 +1,5 @@
-//! A run that goes forwards and back: a board, and checkpoints of its run (not the timeline that a
-//! command writes).
+//! `Replay`: a run that goes forwards and back, as a board and checkpoints of its run. (This is not
+//! the timeline that a command writes.)
 
 ghost use Rattle.std.specs.Prelude.{ℕ, ◌≡◌, ◌≤◌, ◌<◌, ◌+◌, ◌-◌, length, IfOk, IsNone, Some, None};
 ghost use Rattle.std.specs.List.{All, HoldsAt};
@@ -19,12 +19,12 @@ use board_run::{Nobody, ending, play};
 use snapshot::{load_into, save_over, saved_len, saved_states_are_accepted};
 use std::alloc::{AllocError, Global};
 
-/// How many checkpoints there is room for, and how many turns apart they are.
+/// There is room for `ROOM` checkpoints. They are `APART` turns apart.
 const ROOM: usize = 64;
 
 const APART: u32 = 65_536;
 
-/// Where the next checkpoint is due, or turn `to` before that.
+/// The turn of the next checkpoint, or turn `to` if that comes first.
 pub(crate) fn stop_before(turn: u32, to: u32) -> u32
     requires below { turn < to }
     requires few { to ≤ 1000000000 }
@@ -34,7 +34,7 @@ pub(crate) fn stop_before(turn: u32, to: u32) -> u32
     ((turn / APART + 1) * APART).min(to)
 }
 
-/// A state of the run that was saved, by its turn, or room for one.
+/// A saved state of the run with its turn, or room for one.
 #[derive(Drop)]
 pub(crate) struct Checkpoint {
     pub(crate) turn: Option<u32>,
@@ -48,7 +48,7 @@ pub(crate) struct Replay {
     pub(crate) kept: Vec<Checkpoint>,
 }
 
-/// Room for checkpoints, each of so many bytes.
+/// Room for checkpoints of `len` bytes each.
 fn room_for(alloc: Global, len: usize) -> Result<Vec<Checkpoint>, AllocError>
     ensures count { IfOk result (λ v. length v.items ≡ 64) }
     ensures free { IfOk result (λ v. All IsFree v.items) }
@@ -62,9 +62,10 @@ fn room_for(alloc: Global, len: usize) -> Result<Vec<Checkpoint>, AllocError>
     Ok(kept)
 }
 
-/// The place of the checkpoint of a turn, which its turn alone tells. A multiple of `APART` is of a
-/// group by how often it is even, and of each group the last four are kept: so a turn so far back
-/// has a checkpoint about as far before it, at most. The first place is that of the start.
+/// The place of the checkpoint of a turn. Only the turn decides it. The multiples of `APART` are in
+/// groups by how often two divides `turn / APART`, and the last four of each group are kept. So a
+/// turn that is n turns back has a checkpoint at most about n turns before it. The first place is
+/// for the start.
 fn place_of(turn: u32) -> usize
     ensures behind { 0 < result }
     ensures inside { result < 64 }
@@ -78,7 +79,7 @@ fn place_of(turn: u32) -> usize
     1 + 4 * group + (rest / 2 % 4) as usize
 }
 
-/// The state of a board becomes a checkpoint's.
+/// Saves the state of a board in a checkpoint.
 fn save(board: &Board, checkpoint: &mut Checkpoint)
     requires room { (x : Scenario) × (s : State) × Stands (boxed shown) x board.now s
         × (length checkpoint.old.bytes.items ≡ length (spelling (reduced s))) }
@@ -90,8 +91,8 @@ fn save(board: &Board, checkpoint: &mut Checkpoint)
     save_over(board, &mut checkpoint.bytes);
 }
 
-/// Of two checkpoints by their places and turns the later one, where the second is of turn `to` or
-/// before.
+/// The later one of two checkpoints, as its place and its turn. The second one counts only if it is
+/// of turn `to` or earlier.
 fn later(best: (usize, u32), place: usize, turn: Option<u32>, to: u32) -> (usize, u32)
     ensures { result ≡ later_of to best place turn }
 {
@@ -102,12 +103,11 @@ fn later(best: (usize, u32), place: usize, turn: Option<u32>, to: u32) -> (usize
 }
 
 impl Replay {
-    /// At the start of a run, with a board that stands there. It takes all the memory that is
-    /// taken.
+    /// Opens a replay at the start of a run, with a board that is there. All memory is taken here.
     ///
     /// # Errors
     ///
-    /// Only want of memory. The board is dropped then.
+    /// Only if memory runs out. The board is dropped then.
     pub(crate) fn open(alloc: Global, board: Board) -> Result<Replay, AllocError>
         requires { (x : Scenario) × Stands (boxed shown) x board (start_of x) }
         ensures { (x : Scenario) → Stands (boxed shown) x board (start_of x) →
@@ -118,7 +118,7 @@ impl Replay {
         Ok(Replay { board, kept })
     }
 
-    /// Whether a run that makes turns below `limit` ends here, and why.
+    /// Why a run that makes turns below `limit` ends here, if it does.
     pub(crate) fn ending(&self, limit: u32) -> Option<End>
         requires { (x : Scenario) × (turn : ℕ) × IsAt (boxed shown) x self.now turn
             × (turn ≤ limit) }
@@ -131,8 +131,8 @@ impl Replay {
         ending(&self.board, limit)
     }
 
-    /// The state here is kept at a place behind the first, where it has room. A state of the run is
-    /// as long at each turn, so it has.
+    /// Saves the state here at a place after the first one, if it fits there. It does fit: the
+    /// states of a run all have the same length.
     fn keep_at(&mut self, place: usize)
         requires at { (x : Scenario) × (turn : ℕ) × IsAt (boxed shown) x self.old turn }
         requires behind { 0 < place }
@@ -146,7 +146,7 @@ impl Replay {
         }
     }
 
-    /// A checkpoint is made where one is due.
+    /// Makes a checkpoint if one is due.
     pub(crate) fn keep(&mut self)
         requires { (x : Scenario) × (turn : ℕ) × IsAt (boxed shown) x self.old turn }
         ensures at { (x : Scenario) (turn : ℕ) → IsAt (boxed shown) x self.old turn →
@@ -159,7 +159,7 @@ impl Replay {
         }
     }
 
-    /// On to a turn, or to the end of the run before it, without a checkpoint.
+    /// Goes on to a turn, or to the end of the run before it, without making a checkpoint.
     pub(crate) fn run_to(&mut self, to: u32)
         requires from { (x : Scenario) × (turn : ℕ) × IsAt (boxed shown) x self.old turn
             × (turn ≤ to) }
@@ -174,7 +174,7 @@ impl Replay {
         }
     }
 
-    /// On to a turn, or to the end of the run before it.
+    /// Goes on to a turn, or to the end of the run before it.
     pub(crate) fn go_to(&mut self, to: u32)
         requires from { (x : Scenario) × (turn : ℕ) × IsAt (boxed shown) x self.old turn
             × (turn ≤ to) }
@@ -189,8 +189,8 @@ impl Replay {
         }
     }
 
-    /// Some turns on, none of them from turn `stop` on: where the last of them ran a task at a
-    /// breakpoint, that task and its PC. No turn before it did.
+    /// Goes on by some turns before turn `stop`. If the last of them ran a task at a breakpoint,
+    /// returns that task and its PC. No turn before it ran one.
     fn advance_past(&mut self, breakpoints: &[u32], stop: u32) -> Option<(u16, u32)>
         requires from { (x : Scenario) × (turn : ℕ) × IsAt (boxed shown) x self.old turn
             × (ending x 1 (state_at x turn) ≡ None) }
@@ -207,8 +207,8 @@ impl Replay {
         hit
     }
 
-    /// On to a turn, or to the end of the run before it, but no further than behind the first turn
-    /// that runs a task at a breakpoint: that task and its PC.
+    /// Goes on to a turn, or to the end of the run before it, but stops right after the first turn
+    /// that runs a task at a breakpoint. Then it returns that task and its PC.
     pub(crate) fn go_to_hit(&mut self, breakpoints: &[u32], to: u32) -> Option<(u16, u32)>
         requires from { (x : Scenario) × (turn : ℕ) × IsAt (boxed shown) x self.old turn
             × (turn ≤ to) }
@@ -225,7 +225,7 @@ impl Replay {
         None
     }
 
-    /// The place of the last checkpoint of turn `to` or before, and its turn.
+    /// The place and the turn of the last checkpoint of turn `to` or earlier.
     pub(crate) fn last_until(&self, to: u32) -> (usize, u32)
         requires first { HoldsAt (λ c. c.turn ≡ Some 0) self.now.kept.items 0 }
         requires some { 0 < length self.now.kept.items }
@@ -242,7 +242,7 @@ impl Replay {
         best
     }
 
-    /// To the turn of a checkpoint.
+    /// Goes to the turn of a checkpoint.
     pub(crate) fn load(&mut self, place: usize)
         requires inside { place < length self.old.kept.items }
         requires saved { (x : Scenario) × (turn : ℕ) × IsAt (boxed shown) x self.old turn
@@ -255,7 +255,7 @@ impl Replay {
         load_into(&mut self.board, self.kept[place].bytes.as_slice());
     }
 
-    /// Back to a turn, from the last checkpoint there or before.
+    /// Goes back to a turn, from the last checkpoint at that turn or before it.
     pub(crate) fn back_to(&mut self, to: u32)
         requires { (x : Scenario) × (turn : ℕ) × IsAt (boxed shown) x self.old turn × (to ≤ turn) }
         ensures { (x : Scenario) (turn : ℕ) → IsAt (boxed shown) x self.old turn → to ≤ turn →

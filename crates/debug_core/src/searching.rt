@@ -1,5 +1,5 @@
-//! A run is searched, forwards and back, for a turn of which such a note is told, or one that
-//! changes a byte.
+//! Searches a run, forwards and back, for a turn with a certain note or a turn that changes a
+//! certain byte.
 
 ghost use Rattle.std.specs.Prelude.{ℕ, ◌≡◌, ◌≤◌, ◌<◌, ◌+◌, None, find};
 ghost use Rattle.board_model.specs.declared.outcomes.Level.TheVariants.{All};
@@ -21,7 +21,7 @@ use board_core::Level;
 use kernel_abi::Note;
 use trace_text::{NoteKind, is_sought};
 
-/// The first of some notes that is sought.
+/// The first of some notes that matches the search.
 fn first_sought(kind: NoteKind, number: Option<u32>, notes: &[Note]) -> Option<Note>
     ensures { result ≡ find (is_sought kind number) notes.now }
 {
@@ -32,7 +32,7 @@ fn first_sought(kind: NoteKind, number: Option<u32>, notes: &[Note]) -> Option<N
 }
 
 impl Replay {
-    /// There can be such a turn.
+    /// Whether a turn as the search wants it can exist.
     pub(crate) fn can_find(&self, sought: &Sought) -> bool
         ensures { (x : Scenario) (turn : ℕ) → IsAt (boxed shown) x self.now turn →
             result ≡ can_be sought.now (state_at x turn).memory }
@@ -43,7 +43,7 @@ impl Replay {
         }
     }
 
-    /// One whole turn, of which each instruction is noted too.
+    /// Makes one whole turn. Its notes include the instruction.
     pub(crate) fn make_turn(&mut self)
         requires { (x : Scenario) × (n : ℕ) × IsAt (boxed shown) x self.old n
             × (ending x 1 (state_at x n) ≡ None) × (n < 1000000000) }
@@ -56,8 +56,8 @@ impl Replay {
         self.board.turn_at(Level::All);
     }
 
-    /// Some turns on, none of them from turn `stop` on: the first note that is sought of the last
-    /// of them. No turn before told one.
+    /// Goes on by some turns before turn `stop`, and returns the first matching note of the last of
+    /// them. No turn before it has a matching note.
     fn advance_to_note(&mut self, kind: NoteKind, number: Option<u32>, stop: u32) -> Option<Answer>
         requires from { (x : Scenario) × (turn : ℕ) × IsAt (boxed shown) x self.old turn
             × (ending x 1 (state_at x turn) ≡ None) }
@@ -75,8 +75,8 @@ impl Replay {
         Some(Answer::Told { turn, note })
     }
 
-    /// Some turns on, none of them from turn `stop` on: what the last of them changed of the byte
-    /// at an address. No turn before changed it.
+    /// Goes on by some turns before turn `stop`, and returns how the last of them changed the byte
+    /// at an address. No turn before it changed the byte.
     fn advance_past_change(&mut self, at: u32, stop: u32) -> Option<Answer>
         requires from { (x : Scenario) × (turn : ℕ) × IsAt (boxed shown) x self.old turn
             × (ending x 1 (state_at x turn) ≡ None) }
@@ -98,8 +98,8 @@ impl Replay {
         })
     }
 
-    /// Some turns on, none of them from turn `stop` on: what is found in the last of them. In no
-    /// turn before it was found.
+    /// Goes on by some turns before turn `stop`, and returns what is found in the last of them.
+    /// Nothing is found in a turn before it.
     fn advance_for(&mut self, sought: &Sought, stop: u32) -> Option<Answer>
         requires from { (x : Scenario) × (turn : ℕ) × IsAt (boxed shown) x self.old turn
             × (ending x 1 (state_at x turn) ≡ None) }
@@ -117,8 +117,8 @@ impl Replay {
         }
     }
 
-    /// On to a turn, or to the end of the run before it, but no further than behind the first turn
-    /// in which it is found: what is.
+    /// Goes on to a turn, or to the end of the run before it, but stops right after the first turn
+    /// in which something is found. Then it returns what is found.
     pub(crate) fn go_for(&mut self, sought: &Sought, to: u32) -> Option<Answer>
         requires from { (x : Scenario) × (turn : ℕ) × IsAt (boxed shown) x self.old turn
             × (turn ≤ to) }
@@ -137,8 +137,9 @@ impl Replay {
         None
     }
 
-    /// The last turn below `to`, from here on, in which it is found, and what is. Nothing is kept
-    /// on the way: it would take the place of what the way further back goes on from.
+    /// The last turn before turn `to`, from here on, in which something is found, and what is
+    /// found. It makes no checkpoints on the way: they would replace earlier ones from which the
+    /// search goes on further back.
     fn last_found(&mut self, sought: &Sought, to: u32) -> Option<(u32, Answer)>
         requires from { (x : Scenario) × (turn : ℕ) × IsAt (boxed shown) x self.old turn
             × (turn ≤ to) × ((state_at x to).turn ≡ to) }
@@ -158,8 +159,8 @@ impl Replay {
         last
     }
 
-    /// Back to the last checkpoint before a turn, or to turn `low` where that is later: the turn
-    /// there.
+    /// Goes back to the last checkpoint before a turn, or to turn `low` if that is later, and
+    /// returns the turn there.
     fn back_before(&mut self, low: u32, to: u32) -> u32
         requires from { (x : Scenario) × (turn : ℕ) × IsAt (boxed shown) x self.old turn
             × (to ≤ turn) }
@@ -176,9 +177,10 @@ impl Replay {
         from
     }
 
-    /// Back to turn `low`, but no further than before the last turn before this one in which it is
-    /// found: what is. From checkpoint to checkpoint, the last first, so each turn is made once at
-    /// most, and then those from the last checkpoint to the one that was found.
+    /// Goes back to turn `low`, but stops right before the last earlier turn in which something is
+    /// found, and returns what is found. It searches from checkpoint to checkpoint, the last one
+    /// first. So it makes each turn at most once, and then once more the turns from a checkpoint to
+    /// the turn that was found.
     pub(crate) fn back_for(&mut self, sought: &Sought, low: u32) -> Option<Answer>
         requires { (x : Scenario) × (turn : ℕ) × IsAt (boxed shown) x self.old turn × (low ≤ turn) }
         ensures { (x : Scenario) (turn : ℕ) → IsAt (boxed shown) x self.old turn → low ≤ turn →

@@ -1,4 +1,4 @@
-//! The text of an answer, a push a line.
+//! Pushes the text of an answer, one push for each line.
 
 ghost use Rattle.std.specs.Prelude.{◌≡◌, ◌≤◌, ◌+◌, ◌*◌, ◌++◌, ◌∷◌, [], decimal, length};
 ghost use Rattle.std.specs.List.{flat_map};
@@ -6,7 +6,7 @@ ghost use Rattle.arrayvec.specs.ArrayString.{array_string_len};
 ghost use Rattle.outside_io.specs.Outside.{Pushes, HasCause};
 ghost use Rattle.trace_text.specs.Text.{bit as bit_digit, byte_hex, line_of};
 ghost use Rattle.board_run.specs.Text.{low_text, high_text};
-ghost use Rattle.debug_core.specs.Answers.{address_line, at_line, bytes_line, change_line, device_line, end_word, hit_line, irq_line, kind_words, refusal_line, text_of};
+ghost use Rattle.debug_core.specs.Answers.{address_line, at_line, bytes_line, change_line, device_line, end_word, help_line, hit_line, irq_line, kind_words, refusal_line, text_of};
 
 use crate::answer::Answer;
 use arrayvec::ArrayString;
@@ -90,7 +90,7 @@ fn bytes_line(at: u32, bytes: &[u8], line: &mut Line)
     line.push_str("\n");
 }
 
-/// The registers and flags of a task, in two lines.
+/// Pushes the registers and flags of a task, in two lines.
 fn push_registers<S: Sink>(words: &[u32; 16], flags: Flags, out: &mut S) -> Result<(), Failed>
     ensures bytes { Pushes (S.seen out.old).written (S.seen out.new).written
         (low_text words.now ++ high_text words.now flags) result }
@@ -100,7 +100,7 @@ fn push_registers<S: Sink>(words: &[u32; 16], flags: Flags, out: &mut S) -> Resu
     push_high(words, flags, out)
 }
 
-/// A note of a turn, in its line.
+/// Pushes the line of a note of a turn.
 fn push_note<S: Sink>(turn: u32, note: &Note, out: &mut S) -> Result<(), Failed>
     ensures bytes { Pushes (S.seen out.old).written (S.seen out.new).written (line_of turn note.now)
         result }
@@ -130,7 +130,7 @@ fn change_line(turn: u32, task: Option<u16>, at: u32, old: u8, new: u8, line: &m
     line.push_str("\n");
 }
 
-/// A 0 or a 1 behind a blank.
+/// Adds a blank and a 0 or a 1.
 fn push_bit(line: &mut Line, bit: bool)
     requires { array_string_len line.old + 2 ≤ 160 }
     ensures bytes { line.new.bytes ≡ line.old.bytes ++ 32 ∷ bit_digit bit ∷ [] }
@@ -139,7 +139,8 @@ fn push_bit(line: &mut Line, bit: bool)
     line.push_str(if bit { " 1" } else { " 0" });
 }
 
-/// The two bits are whether it is enabled, and whether it is pending.
+/// The line of an interrupt line. The two bits of `state` say whether it is enabled and whether it
+/// is pending.
 #[tactic(auto, unfolding(crate::specs::Answers::irq_line))]
 fn irq_line(number: u8, owner: u16, bits: u32, state: (bool, bool), line: &mut Line)
     requires { line.old.bytes ≡ [] }
@@ -155,7 +156,7 @@ fn irq_line(number: u8, owner: u16, bits: u32, state: (bool, bool), line: &mut L
     line.push_str("\n");
 }
 
-/// A number of at most three digits.
+/// Adds a number of at most three digits.
 fn push_small(n: u8, line: &mut Line)
     requires { array_string_len line.old + 20 ≤ 160 }
     ensures bytes { line.new.bytes ≡ line.old.bytes ++ decimal n }
@@ -164,7 +165,7 @@ fn push_small(n: u8, line: &mut Line)
     push_decimal(line, u64::from(n));
 }
 
-/// What a port has, or how much a console was given.
+/// Adds what waits in a port, or how many bytes a console was given.
 fn push_kind(kind: Kind, count: u32, queue: &[u8], line: &mut Line)
     requires few { length queue.now ≤ 64 }
     requires room { array_string_len line.old + 139 ≤ 160 }
@@ -201,8 +202,18 @@ fn device_line(device: u8, kind: Kind, base: u32, count: u32, queue: &[u8], line
     line.push_str("\n");
 }
 
-/// The text of an answer: one line, or two of registers, a push each. After a failing push nothing
-/// more is pushed.
+/// Pushes the forms of the commands.
+fn push_help<S: Sink>(out: &mut S) -> Result<(), Failed>
+    ensures bytes { Pushes (S.seen out.old).written (S.seen out.new).written help_line result }
+    ensures cause { HasCause (S.seen out.old).faults (S.seen out.new).faults result }
+{
+    out.push(
+        "commands: break H, clear H, step N, back N, go N, go N KIND [M], back N KIND [M], go N change H, back N change H, at N, notes, help, quit, regs T, task T, line L, device D, mem H L\n".as_bytes(),
+    )
+}
+
+/// Pushes the text of an answer, one push for each line: one line, two lines for registers, or none
+/// where the session is over. After a failing push nothing more is pushed.
 pub(crate) fn push_answer<S: Sink>(answer: &Answer, out: &mut S) -> Result<(), Failed>
     ensures bytes { Pushes (S.seen out.old).written (S.seen out.new).written (text_of answer.now)
         result }
@@ -241,11 +252,13 @@ pub(crate) fn push_answer<S: Sink>(answer: &Answer, out: &mut S) -> Result<(), F
             queue,
         } => device_line(*device, *kind, *base, *count, queue.as_slice(), &mut line),
         Answer::Bytes { at, bytes } => bytes_line(*at, bytes.as_slice(), &mut line),
+        Answer::Help => return push_help(out),
+        Answer::Over => return Ok(()),
     }
     out.push(line.as_str().as_bytes())
 }
 
-/// The answer to a line that is refused.
+/// Pushes the answer to a refused line.
 pub(crate) fn push_refused<S: Sink>(cause: u8, out: &mut S) -> Result<(), Failed>
     ensures bytes { Pushes (S.seen out.old).written (S.seen out.new).written (refusal_line cause)
         result }

@@ -1,4 +1,4 @@
--- Devices as they may be handed in.
+-- New devices, to which nothing has come yet.
 use Rattle.std.proofs.Common.{◌≡◌, ◌≢◌, ℕ, zero, suc, ◌<◌, List, [], ◌∷◌, length, sym, subst, arith}
 use Rattle.std.specs.Prelude.{Contains}
 use Rattle.kernel_abi.specs.Devices.{DeviceData, IsFresh, AreFresh, device_at}

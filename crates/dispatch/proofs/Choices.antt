@@ -1,4 +1,4 @@
--- The first task of the lowest priority number, as a state tells of it.
+-- The first task with the lowest priority number, in a state.
 use Rattle.std.proofs.Common.{◌≡◌, ◌+◌, ◌-◌, ◌<◌, ◌≤◌, inl, inr, ℕ, zero, suc, Bool, false, cond, not, ◌&&◌, ◌||◌, List, [], ◌∷◌, length, get_or, Option, Some, None, IfSome, refl, sym, ◌∙◌, ap, arith, leb}
 use Rattle.std.proofs.lemmas.Bool.{cases_Bool}
 use Rattle.std.specs.Prelude.{find}
@@ -14,14 +14,14 @@ abbrev or_else : {X : Type 0} → Option X → Option X → Option X
 or_else None b = b
 or_else (Some x) b = Some x
 
--- two tests that agree on a range find the same there
+-- two tests that agree on a range find the same item in it
 find_same : (p q : ℕ → Bool) (from n : ℕ) → ((i : ℕ) → from ≤ i → i < from + n → p i ≡ q i) → find p (range_with_len from n) ≡ find q (range_with_len from n)
 find_same p q from zero h = refl
 find_same p q from (suc n) h =
     let here : p from ≡ q from = h from (omega arith) (omega arith) in
     rw here (ap (cond (q from) (Some from)) (find_same p q (from + 1) n (λ i a b. h i (omega arith) (omega arith))))
 
--- two tests that agree below n find the same around
+-- two tests that agree below n find the same item in cyclic order
 around_same : (p q : ℕ → Bool) (n from : ℕ) → from ≤ n → ((i : ℕ) → i < n → p i ≡ q i) → find p (around n from) ≡ find q (around n from)
 around_same p q n from inside h =
     find_append p (range_with_len from (n - from)) (range_with_len 0 from)
@@ -29,7 +29,7 @@ around_same p q n from inside h =
     ∙ ap (or_else (find q (range_with_len from (n - from)))) (find_same p q 0 from (λ i a b. h i (omega (arith, b, inside))))
     ∙ sym (find_append q (range_with_len from (n - from)) (range_with_len 0 from))
 
--- what is found in a range is in it
+-- an item that is found in a range is in it
 found_below : (p : ℕ → Bool) (from n m : ℕ) → from + n ≤ m → IfSome (find p (range_with_len from n)) (λ i. i < m)
 found_below p from zero m fits = tt
 found_below p from (suc n) m fits = elim (cases_Bool (p from)) [
@@ -52,9 +52,9 @@ all_same p q from (suc n) h =
     let here : p from ≡ q from = h from (omega arith) (omega arith) in
     rw here (ap (λ (b : Bool). q from && b) (all_same p q (from + 1) n (λ i a b. h i (omega arith) (omega arith))))
 
--- ## the lowest ones
+-- ## the tasks with the lowest priority number
 
--- a task that is not there
+-- a task that does not exist
 abbrev no_setup : TaskSetup
 no_setup = record { priority = 0; entry = 0; stack = 0; regions = []; start = false }
 
@@ -63,7 +63,7 @@ priority_is [] i = refl
 priority_is (x ∷ xs) zero = refl
 priority_is (x ∷ xs) (suc i) = priority_is xs i
 
--- of n tasks it is one of the lowest, by the setup
+-- whether a task is one of those with the lowest priority number, of n tasks, by the setup
 abbrev is_first : Setup → (ℕ → Bool) → ℕ → ℕ → Bool
 is_first g test n i = test i && list_all (λ j. not (test j) || leb (priority g i) (priority g j)) (range_with_len 0 n)
 

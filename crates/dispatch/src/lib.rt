@@ -1,6 +1,6 @@
 #![tactic(auto)]
-//! Which task runs, and whose message is received: strict priority (Hubris Reference, Scheduling),
-//! and of equals the next in order (this project's profile).
+//! Which task runs, and whose message is received: by strict priority (Hubris Reference,
+//! Scheduling), and among tasks of equal priority the next one in order (this project's profile).
 
 ghost use Rattle.std.specs.Prelude.{◌≡◌, ◌<◌, IfSome};
 ghost use Rattle.task_table.specs.model.State.{Setup, Turn};
@@ -9,17 +9,17 @@ ghost use Rattle.task_table.specs.kept.Holds.{Holds, Stands, StandsForSome, task
 
 use task_table::{Kernel, first_around};
 
-/// The task that runs next, or None where none is ready: of the ready tasks of the lowest priority
-/// number the current one, else the first after it, cyclically.
+/// The task that runs next, or None if none is ready. Among the ready tasks with the lowest
+/// priority number it is the current one, or else the first one after it, cyclically.
 pub fn choose(k: &Kernel) -> Option<usize>
     ensures { (g : Setup) (t : Turn) → Holds g k.now t → result ≡ chosen g t.state }
 {
     first_around(k.order(), k.ready(), k.current())
 }
 
-/// The task whose message the receiver takes where it hears any, or None where none offers it a
-/// call: of those that do and have the lowest priority number (Hubris Reference, on RECV) the first
-/// after the receiver, cyclically (this project's profile).
+/// The task whose message the receiver takes if it accepts any, or None if no task offers a call to
+/// it. Among the tasks that do and have the lowest priority number (Hubris Reference, on RECV), it
+/// is the first one after the receiver, cyclically (this project's profile).
 pub fn best_sender(k: &Kernel, receiver: usize) -> Option<usize>
     requires stood { StandsForSome k.now }
     requires there { receiver < task_count k.now }

@@ -1,5 +1,5 @@
-//! Runs a loop of ten instructions, decoded and executed again each time, for so many steps as the
-//! first argument tells, and prints what the registers hold then.
+//! Runs a loop of ten instructions for the number of steps in its argument, and prints how many
+//! steps it made and a checksum of the registers. Each step decodes its instruction again.
 #![tactic(auto)]
 
 mod words;
@@ -13,7 +13,7 @@ use thumb_exec::lazy_flags::LazyFlags;
 use thumb_step::step;
 use words_core::{Flags, PROGRAM_COUNTER, Regs, STACK_POINTER};
 
-/// One instruction; false where it does not go on.
+/// Executes one instruction. Returns false if the program does not go on after it.
 fn goes_on(cpu: &mut Cpu, bus: &mut Words) -> bool {
     if cpu.regs.get(PROGRAM_COUNTER) % 2 != 0 {
         return false;
@@ -21,7 +21,7 @@ fn goes_on(cpu: &mut Cpu, bus: &mut Words) -> bool {
     step(cpu, bus) == Outcome::Next
 }
 
-/// A sum of the registers that tells whether each step was done.
+/// A checksum of the registers, which shows whether every step was made.
 fn checksum(regs: &Regs) -> u32 {
     let mut sum = 0_u32;
     for i in 0..16_usize {

@@ -1,4 +1,4 @@
--- While those that wait are answered, whom tasks wait for stays among the few.
+-- While the waiting tasks are answered, the tasks that others wait for keep indices of ten bits.
 use Rattle.std.proofs.Common.{◌≡◌, ◌+◌, ◌%◌, ℕ, zero, suc, Bool, true, false, cond, not, List, [], ◌∷◌, ◌∙◌, ap, arith, eqb}
 use Rattle.std.specs.Prelude.{fold}
 use Rattle.std.specs.List.{range_with_len}
@@ -74,7 +74,7 @@ pub few-all_answered : (i : ℕ) (js : List ℕ) (t : Turn) → AreFew t.state �
 few-all_answered i [] t few = few
 few-all_answered i (j ∷ js) t few = few-all_answered i js (dead_answered i t j) (few-answered i t j few)
 
--- one more place at the end of a range
+-- one more index at the end of a range
 fold_range_suc : {B : Type 0} (f : B → ℕ → B) (b : B) (a n : ℕ) → fold f b (range_with_len a (suc n)) ≡ f (fold f b (range_with_len a n)) (a + n)
 fold_range_suc f b a zero = let e : a ≡ a + 0 = omega arith in ap (f b) e
 fold_range_suc f b a (suc n) = let e : a + 1 + n ≡ a + suc n = omega arith in fold_range_suc f (f b a) (a + 1) n ∙ ap (f (fold f (f b a) (range_with_len (a + 1) n))) e

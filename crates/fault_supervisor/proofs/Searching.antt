@@ -1,4 +1,4 @@
--- The first that passes among numbers in a row.
+-- The first number that passes a test among consecutive numbers.
 use Rattle.std.proofs.Common.{◌≡◌, ◌+◌, ◌<◌, ℕ, zero, suc, Bool, true, false, cond, Some, None, refl, sym, ◌∙◌, ap, arith}
 use Rattle.std.specs.Prelude.{find}
 use Rattle.std.specs.List.{range_with_len}
@@ -6,7 +6,7 @@ use Rattle.std.specs.List.{range_with_len}
 some_none : {x : ℕ} → Some x ≡ None → ⊥
 some_none e = cc
 
--- after so many that do not pass: the next one does; or it does not either
+-- after some numbers that do not pass: the next one passes, or does not pass either
 pub found_next : (p : ℕ → Bool) (i k n : ℕ) → find p (range_with_len i k) ≡ None → p (i + k) ≡ true → k < n → find p (range_with_len i n) ≡ Some (i + k)
 found_next p i zero zero none here below = absurd (omega arith)
 found_next p i zero (suc n) none here below =

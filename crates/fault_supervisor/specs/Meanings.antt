@@ -1,4 +1,4 @@
--- The kernel messages as the code names them.
+-- The kernel messages, by the names that the code has for them.
 use Rattle.std.specs.Prelude.{ℕ, List, [], ◌∷◌, true, false, ◌||◌, not, is_some}
 use Rattle.kernel_abi.specs.Faults.{usage_number, access_number}
 use Rattle.kernel_abi.specs.declared.Access.TheVariants.{KernelRead, KernelWrite}
@@ -16,20 +16,20 @@ use Rattle.task_table.specs.model.Requests.{Request as Meaning, request_of, serv
 use Rattle.fault_supervisor.specs.declared.message.Request.{Request}
 use Rattle.fault_supervisor.specs.declared.message.Request.TheVariants.{Status, Restart, Fault, Find}
 
--- what each is
+-- the meaning of each request
 abbrev pub meaning : Request → Meaning
 meaning Status = record { number = 1; message = 4; reply = 16; on_supervisor = true; does = λ g x index t. status_given x index t }
 meaning Restart = record { number = 2; message = 8; reply = 0; on_supervisor = false; does = restart_made }
 meaning Fault = record { number = 3; message = 4; reply = 0; on_supervisor = false; does = λ g x index t. injected g index t }
 meaning Find = record { number = 9; message = 4; reply = 4; on_supervisor = true; does = λ g x index t. fault_found x index t }
 
--- how a task is, in words
+-- the status of a task, in words
 abbrev pub status_words : Health → List ℕ
 status_words Well = 0 ∷ 0 ∷ 0 ∷ 0 ∷ []
 status_words Stopped = 1 ∷ 0 ∷ 0 ∷ 0 ∷ []
 status_words (Faulted f) = 2 ∷ f.number ∷ f.x ∷ f.y ∷ []
 
--- what is done with a request of the supervisor, by its arguments
+-- what a request of the supervisor does, by its arguments
 abbrev pub heard : Setup → ℕ → SendArgs → Turn → Turn
 heard g c x t =
     first_row (

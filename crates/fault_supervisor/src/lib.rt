@@ -1,6 +1,6 @@
 #![tactic(auto)]
-//! The supervisor's means: a task is restarted or made to fault, and the kernel messages by which
-//! task 0 asks for it (Hubris Reference, on supervision; the messages are this project's profile,
+//! What the supervisor can do: restart a task or make it fault; and the kernel messages by which
+//! task 0 requests this (Hubris Reference, on supervision; the messages are this project's profile,
 //! docs/FORMATS.md).
 
 mod message;

@@ -21,13 +21,13 @@ use task_table::{Kernel, Slice};
 /// What a kernel message asks for.
 #[derive(Clone, Copy)]
 enum Request {
-    /// How a task is.
+    /// The status of a task.
     Status,
-    /// A task is restarted.
+    /// The restart of a task.
     Restart,
-    /// A task is made to fault.
+    /// A fault of a task.
     Fault,
-    /// Which task has faulted.
+    /// The search for a task that has faulted.
     Find,
 }
 
@@ -45,7 +45,7 @@ impl Request {
         }
     }
 
-    /// How many bytes its message has.
+    /// How many bytes the message has.
     fn message_length(self) -> u32
         ensures { result ≡ (meaning self).message }
     {
@@ -57,7 +57,7 @@ impl Request {
         }
     }
 
-    /// How many bytes its answer has.
+    /// How many bytes the answer has.
     fn reply_length(self) -> u32
         ensures { result ≡ (meaning self).reply }
     {
@@ -69,7 +69,7 @@ impl Request {
         }
     }
 
-    /// Whether it may be about the supervisor itself.
+    /// Whether the request may be about the supervisor itself.
     fn is_on_supervisor(self) -> bool
         ensures { result ≡ (meaning self).on_supervisor }
     {
@@ -82,7 +82,8 @@ impl Request {
     }
 }
 
-/// How a task is, in four words: 0 well, 1 stopped, 2 faulted; and of a fault its number, x and y.
+/// The status of a task in four words: 0 well, 1 stopped, 2 faulted; then for a fault its number, x
+/// and y.
 fn words_of(health: Health) -> [u32; 4]
     ensures { result ≡ status_words health }
 {
@@ -100,7 +101,7 @@ fn word_bytes(word: u32) -> [u8; 4]
     word.to_le_bytes()
 }
 
-/// How a task is, in sixteen bytes.
+/// The status of a task, in sixteen bytes.
 fn status_of(health: Health) -> [u8; 16]
     ensures { result ≡ status_bytes health }
 {
@@ -112,7 +113,7 @@ fn status_of(health: Health) -> [u8; 16]
     [a, b, c, d, e, f, g, h, i, j, k, l, m, n, o, p]
 }
 
-/// A task is made to fault; one that has faulted stays as it is (Hubris Reference, on supervision).
+/// Makes a task fault; a task that has faulted does not change (Hubris Reference, on supervision).
 pub fn inject(k: &mut Kernel, task: usize)
     requires there { task < task_count k.old }
     requires room { note_count k.old + 4 ≤ turn_notes }
@@ -128,14 +129,14 @@ pub fn inject(k: &mut Kernel, task: usize)
     }
 }
 
-/// Whether that is a fault.
+/// Whether this health is a fault.
 fn is_faulted(health: Health) -> bool
     ensures { result ≡ is_faulted health }
 {
     matches!(health, Health::Faulted(_))
 }
 
-/// The first task from an index on that has faulted, or 0 where there is none.
+/// The first task from an index on that has faulted, or 0 if there is none.
 fn first_faulted(k: &Kernel, index: usize) -> usize
     requires { index < task_count k.now }
     ensures small { result < task_count k.now }
@@ -150,7 +151,7 @@ fn first_faulted(k: &Kernel, index: usize) -> usize
     0
 }
 
-/// The answer to a search for a faulted task from an index on, and its note.
+/// Answers a search for a faulted task from an index on, and notes it.
 fn find_fault(k: &mut Kernel, args: &SendArgs, index: usize)
     requires there { index < task_count k.old }
     requires room { note_count k.old + 1 ≤ turn_notes }
@@ -192,7 +193,7 @@ fn carry_out(k: &mut Kernel, args: &SendArgs, request: Request, task: usize)
     }
 }
 
-/// The lengths, then the index in the first word, are checked; then the request is carried out.
+/// Checks the lengths, then the index in the first word, and then carries out the request.
 fn serve(k: &mut Kernel, caller: usize, args: &SendArgs, request: Request)
     requires there { caller < task_count k.old }
     requires room { note_count k.old + syscall_notes ≤ turn_notes }
@@ -218,7 +219,7 @@ fn serve(k: &mut Kernel, caller: usize, args: &SendArgs, request: Request)
     k.answer(caller, &[0, request.reply_length()]);
 }
 
-/// The supervisor's request: its ranges are checked, then the request itself.
+/// The supervisor's request: first its ranges are checked, then the request itself.
 #[inline(always)]
 fn hear_request(k: &mut Kernel, caller: usize, args: &SendArgs)
     requires there { caller < task_count k.old }
@@ -251,7 +252,7 @@ fn hear_request(k: &mut Kernel, caller: usize, args: &SendArgs)
     }
 }
 
-/// A kernel message from its first condition on: the caller is the supervisor.
+/// A kernel message, from its first condition on, which is that the caller is the supervisor.
 fn kernel_message_rows(k: &mut Kernel, caller: usize)
     requires there { caller < task_count k.old }
     requires room { note_count k.old + syscall_notes ≤ turn_notes }
@@ -267,19 +268,19 @@ fn kernel_message_rows(k: &mut Kernel, caller: usize)
     hear_request(k, caller, &args);
 }
 
-/// A SEND to the kernel, which the supervisor alone may make: bits 15 to 0 of r4 are the operation,
-/// r5 and r6 the message, r7 and r8 the buffer for the answer; leases are not looked at. The first
-/// word of the message is the index of a task.
+/// A SEND to the kernel, which only the supervisor may make. Bits 15 to 0 of r4 are the operation,
+/// r5 and r6 the message, r7 and r8 the buffer for the answer. Leases are ignored. The first word
+/// of the message is the index of a task.
 ///
-/// - 1: how the task is, in four words (health 0 well, 1 stopped, 2 faulted; and of a fault its
-///   number, x and y).
-/// - 2: the task is restarted, and started where the second word is not 0. It may not be the
+/// - 1: the status of the task, in four words (health 0 well, 1 stopped, 2 faulted; then for a
+///   fault its number, x and y).
+/// - 2: the task is restarted, and started if the second word is not 0. It may not be the
 ///   supervisor.
 /// - 3: the task is made to fault, unless it has faulted. It may not be the supervisor.
-/// - 9: the index of the first task from that one on that has faulted, in one word; 0 where there
-///   is none.
+/// - 9: the index of the first task from this one on that has faulted, in one word; 0 if there is
+///   none.
 ///
-/// r4 is 0 then, and r5 the length of the answer (docs/FORMATS.md; Hubris Reference, on
+/// r4 becomes 0, and r5 the length of the answer (docs/FORMATS.md; Hubris Reference, on
 /// supervision).
 pub fn kernel_message(k: &mut Kernel, caller: usize)
     requires { MayCall k.old caller }

@@ -1,4 +1,4 @@
-//! A task is born again, and those that wait for it get its dead code.
+//! A task is born again, and the tasks that wait for it get its dead code.
 
 ghost use Rattle.std.specs.Prelude.{◌+◌, ◌<◌, ◌≤◌};
 ghost use Rattle.task_table.specs.model.State.{Setup, Turn};
@@ -12,7 +12,7 @@ ghost use Rattle.fault_supervisor.specs.Restarts.{restart_notes};
 use kernel_abi::{Ending, Note, dead_code};
 use task_table::Kernel;
 
-/// A task that waits for one that was born again gets the dead code, and waits no more.
+/// A task that waits for a task that was born again gets the dead code, and no longer waits.
 fn answer_dead(k: &mut Kernel, task: usize, other: usize)
     requires there { task < task_count k.old }
     requires other { other < task_count k.old }
@@ -33,7 +33,7 @@ fn answer_dead(k: &mut Kernel, task: usize, other: usize)
     }
 }
 
-/// The restart of a task of a kernel that stands.
+/// The restart of a task, for a kernel that stands for a turn.
 fn restart_task(k: &mut Kernel, task: usize, start: bool)
     requires there { task < task_count k.old }
     requires room { note_count k.old + restart_notes ≤ turn_notes }
@@ -53,10 +53,10 @@ fn restart_task(k: &mut Kernel, task: usize, start: bool)
     }
 }
 
-/// A task is restarted: its call and its listen are dropped, and it is born again, well where it is
-/// to start and else stopped; its memory stays. Then each task in order that waits for an answer of
-/// it, or for a message of it alone, goes on and gets the dead code with its new generation (Hubris
-/// Reference, on supervision and on task ids).
+/// Restarts a task. Its call and its listen are dropped, and it is born again: well if it is to
+/// start, else stopped. Its memory does not change. Then each task that waits for an answer of it,
+/// or for a message of only this task, goes on and gets the dead code with its new generation, in
+/// order (Hubris Reference, on supervision and on task ids).
 pub fn restart(k: &mut Kernel, task: usize, start: bool)
     requires there { task < task_count k.old }
     requires room { note_count k.old + restart_notes ≤ turn_notes }

@@ -1,4 +1,5 @@
--- The text of `help`, by what it is asked about. Its lines stand in src/texts.rt, made of the tables of docs/FORMATS.md.
+-- The text of `help`, by what it is asked about. Its lines are in src/texts.rt, which is generated from the
+-- tables of docs/FORMATS.md.
 use Rattle.std.specs.Prelude.{ℕ, List, [], ◌∷◌, map, Option, Some, None}
 use Rattle.std.specs.List.{flat_map}
 use Rattle.command_line.specs.declared.job.CommandName.{CommandName}
@@ -9,8 +10,8 @@ use Rattle.help_text.specs.declared.texts.TheConstants.{COMMANDS, BUILD, RUN, GO
 abbrev pub lines : record { now : List (record { now : List ℕ }) } → List (List ℕ)
 lines part = map (λ line. line.now) part.now
 
--- of a command: what it does, takes and writes (of a session each command, of a sweep each line and word), the limits, the
--- statuses, and the causes of its files
+-- the parts for a command: what it does, takes and writes (for a session also each of its commands, for a
+-- sweep also each line and word), the limits, the statuses, and the causes of its files
 unfoldable pub parts_on : CommandName → List (List (List ℕ))
 parts_on command.Build = lines BUILD ∷ lines LIMITS ∷ lines STATUSES ∷ lines APPLICATION_CAUSES ∷ lines SOURCE_CAUSES ∷ []
 parts_on command.Run = lines RUN ∷ lines LIMITS ∷ lines STATUSES ∷ lines IMAGE_CAUSES ∷ lines SCRIPT_CAUSES ∷ []
@@ -30,12 +31,12 @@ parts_on command.Picture = lines PICTURE ∷ lines LIMITS ∷ lines STATUSES ∷
 parts_on command.Lcov = lines LCOV ∷ lines LIMITS ∷ lines STATUSES ∷ lines APPLICATION_CAUSES ∷ lines SOURCE_CAUSES ∷ lines SCRIPT_CAUSES ∷ []
 parts_on command.Help = lines HELP ∷ lines STATUSES ∷ []
 
--- what the commands are, or one of them
+-- the parts for the list of commands, or for one command
 unfoldable pub parts_of : Option CommandName → List (List (List ℕ))
 parts_of None = lines COMMANDS ∷ []
 parts_of (Some command) = parts_on command
 
--- one after the other, each line with its end
+-- the lines one after the other, each with its line end
 abbrev pub text : List (List ℕ) → List ℕ
 text part = flat_map (λ line. line) part
 

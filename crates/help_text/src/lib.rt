@@ -1,4 +1,4 @@
-//! What `help` says of the program and of each of its commands: constant texts, which are made of
+//! The help on the program and on each of its commands: constant texts, which are generated from
 //! the tables of docs/FORMATS.md.
 #![tactic(auto)]
 

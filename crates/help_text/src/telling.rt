@@ -12,8 +12,9 @@ use crate::texts::{
 use command_line::CommandName;
 use outside_io::{Failed, Sink, push_lines};
 
-/// What is said of a command: its words and files (of a session each command, of a sweep each line
-/// and word), the limits, the statuses, and the causes of its files.
+/// The parts of the help on a command: its words and files (for a session also each of its
+/// commands, for a sweep also each line and word), the limits, the statuses, and the causes of its
+/// files.
 fn parts_on(command: CommandName) -> &'static [&'static [&'static str]]
     ensures { map (λ part. map (λ line. line.now) part.now) result.now ≡ parts_on command }
 {
@@ -105,7 +106,7 @@ fn parts_on(command: CommandName) -> &'static [&'static [&'static str]]
     }
 }
 
-/// What is said of the program, or of a command.
+/// The parts of the help on the program, or on a command.
 fn parts(about: Option<CommandName>) -> &'static [&'static [&'static str]]
     ensures { map (λ part. map (λ line. line.now) part.now) result.now ≡ parts_of about }
 {
@@ -115,8 +116,8 @@ fn parts(about: Option<CommandName>) -> &'static [&'static [&'static str]]
     }
 }
 
-/// Pushes what `help` says, a line and a push each (docs/FORMATS.md, Command line). After a failing
-/// push nothing more is pushed.
+/// Pushes the text of `help`, with one push for each line (docs/FORMATS.md, Command line). After a
+/// failing push nothing more is pushed.
 pub fn push_help<S: Sink>(about: Option<CommandName>, out: &mut S) -> Result<(), Failed>
     ensures bytes { Pushes (S.seen out.old).written (S.seen out.new).written (help_text about)
         result }

@@ -23,7 +23,7 @@ pub record HasRoom (app : AppData) : Type 0 where
   pub flash : flash_needed app ≤ app.flash
   pub ram : ram_needed app ≤ app.ram
 
--- what of it is lacking
+-- the flash that is lacking; the RAM that is lacking
 abbrev pub LacksFlash : AppData → BuildFault → Type 0
 LacksFlash app (fault.Flash needed) = (app.flash < flash_needed app) × (needed ≡ min (flash_needed app) (2 ^ 64 - 1))
 LacksFlash app fault.Memory = ⊤
@@ -34,7 +34,7 @@ LacksRam app (fault.Ram needed) = (app.ram < ram_needed app) × (needed ≡ min 
 LacksRam app fault.Memory = ⊤
 LacksRam app _ = ⊥
 
--- why it has none: flash first
+-- why the board has no room: the flash comes first
 abbrev pub LacksRoom : AppData → BuildFault → Type 0
 LacksRoom app (fault.Flash needed) = (app.flash < flash_needed app) × (needed ≡ min (flash_needed app) (2 ^ 64 - 1))
 LacksRoom app (fault.Ram needed) = (flash_needed app ≤ app.flash) × (app.ram < ram_needed app)
@@ -60,7 +60,7 @@ pub record IsAcceptedSource (app : AppData) (i : ℕ) (source : List ℕ) : Type
   pub assembled : IsAssembled app i source code labels
   pub fits : length code ≤ (task_at app i).flash
 
--- it is assembled to so many bytes, which are too many
+-- it is assembled to this many bytes, which are too many
 pub record IsTooLong (app : AppData) (i : ℕ) (source : List ℕ) (bytes : ℕ) : Type 0 where
   pub code : List ℕ
   pub labels : Env
@@ -117,7 +117,7 @@ pub record IsLaid (app : AppData) (layout : Layout) : Type 0 where
   pub ram_length : layout.ram_length ≡ ram_needed app
   pub room : HasRoom app
 
--- the flash, where the first sources have been accepted: their bytes, and zeros for the other tasks
+-- the flash after the first sources have been accepted: their bytes, and zeros for the other tasks
 pub record Holds (app : AppData) (sources : List (List ℕ)) (flash : List ℕ) : Type 0 where
   pub length_of_flash : length flash ≡ flash_needed app
   pub programs : (i : ℕ) → i < length sources → HasProgram app i (source_at sources i) flash

@@ -47,7 +47,7 @@ lines_at app line = map (line_built app) (filter (λ i. i.line == line) app.inte
 abbrev pub lines_built : AppData → List ImageLine
 lines_built app = flat_map (lines_at app) (range_with_len 0 64)
 
--- the image, but for what its flash holds
+-- the image with these bytes of flash
 abbrev pub image_data_built : AppData → List ℕ → ImageData
 image_data_built app flash = record {
   fault_bits = bit_of app.fault (task_at app 0).notifications;

@@ -42,7 +42,7 @@ region_base app k = ram_base app (length app.tasks + k)
 
 -- ---- what names name
 
--- the place of a name, counted from k; where it is none of them, the place after the last
+-- the index of a name, counted from k; the index after the last one if the name is not in the list
 abbrev pub index_from : ℕ → Text → List Text → ℕ
 index_from k name [] = k
 index_from k name (n ∷ ns) = if bytes_eq n name then k else index_from (k + 1) name ns

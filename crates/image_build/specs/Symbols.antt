@@ -1,4 +1,5 @@
--- The symbols that a task's source may name, with their values; of two with one name the first counts.
+-- The symbols that a task's source may name, with their values. If two have the same name, the first one
+-- counts.
 use Rattle.std.specs.Prelude.{ℕ, List, [], ◌∷◌, ◌++◌, ◌+◌, ◌^◌, codes, map}
 use Rattle.app_toml.specs.Apps.{AppData, DeviceData, RegionData, TaskData}
 use Rattle.app_toml.specs.Places.{Text}

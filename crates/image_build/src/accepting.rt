@@ -1,4 +1,4 @@
-//! Sources are accepted one by one.
+//! Accepts sources one by one.
 
 ghost use Rattle.std.specs.Prelude.{◌≡◌, ◌≤◌, ◌<◌, ◌+◌, ◌^◌, ◌++◌, ◌∷◌, ◌⊎◌, ℕ, List, [], length, slice_index, IfOk, IfErr, OnOk, OnErr};
 ghost use Rattle.std.specs.BTreeMap.{get_by_text};
@@ -19,7 +19,7 @@ use mem_banks::FLASH;
 use std::alloc::Global;
 use thumb_asm::{AsmFault, Object, assemble_with};
 
-/// Puts the code into the flash at this place.
+/// Writes the code into the flash from this offset on.
 fn put(flash: &mut [u8], at: usize, code: &[u8])
     requires { at + length code.now ≤ length flash.old }
     ensures stands { (k : ℕ) → k < length code.now →
@@ -32,7 +32,7 @@ fn put(flash: &mut [u8], at: usize, code: &[u8])
     }
 }
 
-/// The next task's source with these symbols of its own, and those that all sources share.
+/// Assembles the next task's source, with its own symbols and those that all sources share.
 fn assemble_next(
     builder: &Builder<'_>,
     bytes: &[u8],
@@ -49,7 +49,7 @@ fn assemble_next(
     assemble_with(builder.alloc, bytes, base, &builder.shared, own)
 }
 
-/// What the next task's source is assembled to.
+/// The object to which the next task's source is assembled.
 fn assembled(builder: &Builder<'_>, bytes: &[u8]) -> Result<Object, BuildFault>
     requires left { next_task builder.now < length (described builder.now).tasks }
     ensures assembled { IfOk result (λ o. IsAssembled (described builder.now)
@@ -75,8 +75,8 @@ impl<'a> Builder<'a> {
     ///
     /// # Errors
     ///
-    /// `Flash` where the tasks' flash has no room, else `Ram` where the RAM of tasks and regions
-    /// has none; `Memory` where memory ran out.
+    /// `Flash` if the tasks' flash has no room, otherwise `Ram` if the RAM of tasks and regions has
+    /// none; `Memory` if memory ran out.
     pub fn open(alloc: Global, app: &'a App) -> Result<Builder<'a>, BuildFault>
         ensures described { IfOk result (λ b. described b ≡ app_of app.now) }
         ensures none { IfOk result (HasAccepted []) }
@@ -96,7 +96,7 @@ impl<'a> Builder<'a> {
         })
     }
 
-    /// The index of the task whose source is the next, or the number of tasks where each has been
+    /// The index of the task whose source is next, or the number of tasks if all sources have been
     /// accepted.
     pub fn next(&self) -> usize
         ensures { result ≡ next_task self.now }
@@ -113,12 +113,12 @@ impl<'a> Builder<'a> {
         flash_base(self.app, &self.layout, self.done)
     }
 
-    /// Takes the next task's source. Refused, it changes nothing.
+    /// Takes the next task's source. If the source is refused, nothing changes.
     ///
     /// # Errors
     ///
-    /// `Source` where the assembler refuses it, else `Code` where its bytes are more than the
-    /// task's flash; `Memory` where memory ran out.
+    /// `Source` if the assembler refuses it, otherwise `Code` if it gives more bytes than the
+    /// task's flash has; `Memory` if memory ran out.
     pub fn source(&mut self, bytes: &[u8]) -> Result<(), BuildFault>
         requires { next_task self.old < length (described self.old).tasks }
         ensures described { described self.new ≡ described self.old }

@@ -1,4 +1,4 @@
-//! A builder: an application and what has been accepted of its sources.
+//! A builder: an application and the sources that have been accepted.
 
 ghost use Rattle.std.specs.Prelude.{◌≡◌, length};
 ghost use Rattle.app_toml.specs.Held.{app_of};
@@ -12,8 +12,8 @@ use app_toml::App;
 use std::alloc::Global;
 use thumb_asm::Symbols;
 
-/// An application, of which the first tasks' sources have been accepted; `shared` are the symbols
-/// that all sources share.
+/// An application, and the sources of its first tasks that have been accepted. `shared` has the
+/// symbols that all sources share.
 #[derive(Drop)]
 pub struct Builder<'a> {
     pub(crate) alloc: Global,

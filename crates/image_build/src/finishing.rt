@@ -1,4 +1,4 @@
-//! The image is made of the parts.
+//! Makes the image from its parts.
 
 ghost use Rattle.std.specs.Prelude.{◌≡◌, ◌<◌, ℕ, List, length, map, IfOk, IfErr};
 ghost use Rattle.app_toml.specs.Held.{app_of};
@@ -65,8 +65,8 @@ fn header_of(
 }
 
 impl<'a> Builder<'a> {
-    /// The image, once the source of each task has been accepted; `Memory` where memory ran out,
-    /// and then the builder is gone.
+    /// The image, after the source of each task has been accepted. The error is `Memory` if memory
+    /// ran out, and then the builder is lost.
     pub fn finish(self) -> Result<Image, BuildFault>
         requires { next_task self ≡ length (described self).tasks }
         ensures built { IfOk result (λ i. (sources : List (List ℕ)) →
@@ -93,9 +93,9 @@ impl<'a> Builder<'a> {
     }
 }
 
-/// The image of the application and of these sources, one for each task, or the first of: too
-/// little flash, too little RAM, then by task a cause of the assembler, and more code than the task
-/// has flash. docs/FORMATS.md, Building.
+/// The image of the application and of these sources, one for each task. Otherwise the first of
+/// these faults: too little flash, too little RAM, and then for each task a cause of the assembler,
+/// or more code than the task has flash. docs/FORMATS.md, Building.
 ///
 /// # Errors
 ///

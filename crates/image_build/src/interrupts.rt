@@ -30,7 +30,7 @@ fn line_record(app: &App, interrupt: &LineSpec) -> LineRecord
     }
 }
 
-/// Those of one line, of which there is at most one.
+/// Adds the interrupts of one line, of which there is at most one.
 fn push_line(
     out: &mut Vec<LineRecord>,
     app: &App,

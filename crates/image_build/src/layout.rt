@@ -15,8 +15,8 @@ use mem_banks::{FLASH, RAM};
 use mem_plan::{PlanFault, plan, rounded};
 use std::alloc::{AllocError, Global};
 
-/// The bases of the tasks' flash, and of the tasks' RAM and then of the regions; how many bytes of
-/// each they take.
+/// The bases of the tasks' flash, and those of the tasks' RAM and after them of the regions. Also
+/// how many bytes of flash and of RAM these take.
 #[derive(Drop)]
 pub(crate) struct Layout {
     pub(crate) flash: Vec<u32>,
@@ -125,8 +125,8 @@ fn ram_plan(alloc: Global, app: &App) -> Result<(Vec<u32>, u32), BuildFault>
     }
 }
 
-/// Where the application's memory lies. Flash first: where neither has room, the flash is what is
-/// refused.
+/// Where the application's memory lies. The flash is planned first, so if neither the flash nor the
+/// RAM has room, the flash is refused.
 pub(crate) fn laid_out(alloc: Global, app: &App) -> Result<Layout, BuildFault>
     ensures laid { IfOk result (IsLaid (app_of app.now)) }
     ensures refused { IfErr result (LacksRoom (app_of app.now)) }

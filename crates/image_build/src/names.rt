@@ -1,4 +1,4 @@
-//! What names name.
+//! Looks up what names refer to.
 
 ghost use Rattle.std.specs.Prelude.{◌≡◌, ◌≤◌, ◌<◌, ◌^◌, length, map, string_bytes, true};
 ghost use Rattle.app_toml.specs.Crossed.{is_among, notifications_of};
@@ -8,7 +8,7 @@ ghost use Rattle.image_build.specs.Layout.{index_of};
 
 use app_toml::{DeviceSpec, RegionSpec, TaskSpec};
 
-/// The place of a name; how many names there are, where it is none of them.
+/// The index of a name in a list, or the length of the list if it is not in it.
 fn place_of(name: &str, names: &[String]) -> usize
     ensures { result ≡ index_of name.now (map string_bytes names.now) }
 {
@@ -69,7 +69,7 @@ pub(crate) fn bit_of(name: &str, notifications: &[String]) -> u32
     bit(place_of(name, notifications))
 }
 
-/// The notifications of the first task of that name; none where there is no such task.
+/// The notifications of the first task of that name; none if there is no such task.
 pub(crate) fn notifications_of<'a>(name: &str, tasks: &'a [TaskSpec]) -> &'a [String]
     ensures { map string_bytes result.now ≡ notifications_of name.now (map task_of tasks.now) }
 {

@@ -1,4 +1,4 @@
-//! What is read of an application and of its layout.
+//! Reads an application and its layout.
 
 ghost use Rattle.std.specs.Prelude.{◌≡◌, ◌≤◌, ◌<◌, ◌+◌, length};
 ghost use Rattle.app_toml.specs.Held.{app_of};
@@ -46,7 +46,7 @@ pub(crate) fn flash_base(app: &App, layout: &Layout, i: usize) -> u32
     flash_at(app, layout, i)
 }
 
-/// Where the i-th task's RAM begins, or behind those the regions.
+/// Where the i-th task's RAM begins; indices past the tasks are those of the regions.
 pub(crate) fn ram_base(app: &App, layout: &Layout, i: usize) -> u32
     requires below { i < length (app_of app.now).tasks + length (app_of app.now).regions }
     requires laid { IsLaid (app_of app.now) layout.now }

@@ -82,7 +82,7 @@ fn push_devices(out: &mut Entries, devices: &[DeviceSpec]) -> Result<(), AllocEr
     Ok(())
 }
 
-/// What a task's notifications begin with, in any task's source.
+/// The prefix of the symbols of a task's notifications, in the source of any task.
 fn note_prefix(alloc: Global, task: &str) -> Result<String, AllocError>
     ensures { IfOk result (λ s. string_bytes s ≡ codes "note_" ++ task.now ++ codes "_") }
 {

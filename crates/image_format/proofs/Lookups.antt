@@ -1,4 +1,4 @@
--- The i-th task of a picture, its regions and its names.
+-- The i-th task of an image, its regions and its names.
 use Rattle.std.proofs.Common.{◌≡◌, ◌∙◌, ◌+◌, ◌<◌, ℕ, zero, suc, List, [], ◌∷◌, length, take, drop, get_or, map, arith, ap, refl, subst, sym, ◌⊎◌, inl, inr}
 use Rattle.std.specs.Prelude.{Contains}
 use Rattle.std.proofs.lemmas.List.{drop-drop}

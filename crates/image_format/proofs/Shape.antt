@@ -1,4 +1,4 @@
--- The records of an accepted image are those that say its picture.
+-- The records of an accepted image are those that spell its contents.
 use Rattle.std.proofs.Common.{◌≡◌, ◌∙◌, ◌+◌, ◌*◌, ◌%◌, ◌<◌, ◌≤◌, ℕ, zero, suc, List, All, [], ◌∷◌, ◌++◌, Bool, true, false, not, ◌||◌, ◌&&◌, ◌==◌, None, length, take, drop, map, nat_lt, ◌⊎◌, inl, inr, arith, ap, ap₂, refl, sym, subst, length-drop}
 use Rattle.std.specs.List.{list_any}
 use Rattle.std.proofs.Math.Seq.{drop-append_seam, take-append_seam}

@@ -1,4 +1,4 @@
--- What is read is spelled so.
+-- An image that is read is the one that its bytes spell.
 use Rattle.std.proofs.Common.{◌≡◌, ◌∙◌, ◌+◌, ◌*◌, ◌/◌, ◌%◌, ◌<◌, ◌≤◌, ℕ, zero, suc, List, [], ◌∷◌, ◌++◌, Ok, Err, None, Some, Option, Result, length, drop, get_or, arith, ap, refl, sym, nat_lt, cond, ◌==◌, true, false, Bool, subst, take, length-drop}
 use Rattle.std.proofs.lemmas.Bool.{eqb-true, ltb-false}
 use Rattle.std.specs.List.{flat_map}

@@ -1,4 +1,4 @@
--- What is known of each sound image.
+-- The facts that are true of each sound image.
 use Rattle.std.specs.Prelude.{ℕ, List, [], ◌≡◌, ◌≢◌, ◌⊎◌, slice_index_or, ◌+◌, ◌-◌, ◌≤◌, ◌<◌, ◌%◌, true, false, length, Contains}
 use Rattle.region_check.specs.declared.Region.{Region}
 use Rattle.region_check.specs.declared.Right.TheVariants.{Execute}
@@ -6,7 +6,7 @@ use Rattle.region_check.specs.Rights.{may_use, SameOrApart}
 use Rattle.text_lines.specs.Names.{is_name}
 use Rattle.image_format.specs.ImageData.{ImageData, line_in, names_in, regions_in, task_in}
 
--- the bytes from a base on, so many, lie in the flash; in the RAM
+-- the bytes of the region lie in the flash; they lie in the RAM
 abbrev pub IsInFlash : ImageData → Region → Type 0
 IsInFlash p r = (0x08000000 ≤ r.base) × (r.base + r.size ≤ 0x08000000 + length p.flash)
 

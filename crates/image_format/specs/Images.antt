@@ -1,4 +1,4 @@
--- What the code's image and fault stand for.
+-- The image and the refusal that the code's image and fault stand for.
 use Rattle.std.specs.Prelude.{Option, Some, None}
 use Rattle.image_format.specs.declared.image.Image.{Image}
 use Rattle.image_format.specs.declared.records.ImageFault.{ImageFault}
@@ -22,7 +22,7 @@ records_in i = record {
 abbrev pub image_data : Image → ImageData
 image_data i = image_data_of (records_in i)
 
--- the cause and the place that it states; none for want of memory
+-- the cause and the place that it states; none if memory ran out
 abbrev pub stated : ImageFault → Option Refusal
 stated (fault.Refused cause place) = Some (cause, place)
 stated fault.Memory = None

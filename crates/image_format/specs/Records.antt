@@ -176,7 +176,7 @@ half_bytes n = n % 256 ∷ n / 256 ∷ []
 abbrev pub num_bytes : ℕ → List ℕ
 num_bytes n = n % 256 ∷ n / 256 % 256 ∷ n / 65536 % 256 ∷ n / 16777216 ∷ []
 
--- the letters and what follows
+-- the letters, and the fields after them
 unfoldable pub header_bytes_in : ImageForm → Header → List ℕ
 header_bytes_in First h = (72 ∷ 66 ∷ 73 ∷ 49 ∷ h.tasks ∷ h.lines ∷ []) ++ half_bytes h.regions ++ num_bytes h.flash ++ num_bytes h.ram ++ num_bytes h.bits
 header_bytes_in Second h = (72 ∷ 66 ∷ 73 ∷ 50 ∷ []) ++ half_bytes h.tasks ++ half_bytes h.lines ++ half_bytes h.regions ++ half_bytes h.zero

@@ -12,7 +12,7 @@ use Rattle.image_format.specs.Steps.{Refusal, first, header_size, or_else, regio
 abbrev pub has_shape : RegionRecord → Bool
 has_shape r = is_size r.size && r.base % r.size == 0
 
--- it may be read, and perhaps written or executed; a device's is never executed
+-- the region may be read, and perhaps written or executed; that of a device may not be executed
 abbrev pub has_rights : RegionRecord → Bool
 has_rights r = list_any (λ k. r.rights == k) (1 ∷ 3 ∷ 5 ∷ 7 ∷ 9 ∷ 11 ∷ [])
 
@@ -31,11 +31,12 @@ has_area h r =
 abbrev pub meets : RegionRecord → RegionRecord → Bool
 meets r e = nat_lt r.base (e.base + e.size) && nat_lt e.base (r.base + r.size)
 
--- they meet, and are not the same bytes
+-- they have a byte in common, and are not the same bytes
 abbrev pub cuts : RegionRecord → RegionRecord → Bool
 cuts r e = meets r e && (not (r.base == e.base) || not (r.size == e.size))
 
--- it meets an earlier one of its task, or cuts one of an earlier task
+-- it has a byte in common with an earlier region of its task, or overlaps one of an earlier task without
+-- being the same bytes
 abbrev pub clashes : List RegionRecord → List RegionRecord → RegionRecord → Bool
 clashes others own r = list_any (meets r) own || list_any (cuts r) others
 

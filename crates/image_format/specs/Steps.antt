@@ -9,7 +9,8 @@ use Rattle.image_format.specs.declared.records.Header.{Header}
 use Rattle.image_format.specs.declared.records.TaskRecord.{TaskRecord}
 use Rattle.image_format.specs.declared.records.LineRecord.{LineRecord}
 
--- the most tasks of a form, the most interrupts, its highest line, and the most names of a task
+-- the largest number of tasks in a form, the largest number of interrupts, the highest line, and the largest
+-- number of names of a task
 abbrev pub most_tasks : ImageForm → ℕ
 most_tasks First = 32
 most_tasks Second = 512
@@ -106,7 +107,7 @@ tasks_fault h ts = tasks_from h.form 0 (header_size h.form) ts
 abbrev pub counted : List TaskRecord → ℕ
 counted = sum_by (λ t. t.regions)
 
--- where the header tells it
+-- its place in the header
 abbrev pub count_place : ImageForm → ℕ
 count_place First = 6
 count_place Second = 8
@@ -116,7 +117,7 @@ count_fault h ts = if counted ts == h.regions then None else Some (3, count_plac
 
 -- ---- each interrupt
 
--- its line is to be at least so high, and its task is one of so many
+-- its line has to be at least this high, and its task one of this many
 abbrev pub line_fault : ImageForm → ℕ → ℕ → LineRecord → ℕ → Option Refusal
 line_fault First least tasks l place = first (
     (nat_lt (highest_line First) l.line || nat_lt l.line least, (13, place))

@@ -7,7 +7,7 @@ ghost use Rattle.image_format.specs.Steps.{count_fault, count_place, field_fault
 use crate::places::{header_size, lines_place};
 use crate::records::{Header, ImageForm, LineRecord, TaskRecord};
 
-/// Of a header of the first form.
+/// The first refusal of a header of the first form.
 fn check_first(h: &Header) -> Option<(u8, u32)>
     ensures { result ≡ first_field_fault h.now }
 {
@@ -28,7 +28,7 @@ fn check_first(h: &Header) -> Option<(u8, u32)>
     }
 }
 
-/// Of a header of the second form.
+/// The first refusal of a header of the second form.
 fn check_second(h: &Header) -> Option<(u8, u32)>
     ensures { result ≡ second_field_fault h.now }
 {
@@ -53,8 +53,8 @@ fn check_second(h: &Header) -> Option<(u8, u32)>
     }
 }
 
-/// The first field of the header that is refused: a cause and the place of a byte, None where none
-/// is. docs/FORMATS.md, Image.
+/// The first field of the header that is refused, as a cause and the place of a byte, or None if
+/// none is. docs/FORMATS.md, Image.
 #[tactic(auto, unfolding(crate::specs::Steps::field_fault))]
 pub fn check_fields(h: &Header) -> Option<(u8, u32)>
     ensures { result ≡ field_fault h.now }
@@ -65,7 +65,7 @@ pub fn check_fields(h: &Header) -> Option<(u8, u32)>
     }
 }
 
-/// The most names that a task has.
+/// The largest number of names that a task may have.
 fn most_names(form: ImageForm) -> u8
     ensures { result ≡ most_names form }
 {
@@ -75,7 +75,7 @@ fn most_names(form: ImageForm) -> u8
     }
 }
 
-/// Of one task's record, which lies at the place.
+/// The first refusal of one task's record, which lies at `place`.
 fn check_task(form: ImageForm, index: usize, t: &TaskRecord, place: u32) -> Option<(u8, u32)>
     requires { place + 12 ≤ 2 ^ 32 }
     ensures { result ≡ task_fault form index t.now place }
@@ -95,8 +95,8 @@ fn check_task(form: ImageForm, index: usize, t: &TaskRecord, place: u32) -> Opti
     }
 }
 
-/// The first refusal of the tasks in order: a cause and the place of a byte, None where none is.
-/// docs/FORMATS.md, Image.
+/// The first refusal of the tasks in order, as a cause and the place of a byte, or None if there is
+/// none. docs/FORMATS.md, Image.
 #[tactic(auto, using(crate::proofs::Limits::few_tasks))]
 pub fn check_tasks(h: &Header, tasks: &[TaskRecord]) -> Option<(u8, u32)>
     requires fields { field_fault h.now ≡ None }
@@ -115,7 +115,7 @@ pub fn check_tasks(h: &Header, tasks: &[TaskRecord]) -> Option<(u8, u32)>
     None
 }
 
-/// Where the header tells the number of regions.
+/// The place of the number of regions in the header.
 fn count_place(form: ImageForm) -> u32
     ensures { result ≡ count_place form }
 {
@@ -125,7 +125,7 @@ fn count_place(form: ImageForm) -> u32
     }
 }
 
-/// Refuses where the tasks' numbers of regions do not sum to the header's.
+/// Refuses the tasks if their numbers of regions do not sum to the number in the header.
 /// docs/FORMATS.md, Image.
 #[tactic(auto, using(crate::proofs::Limits::few_tasks, crate::proofs::Limits::few_regions))]
 pub fn check_count(h: &Header, tasks: &[TaskRecord]) -> Option<(u8, u32)>
@@ -144,8 +144,8 @@ pub fn check_count(h: &Header, tasks: &[TaskRecord]) -> Option<(u8, u32)>
     }
 }
 
-/// Of one interrupt's record of the first form, which lies at the place; its line is to be at least
-/// so high.
+/// The first refusal of one interrupt's record of the first form, which lies at `place`. Its line
+/// has to be `least` or higher.
 fn check_first_line(least: u16, tasks: u16, l: &LineRecord, place: u32) -> Option<(u8, u32)>
     requires { place + 8 ≤ 2 ^ 32 }
     ensures { result ≡ line_fault First least tasks l.now place }
@@ -163,8 +163,8 @@ fn check_first_line(least: u16, tasks: u16, l: &LineRecord, place: u32) -> Optio
     }
 }
 
-/// Of one interrupt's record of the second form, which lies at the place; its line is to be at
-/// least so high.
+/// The first refusal of one interrupt's record of the second form, which lies at `place`. Its line
+/// has to be `least` or higher.
 fn check_second_line(least: u16, tasks: u16, l: &LineRecord, place: u32) -> Option<(u8, u32)>
     requires { place + 8 ≤ 2 ^ 32 }
     ensures { result ≡ line_fault Second least tasks l.now place }
@@ -198,8 +198,8 @@ fn check_line(
     }
 }
 
-/// The first refusal of the interrupts in order: a cause and the place of a byte, None where none
-/// is. docs/FORMATS.md, Image.
+/// The first refusal of the interrupts in order, as a cause and the place of a byte, or None if
+/// there is none. docs/FORMATS.md, Image.
 #[tactic(auto, using(crate::proofs::Limits::few_lines, crate::proofs::Limits::early_lines))]
 pub fn check_lines(h: &Header, lines: &[LineRecord]) -> Option<(u8, u32)>
     requires fields { field_fault h.now ≡ None }

@@ -6,8 +6,8 @@ ghost use Rattle.image_format.specs.Accepted.{Accepted};
 
 use crate::records::{Header, LineRecord, RegionRecord, TaskRecord};
 
-/// An image that no check refuses; `picture` of its specs is what it says. Its parts are those of
-/// the second form, in whichever form it was read.
+/// An image that no check refuses. `image_data` in the specs gives its contents. It keeps the parts
+/// of the second form, whichever form it was read from.
 #[derive(Drop)]
 pub struct Image {
     pub(crate) header: Header,

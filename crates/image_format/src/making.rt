@@ -1,4 +1,4 @@
-//! An image of its parts.
+//! Makes an image from its parts.
 
 ghost use Rattle.std.specs.Prelude.{◌≡◌};
 ghost use Rattle.image_format.specs.declared.records.ImageForm.TheVariants.{Second};

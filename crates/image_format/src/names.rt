@@ -9,7 +9,8 @@ use crate::places::names_place;
 use crate::records::{Header, ImageForm, TaskRecord};
 use text_lines::is_name;
 
-/// The first name of some bytes, and what follows it; as much of it as is there.
+/// The first name of some bytes, and the bytes after it. If the bytes end within the name, the name
+/// is cut there.
 pub(crate) fn split_name(bytes: &[u8]) -> (&[u8], &[u8])
     ensures name { result.0.now ≡ first_name bytes.now }
     ensures rest { result.1.now ≡ after_name bytes.now }
@@ -26,7 +27,7 @@ pub(crate) fn split_name(bytes: &[u8]) -> (&[u8], &[u8])
     }
 }
 
-/// Whether a length byte is there, and as many bytes as it says, which make a name.
+/// Whether the bytes begin with a length byte and that many further bytes, and these are a name.
 fn is_spelled(bytes: &[u8]) -> bool
     ensures { result ≡ is_spelled bytes.now }
 {
@@ -53,7 +54,8 @@ fn is_among(bytes: &[u8], n: usize, name: &[u8]) -> bool
     false
 }
 
-/// Of the name with which some bytes begin, at the place, behind the first n names of the task's.
+/// The refusal of the name with which some bytes begin, at `place`. It follows the first n names of
+/// its task.
 fn check_name(own: &[u8], n: usize, bytes: &[u8], place: u32) -> Option<(u8, u32)>
     ensures { result ≡ name_fault (names_of n own.now) bytes.now place }
 {
@@ -87,7 +89,7 @@ fn check_task_names(n: usize, bytes: &[u8], place: u32) -> Option<(u8, u32)>
     None
 }
 
-/// What follows n names.
+/// The bytes after n names.
 pub(crate) fn skip_names(n: usize, bytes: &[u8]) -> &[u8]
     ensures { result.now ≡ after_names n bytes.now }
 {
@@ -99,7 +101,7 @@ pub(crate) fn skip_names(n: usize, bytes: &[u8]) -> &[u8]
     rest
 }
 
-/// Refuses bytes behind the names.
+/// Refuses bytes after the names.
 fn check_left(bytes: &[u8]) -> Option<(u8, u32)>
     ensures { result ≡ left_fault bytes.now }
 {
@@ -110,7 +112,8 @@ fn check_left(bytes: &[u8]) -> Option<(u8, u32)>
     }
 }
 
-/// The first refusal of the names of all tasks, which end at the place, and of bytes behind them.
+/// The first refusal of the names of all tasks, which have to end at `end`, and of bytes after
+/// them.
 fn check_all_names(end: u32, tasks: &[TaskRecord], names: &[u8]) -> Option<(u8, u32)>
     requires within { length names.now ≤ end }
     requires room { end + 256 < 2 ^ 32 }
@@ -128,8 +131,8 @@ fn check_all_names(end: u32, tasks: &[TaskRecord], names: &[u8]) -> Option<(u8, 
     check_left(rest)
 }
 
-/// The first refusal of the names in order, and of bytes behind them: a cause and the place of a
-/// byte, None where none is. docs/FORMATS.md, Image.
+/// The first refusal of the names in order, and of bytes after them, as a cause and the place of a
+/// byte, or None if there is none. docs/FORMATS.md, Image.
 #[tactic(auto, using(crate::proofs::Limits::few_names, crate::proofs::Limits::early_names))]
 pub fn check_names(h: &Header, tasks: &[TaskRecord], names: &[u8]) -> Option<(u8, u32)>
     requires fields { field_fault h.now ≡ None }

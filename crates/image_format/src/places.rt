@@ -5,7 +5,7 @@ ghost use Rattle.image_format.specs.Steps.{header_size, lines_place, names_place
 
 use crate::records::{Header, ImageForm};
 
-/// How many bytes the header takes, letters and all.
+/// The length of the header in bytes, with its letters.
 pub(crate) fn header_size(form: ImageForm) -> u32
     ensures value { result ≡ header_size form }
     ensures most { result ≤ 28 }

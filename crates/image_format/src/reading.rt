@@ -1,4 +1,4 @@
-//! From bytes to an image, or the first cause by which they are refused.
+//! Reads an image from bytes, or gives the first cause why they are refused.
 
 ghost use Rattle.std.specs.Prelude.{◌≡◌, ◌≤◌, length, IfOk, IfErr, IfSome, Ok, Err, Some, None};
 ghost use Rattle.image_format.specs.declared.records.ImageForm.TheVariants.{First, Second};
@@ -17,7 +17,7 @@ use crate::records::{Header, ImageFault, ImageForm};
 use crate::regions::{check_entries, check_regions};
 use std::alloc::Global;
 
-/// The form of which the bytes begin with the letters.
+/// The form with whose letters the bytes begin.
 fn form_at(bytes: &[u8]) -> Option<ImageForm>
     requires { 4 ≤ length bytes.now }
     ensures { result ≡ form_at bytes.now }
@@ -32,14 +32,14 @@ fn form_at(bytes: &[u8]) -> Option<ImageForm>
     }
 }
 
-/// How long the file is by its header.
+/// The length of the file in bytes, as its header says it.
 fn total(h: &Header) -> usize
     ensures { result ≡ total h.now }
 {
     names_place(h) as usize + h.names as usize + h.flash as usize
 }
 
-/// The header, against the file's length.
+/// The header, if the file has the length that the header says.
 fn sized(header: Header, length: usize) -> Result<Header, (u8, u32)>
     requires { total header ≤ 16777216 }
     ensures exact { result ≡ sized header length }
@@ -141,7 +141,7 @@ fn check_records(p: &Parts) -> Option<(u8, u32)>
     check_names(h, tasks, p.names.as_slice())
 }
 
-/// The parts of the file in its own form.
+/// The parts of the file, in the form that the file has.
 fn read_parts(alloc: Global, bytes: &[u8]) -> Result<Parts, ImageFault>
     ensures ok { IfOk result (λ p. records_or_fault bytes.now ≡ Ok (record {
       header = p.header;
@@ -212,8 +212,9 @@ fn kept(parts: Parts) -> Image
 }
 
 impl Image {
-    /// The image that the bytes spell in either form, or the first cause by which they are refused
-    /// with its place, in the order of docs/FORMATS.md, Image; `Memory` where memory ran out.
+    /// The image that the bytes spell in either form. Otherwise the first cause why they are
+    /// refused, with its place, in the order of docs/FORMATS.md, Image, or `Memory` if memory ran
+    /// out.
     pub fn read(alloc: Global, bytes: &[u8]) -> Result<Image, ImageFault>
         ensures ok { IfOk result (λ i. image_or_fault bytes.now ≡ Ok (image_data i)) }
         ensures refused { IfErr result (λ e.

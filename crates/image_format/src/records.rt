@@ -2,7 +2,7 @@
 
 use thiserror::Error;
 
-/// The form of an image's file, told by its first four bytes.
+/// The form of an image's file, which its first four bytes say.
 #[derive(Clone, Copy, PartialEq, Eq)]
 pub enum ImageForm {
     /// `HBI1`: at most 32 tasks and 32 interrupts, and no names.
@@ -11,10 +11,9 @@ pub enum ImageForm {
     Second,
 }
 
-/// What an image begins with, after its first four letters: how many tasks, interrupts and regions
-/// it has, a zero, how many bytes of flash and of RAM, the bits posted to task 0 at a fault, and
-/// how many bytes the names take. The first form has neither the zero nor the bytes of names: both
-/// are 0 then.
+/// The header of an image, after its four letters: the numbers of tasks, interrupts and regions, a
+/// zero, the bytes of flash and of RAM, the bits that are posted to task 0 at a fault, and the
+/// bytes of the names. The first form has no zero and no bytes of names: both fields are 0 then.
 #[derive(Clone, Copy)]
 pub struct Header {
     pub form: ImageForm,

@@ -66,14 +66,15 @@ fn any_cuts(others: &[RegionRecord], r: &RegionRecord) -> bool
     others.iter().any(|e| cuts(r, e))
 }
 
-/// Whether the region meets one of its task, or cuts one of another task.
+/// Whether the region has a byte in common with one of its own task, or overlaps one of another
+/// task without being the same bytes.
 fn clashes(others: &[RegionRecord], own: &[RegionRecord], r: &RegionRecord) -> bool
     ensures { result ≡ clashes others.now own.now r.now }
 {
     any_meets(own, r) || any_cuts(others, r)
 }
 
-/// Of one region's record, which lies at the place.
+/// The first refusal of one region's record, which lies at `place`.
 fn check_region(h: &Header, overlaps: bool, r: &RegionRecord, place: u32) -> Option<(u8, u32)>
     requires { place + 12 ≤ 2 ^ 32 }
     ensures { result ≡ region_fault h.now overlaps r.now place }
@@ -91,7 +92,8 @@ fn check_region(h: &Header, overlaps: bool, r: &RegionRecord, place: u32) -> Opt
     }
 }
 
-/// Of one task's regions, whose records lie at the place; the others are those of earlier tasks.
+/// The first refusal of one task's regions, whose records lie at `place`. `others` are the regions
+/// of earlier tasks.
 fn check_own(
     h: &Header,
     others: &[RegionRecord],
@@ -113,8 +115,8 @@ fn check_own(
     None
 }
 
-/// The first refusal of the regions in order: a cause and the place of a byte, None where none is.
-/// docs/FORMATS.md, Image.
+/// The first refusal of the regions in order, as a cause and the place of a byte, or None if there
+/// is none. docs/FORMATS.md, Image.
 #[tactic(auto, using(crate::proofs::Limits::few_tasks, crate::proofs::Limits::few_regions, crate::proofs::Limits::early_regions, crate::proofs::Limits::all_counted))]
 pub fn check_regions(
     h: &Header,
@@ -156,7 +158,7 @@ fn any_runs(entry: u32, own: &[RegionRecord]) -> bool
     own.iter().any(|r| runs_at(entry, r))
 }
 
-/// Of one task's entry, whose record lies at the place.
+/// The refusal of one task's entry, whose record lies at `place`.
 fn check_entry(own: &[RegionRecord], t: &TaskRecord, place: u32) -> Option<(u8, u32)>
     requires { place + 12 ≤ 2 ^ 32 }
     ensures { result ≡ entry_fault own.now t.now place }
@@ -168,8 +170,8 @@ fn check_entry(own: &[RegionRecord], t: &TaskRecord, place: u32) -> Option<(u8, 
     }
 }
 
-/// The first refusal of the tasks' entries in order: a cause and the place of a byte, None where
-/// none is. docs/FORMATS.md, Image.
+/// The first refusal of the tasks' entries in order, as a cause and the place of a byte, or None if
+/// there is none. docs/FORMATS.md, Image.
 #[tactic(auto, using(crate::proofs::Limits::few_tasks, crate::proofs::Limits::few_regions, crate::proofs::Limits::all_counted))]
 pub fn check_entries(
     h: &Header,

@@ -1,4 +1,4 @@
-//! What an image says.
+//! Reads the contents of an image.
 
 ghost use Rattle.std.specs.Prelude.{◌≡◌, ◌==◌, ◌≤◌, ◌+◌, ◌<◌, All, length, map, string_bytes, take, true, IfOk};
 ghost use Rattle.std.specs.List.{sum_by};
@@ -124,7 +124,7 @@ fn texts_of(alloc: Global, n: usize, bytes: &[u8]) -> Result<Vec<String>, AllocE
 }
 
 impl Image {
-    /// What is known of each image.
+    /// The facts that are true of each image.
     pub fn facts(&self)
         ensures sound { Sound (image_data self.now) }
         ensures facts { Facts (image_data self.now) }

@@ -1,4 +1,4 @@
-//! From an image to its one spelling in the second form.
+//! Writes an image in its one spelling in the second form.
 
 ghost use Rattle.std.specs.Prelude.{◌≡◌, ◌++◌, ◌∷◌, [], All, IfOk, Ok};
 ghost use Rattle.std.specs.Result.{OnOk};
@@ -133,8 +133,8 @@ fn bytes_of(image: &Image) -> Result<Vec<u8>, AllocError>
 }
 
 impl Image {
-    /// The one spelling of the image in the second form, as docs/FORMATS.md, Image, has it; read
-    /// again it is the same image.
+    /// The one spelling of the image in the second form, as docs/FORMATS.md, Image, has it. Reading
+    /// it gives the same image.
     pub fn write(&self) -> Result<Vec<u8>, AllocError>
         ensures exact { IfOk result (λ v. v.items ≡ spelling (image_data self.now)) }
         ensures spells { IfOk result (λ v. Spells (image_data self.now) v.items) }

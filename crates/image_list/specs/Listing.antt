@@ -6,7 +6,7 @@ use Rattle.region_check.specs.declared.Region.{Region}
 use Rattle.image_format.specs.Loners.{loners}
 use Rattle.image_format.specs.ImageData.{ImageData, ImageTask, ImageLine, bit, rights_number}
 
--- a whole number, from 0 on
+-- a natural number
 abbrev pub whole : ℕ → Data
 whole n = number (unsigned n)
 

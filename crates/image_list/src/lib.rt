@@ -1,4 +1,4 @@
-//! What an image says, as one line of JSON.
+//! The contents of an image, as one line of JSON.
 #![tactic(auto)]
 
 ghost use Rattle.std.specs.Prelude.{◌≡◌, ◌≤◌, ◌<◌, IfOk, filter, length, map, string_bytes, vec_items};
@@ -17,7 +17,7 @@ use region_check::{Region, Rights, alone};
 use serde_json::{Value, json};
 use std::alloc::{AllocError, Global};
 
-/// The value where it has, else 0.
+/// The value if the right is there, otherwise 0.
 fn bit(has: bool, value: u8) -> u8
     ensures value { result ≡ bit has value }
     ensures most { result ≤ value }
@@ -84,7 +84,7 @@ fn names_of(alloc: Global, image: &Image, i: usize) -> Result<Vec<Value>, AllocE
     name_values(alloc, names.as_slice())
 }
 
-/// 1 for a task that runs at the start, else 0.
+/// 1 for a task that runs from the start, otherwise 0.
 fn start_of(image: &Image, i: usize) -> u8
     requires { i < length (image_data image.now).tasks }
     ensures { result ≡ bit (task_in (image_data image.now) i).started 1 }
@@ -166,7 +166,7 @@ fn is_alone_beside(tasks: &[Vec<Region>], i: usize, j: usize) -> bool
     }
 }
 
-/// Whether task i shares nothing with another one, where these are the regions of each.
+/// Whether task i shares nothing with another task. `tasks` has the regions of each task.
 fn is_loner(tasks: &[Vec<Region>], i: usize) -> bool
     requires { i < length tasks.now }
     ensures { result ≡ is_loner (map vec_items tasks.now) i }
@@ -179,8 +179,8 @@ fn is_loner(tasks: &[Vec<Region>], i: usize) -> bool
     true
 }
 
-/// The indices of the tasks that share nothing with another one, ascending, where these are the
-/// regions of each.
+/// The indices of the tasks that share nothing with another one, ascending. `tasks` has the regions
+/// of each task.
 fn loners_among(alloc: Global, tasks: &[Vec<Region>]) -> Result<Vec<usize>, AllocError>
     ensures { IfOk result (λ v. v.items ≡ filter (is_loner (map vec_items tasks.now))
         (range_with_len 0 (length tasks.now))) }
@@ -235,7 +235,7 @@ fn image_value(alloc: Global, image: &Image) -> Result<Value, AllocError>
 ///
 /// # Errors
 ///
-/// `AllocError` where memory ran out.
+/// `AllocError` if memory ran out.
 pub fn list(alloc: Global, image: &Image) -> Result<String, AllocError>
     ensures { IfOk result (λ s. string_bytes s ≡ compact_text
         (listed_object (image_data image.now))) }

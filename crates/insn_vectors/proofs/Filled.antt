@@ -1,4 +1,4 @@
--- Bytes put into a memory, one after another.
+-- Bytes that are written into a memory one after another.
 use Rattle.std.proofs.Common.{◌≡◌, ℕ, zero, suc, ◌+◌, ◌<◌, ◌≤◌, List, [], ◌∷◌, length, get_or, drop, arith, refl}
 use Rattle.insn_vectors.specs.Flat.{Banks, with_byte, with_bytes}
 

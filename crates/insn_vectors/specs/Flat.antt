@@ -9,24 +9,24 @@ unfoldable pub first_bad : List Region → ℕ → ℕ → Right → Option ℕ
 first_bad regions a zero right = None
 first_bad regions a (suc n) right = if may_use regions right a then first_bad regions (a + 1) n right else Some a
 
--- the byte at an address: 0 outside flash and RAM
+-- the byte at an address, or 0 outside flash and RAM
 abbrev pub byte_at : List ℕ → List ℕ → ℕ → ℕ
 byte_at flash ram a = if nat_le (2 ^ 29) a then slice_index ram (a - 2 ^ 29) else (if nat_le (2 ^ 27) a then slice_index flash (a - 2 ^ 27) else 0)
 
--- n bytes as a number, the lowest first
+-- n bytes as a number, the low byte first
 unfoldable pub number_of : List ℕ → List ℕ → ℕ → ℕ → ℕ
 number_of flash ram a zero = 0
 number_of flash ram a (suc n) = byte_at flash ram a + 256 * number_of flash ram (a + 1) n
 
--- the byte of the RAM at an address
+-- the byte of the RAM at an address, or 0 outside the RAM
 abbrev pub ram_at : List ℕ → ℕ → ℕ
 ram_at ram a = if nat_le (2 ^ 29) a then slice_index ram (a - 2 ^ 29) else 0
 
--- the RAM after a store of n bytes: those that lie in it are new
+-- the RAM after a store of n bytes: of these, the ones in the RAM are new
 abbrev pub IsStored : List ℕ → ℕ → ℕ → ℕ → List ℕ → Type 0
 IsStored old a n v new = (k : ℕ) → ram_at new k ≡ (if nat_le a k && nat_lt k (a + n) && nat_le (2 ^ 29) k && nat_lt k (2 ^ 29 + length old) then v / 256 ^ (k - a) % 256 else ram_at old k)
 
--- the RAM after one byte
+-- the RAM after a store of one byte
 abbrev pub IsPut : List ℕ → ℕ → ℕ → List ℕ → Type 0
 IsPut old a v new = (k : ℕ) → ram_at new k ≡ (if nat_eq k a && nat_le (2 ^ 29) k && nat_lt k (2 ^ 29 + length old) then v else ram_at old k)
 
@@ -35,7 +35,7 @@ pub record Banks : Type 0 where
   pub flash : List ℕ
   pub ram : List ℕ
 
--- a byte is put at an address, into flash or RAM, or nowhere
+-- a byte is written at an address, into flash or RAM; outside both nothing changes
 abbrev pub flash_with : List ℕ → ℕ → ℕ → List ℕ
 flash_with flash a v = if nat_le (2 ^ 27) a && nat_lt a (2 ^ 27 + length flash) && nat_lt a (2 ^ 29) then slice_set flash (a - 2 ^ 27) v else flash
 

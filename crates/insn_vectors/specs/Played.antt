@@ -1,4 +1,4 @@
--- What a case wants of the instruction at PC.
+-- What a case requires of the instruction at PC.
 use Rattle.insn_vectors.specs.Flat.{first_bad, number_of, IsStored, Banks, with_half, with_bytes, zeros, flash_region, ram_region}
 use Rattle.insn_vectors.specs.declared.case.Case.{Case}
 use Rattle.insn_vectors.specs.declared.memory.Memory.{Memory}
@@ -9,7 +9,7 @@ use Rattle.thumb_exec.specs.declared.cpu.Cpu.{Cpu}
 use Rattle.thumb_exec.specs.declared.cpu.Outcome.{Outcome}
 use Rattle.thumb_exec.specs.Fetch.{after, step_effect}
 
--- what a memory refuses, what it holds, and how it is after a store
+-- what a memory refuses, what it holds, and what it holds after a store
 abbrev pub refused_by : Memory → Refusals
 refused_by m = λ a n r. first_bad m.regions.items a n r
 
@@ -28,12 +28,12 @@ IsTaken m a t = t ≡ m
 abbrev pub banks_of : Memory → Banks
 banks_of m = record { flash = m.flash.items; ram = m.ram.items }
 
--- a code at an address, with its second halfword behind it, if it has one
+-- a code at an address; its second halfword, if it has one, is right after the first
 abbrev pub with_code : Banks → ℕ → ℕ → Option ℕ → Banks
 with_code m at first None = with_half m at first
 with_code m at first (Some second) = with_half (with_half m at first) (after at) second
 
--- before the instruction: the bytes that the case tells, its code at PC, and zeros
+-- the bytes before the instruction: those of the case, its code at PC, and zeros
 abbrev pub banks_before : Case → Banks
 banks_before case = with_code (with_bytes zeros case.bytes.items) (reg_at case.cpu.regs program_counter) case.first case.second
 
@@ -41,13 +41,13 @@ pub record IsBefore (case : Case) (m : Memory) : Type 0 where
   pub banks : banks_of m ≡ banks_before case
   pub regions : m.regions.items ≡ flash_region ∷ ram_region ∷ []
 
--- the registers, flags and outcome that the case wants, and every byte as it wants it
+-- the registers, the flags, the outcome and every byte of memory are as the case wants them
 pub record IsWanted (case : Case) (c : Cpu) (o : Outcome) (m : Memory) : Type 0 where
   pub cpu : c ≡ case.wanted
   pub outcome : o ≡ case.outcome
   pub banks : banks_of m ≡ with_bytes (banks_before case) case.wanted_bytes.items
 
--- what the instruction leaves, by its rows in the table, and whether that is what the case wants
+-- the state after the instruction, by the rows of the table, and whether it is what the case wants
 pub record Judges (case : Case) (passed : Bool) : Type 0 where
   pub before : Memory
   pub memory : Memory

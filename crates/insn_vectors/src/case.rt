@@ -1,27 +1,27 @@
-//! A case of the file, by the form that its head tells.
+//! Reads a case of the file. The head of the file describes the form.
 use kernel_abi::Fault;
 use std::alloc::{AllocError, Global};
 use thumb_exec::cpu::{Cpu, Outcome};
 use thumb_exec::lazy_flags::LazyFlags;
 use words_core::{Flags, PROGRAM_COUNTER, Regs};
 
-/// One instruction, what is before it and what is wanted after it.
+/// One instruction, the state before it and the state that is wanted after it.
 #[derive(Drop)]
 pub struct Case {
-    /// Its code, of one halfword or two.
+    /// The code of the instruction, of one halfword or two.
     pub first: u16,
     pub second: Option<u16>,
-    /// The processor before it.
+    /// The processor before the instruction.
     pub cpu: Cpu,
-    /// Bytes of the memory before it, with their addresses.
+    /// Bytes of memory before the instruction, with their addresses.
     pub bytes: Vec<(u32, u8)>,
     pub outcome: Outcome,
     pub wanted: Cpu,
-    /// The bytes that it is to write, with their addresses.
+    /// The bytes that the instruction has to write, with their addresses.
     pub wanted_bytes: Vec<(u32, u8)>,
 }
 
-/// The fields of a line, of which the bytes of memory are still texts.
+/// The fields of a line. The bytes of memory are still texts.
 #[derive(Drop)]
 struct Fields<'a> {
     first: u16,
@@ -47,7 +47,7 @@ fn digit(byte: u8) -> Option<u8> {
     }
 }
 
-/// The byte of two digits.
+/// The byte that two digits spell.
 fn byte(digits: &[u8]) -> Option<u8> {
     match digits {
         [high, low] => Some(digit(*high)?.wrapping_mul(16).wrapping_add(digit(*low)?)),
@@ -55,7 +55,7 @@ fn byte(digits: &[u8]) -> Option<u8> {
     }
 }
 
-/// An address, and the digits of the bytes from there on.
+/// An address, and the digits of the bytes from this address on.
 fn place(pair: &str) -> Option<(u32, &str)> {
     let (at, digits) = pair.split_once('=')?;
     Some((hex(at)?, digits))
@@ -76,8 +76,8 @@ fn push_pair(found: &mut Vec<(u32, u8)>, pair: &str) -> Result<bool, AllocError>
     Ok(true)
 }
 
-/// Adds the bytes of `address=bytes` pairs parted by commas, or none of `-`, and says whether the
-/// text is so.
+/// Adds the bytes of `address=bytes` pairs that are separated by commas; `-` means no pairs.
+/// Returns whether the text has this form.
 fn push_pairs(found: &mut Vec<(u32, u8)>, text: &str) -> Result<bool, AllocError> {
     if text == "-" {
         return Ok(true);
@@ -100,7 +100,7 @@ fn code(text: &str) -> Option<(u16, Option<u16>)> {
     }
 }
 
-/// The registers: fifteen parted by commas, and PC.
+/// The registers: fifteen, separated by commas, and PC.
 fn registers(text: &str, pc: u32) -> Option<Regs> {
     let mut regs = Regs::of([0; 16]);
     let mut count = 0usize;
@@ -147,7 +147,7 @@ fn change(regs: &mut Regs, text: &str) -> Option<()> {
     None
 }
 
-/// A processor after changes parted by commas, then `/` and the flags.
+/// The processor after changes that are separated by commas; then come `/` and the flags.
 fn changed(cpu: &Cpu, text: &str) -> Option<Cpu> {
     let (changes, nzcv) = text.split_once('/')?;
     let mut regs = cpu.regs;
@@ -173,7 +173,7 @@ fn fault_number(name: &str) -> Option<u8> {
     }
 }
 
-/// A fault: its name with x and perhaps y.
+/// A fault: its name with x, and with y if the fault has one.
 fn fault(text: &str) -> Option<Fault> {
     let (name, words) = text.split_once(':')?;
     let (x, y) = words.split_once(':').unwrap_or((words, "0"));
@@ -193,7 +193,7 @@ fn outcome(text: &str) -> Option<Outcome> {
     }
 }
 
-/// The first nine words of a line; those that it lacks are empty.
+/// The first nine words of a line. Missing ones are empty.
 fn words(line: &str) -> [&str; 9] {
     let mut words = [""; 9];
     let mut count = 0usize;
@@ -206,7 +206,7 @@ fn words(line: &str) -> [&str; 9] {
     words
 }
 
-/// The nine fields of a line, of which the first is a name.
+/// The fields of a line of nine words. The first word is a name.
 fn read_fields(line: &str) -> Option<Fields<'_>> {
     let [
         _,
@@ -236,7 +236,7 @@ fn read_fields(line: &str) -> Option<Fields<'_>> {
     })
 }
 
-/// The case that a line is.
+/// Reads a line as a case.
 pub(crate) fn read(alloc: Global, line: &str) -> Result<Option<Case>, AllocError> {
     let Some(fields) = read_fields(line) else {
         return Ok(None);

@@ -1,4 +1,5 @@
-//! Plays a file of single instructions, recorded elsewhere, and counts those that do the same here.
+//! Plays a file of single instructions that were recorded elsewhere, and counts those that have the
+//! same result here.
 #![tactic(auto)]
 
 mod case;
@@ -8,7 +9,7 @@ mod play;
 use std::alloc::{AllocError, Global};
 use std::{env, fs, io};
 
-/// Whether a line is no case: blank, or told after `#`.
+/// Whether a line is not a case: it is blank or begins with `#`.
 fn is_remark(line: &str) -> bool {
     line.is_empty() || line.starts_with('#')
 }
@@ -21,7 +22,7 @@ fn line_passes(alloc: Global, line: &str) -> Result<bool, AllocError> {
     }
 }
 
-/// Counts the cases that pass and those that fail, and tells the latter.
+/// Counts the cases that pass and those that fail, and prints the ones that fail.
 fn count(rt: &HostRuntime, text: &str) -> io::Result<(u64, u64)> {
     let (mut passed, mut failed) = (0_u64, 0_u64);
     for line in text.lines() {

@@ -1,4 +1,4 @@
-//! A flash and a RAM behind regions, as a bus.
+//! A bus with a flash and a RAM, and regions that say what a task may do with them.
 ghost use Rattle.std.specs.Prelude.{◌≡◌, ◌+◌, ◌<◌, ◌≤◌, ◌*◌, ◌^◌, ◌/◌, ◌%◌, length, replicate, ◌∷◌, [], IfOk};
 ghost use Rattle.insn_vectors.specs.Flat.{first_bad, byte_at, number_of, IsStored, IsPut, flash_with, ram_with, with_half, with_bytes, flash_region, ram_region};
 ghost use Rattle.insn_vectors.specs.Played.{banks_of, with_code};
@@ -31,8 +31,8 @@ fn first_bad(regions: &[Region], a: u32, n: u32, right: Right) -> Option<u32>
 }
 
 impl Memory {
-    /// Zeros: 64 KiB of flash, which may be read and executed, and 4 KiB of RAM, which may be read
-    /// and written.
+    /// A memory of zeros: 64 KiB of flash, which may be read and executed, and 4 KiB of RAM, which
+    /// may be read and written.
     pub fn new(alloc: Global) -> Result<Memory, AllocError>
         ensures flash { IfOk result (λ m. m.flash.items ≡ replicate 0x10000 0) }
         ensures ram { IfOk result (λ m. m.ram.items ≡ replicate 0x1000 0) }
@@ -71,7 +71,7 @@ impl Memory {
         })
     }
 
-    /// The byte at an address, 0 outside flash and RAM.
+    /// The byte at an address, or 0 outside flash and RAM.
     fn byte(&self, a: u32) -> u32
         ensures value { result ≡ byte_at self.now.flash.items self.now.ram.items a }
         ensures bound { result < 256 }
@@ -90,7 +90,7 @@ impl Memory {
         }
     }
 
-    /// Writes a byte of the RAM; elsewhere nothing.
+    /// Writes a byte of the RAM. Outside the RAM it does nothing.
     #[tactic(auto, using(crate::proofs::Stored::put_in, crate::proofs::Stored::put_out))]
     fn put(&mut self, a: u32, byte: u8)
         ensures put { IsPut self.old.ram.items a byte self.new.ram.items }
@@ -107,7 +107,7 @@ impl Memory {
         }
     }
 
-    /// Writes a byte of flash or RAM, whatever the rights; elsewhere nothing.
+    /// Writes a byte of flash or RAM, whatever the rights are. Outside both it does nothing.
     fn fill(&mut self, a: u32, byte: u8)
         ensures ram { self.new.ram.items ≡ ram_with self.old.ram.items a byte }
         ensures flash { self.new.flash.items ≡ flash_with self.old.flash.items a byte }
@@ -123,7 +123,7 @@ impl Memory {
         }
     }
 
-    /// Writes a halfword so, its low byte first.
+    /// Writes a halfword in the same way, its low byte first.
     fn fill_half(&mut self, a: u32, half: u16)
         ensures banks { banks_of self.new ≡ with_half (banks_of self.old) a half }
         ensures regions { self.new.regions ≡ self.old.regions }
@@ -132,7 +132,8 @@ impl Memory {
         self.fill(a.wrapping_add(1), (half / 256) as u8);
     }
 
-    /// Writes a code so, with its second halfword behind it, if it has one.
+    /// Writes a code in the same way. Its second halfword, if it has one, comes right after the
+    /// first.
     pub fn fill_code(&mut self, at: u32, first: u16, second: Option<u16>)
         ensures banks { banks_of self.new ≡ with_code (banks_of self.old) at first second }
         ensures regions { self.new.regions ≡ self.old.regions }
@@ -144,7 +145,7 @@ impl Memory {
         }
     }
 
-    /// Writes bytes so, each at its address, one after another.
+    /// Writes bytes in the same way, one after another, each at its address.
     pub fn fill_all(&mut self, bytes: &[(u32, u8)])
         ensures banks { banks_of self.new ≡ with_bytes (banks_of self.old) bytes.now }
         ensures regions { self.new.regions ≡ self.old.regions }
@@ -160,7 +161,9 @@ impl Bus for Memory {
 
     ghost holds = { λ s a n. number_of s.flash.items s.ram.items a n };
 
-    ghost stored = { λ s a n v t. IsStored s.ram.items a n v t.ram.items × (length t.ram.items ≡ length s.ram.items) × (t.flash ≡ s.flash) × (t.regions ≡ s.regions) };
+    ghost stored = { λ s a n v t. IsStored s.ram.items a n v t.ram.items
+        × (length t.ram.items ≡ length s.ram.items) × (t.flash ≡ s.flash)
+        × (t.regions ≡ s.regions) };
 
     ghost took = { λ s a t. t ≡ s };
 

@@ -1,4 +1,4 @@
-//! Whether the instruction of a case does what is wanted.
+//! Checks that the instruction of a case does what the case wants.
 ghost use Rattle.std.specs.Prelude.{◌≡◌, ◌%◌, ◌↔◌, IsTrue, IfOk, false};
 ghost use Rattle.words_core.specs.Regs.{reg_at, program_counter};
 ghost use Rattle.insn_vectors.specs.Played.{banks_of, banks_before, IsBefore, IsWanted, Judges};
@@ -41,7 +41,8 @@ fn is_same(memory: &Memory, wanted: &Memory) -> bool
     memory.flash == wanted.flash && memory.ram == wanted.ram
 }
 
-/// Whether an instruction left what the case wants, with these bytes of memory.
+/// Whether an instruction has the result that the case wants. `wanted` has the wanted bytes of
+/// memory.
 fn is_wanted(case: &Case, cpu: &Cpu, outcome: Outcome, memory: &Memory, wanted: &Memory) -> bool
     requires { banks_of wanted.now ≡ with_bytes (banks_before case.now)
         case.now.wanted_bytes.items }
@@ -53,8 +54,9 @@ fn is_wanted(case: &Case, cpu: &Cpu, outcome: Outcome, memory: &Memory, wanted: 
     is_same(memory, wanted)
 }
 
-/// Whether the instruction of a case, with the case's bytes in a memory of zeros, does just what is
-/// wanted, to registers, flags and every byte. With an odd PC none does.
+/// Whether the instruction of a case has exactly the wanted result in registers, flags and every
+/// byte of memory. Memory has the bytes of the case and is zero elsewhere. A case with an odd PC
+/// does not pass.
 pub fn passes(alloc: Global, case: &Case) -> Result<bool, AllocError>
     ensures judged { IfOk result (λ passed. reg_at case.now.cpu.regs program_counter % 2 ≡ 0 →
         Judges case.now passed) }

@@ -33,7 +33,7 @@ Received g k c best t x =
     (cond ((x.closed && not (eqb x.sender.number 0xFFFF)) && (is_out t.state x.sender.number || eqb (index_of x.sender.number) c)) (misused g c 2 t)
     (input_received c best t))))
 
--- whom a receive may hear is no misuse
+-- a sender that a receive may name is no misuse
 pub no_misuse : (s : State) (c : ℕ) (x : RecvArgs) (who : Sender) → IsSender s c x who → ((x.closed && not (eqb x.sender.number 0xFFFF)) && (is_out s x.sender.number || eqb (index_of x.sender.number) c)) ≡ false
 no_misuse s c x sender.Any h = rw h refl
 no_misuse s c x sender.Kernel h = rw (h.0, h.1) refl
@@ -72,12 +72,12 @@ Refreshed g k c t x =
     (cond (is_out t.state x.id.number) (misused g c 2 t)
     (goes_on_with c (present_id t.state (index_of x.id.number) ∷ []) t))
 
--- a recipient is no misuse
+-- a recipient that a send may name is no misuse
 pub is_other : (s : State) (c id : ℕ) (who : Recipient) → IsRecipient s c id who → (is_out s id || eqb (index_of id) c) ≡ false
 is_other s c id (recipient.Dead g) h = h.0
 is_other s c id (recipient.Live i) h = h.0
 
--- a number is that of a reason, or it is too high
+-- a number is that of a reason, or is too high
 pub bad_reason : (o : Option Reason) (n : ℕ) → MatchOption o (5 < n) (λ r. reason_number r ≡ n) → o ≡ None → ltb 5 n ≡ true
 bad_reason None n h e = lt-ltb 5 n h
 bad_reason (Some r) n h e = absurd (no_none e)
@@ -96,7 +96,7 @@ few_reasons AccessViolation = omega arith
 pub good_reason : (o : Option Reason) (n : ℕ) (r : Reason) → MatchOption o (5 < n) (λ x. reason_number x ≡ n) → o ≡ Some r → (ltb 5 n ≡ false) × (reason_number r ≡ n)
 good_reason o n r h e = let number : reason_number r ≡ n = rw e at h in (le-ltb 5 n (rw (← number) (few_reasons r)), number)
 
--- a call that is kept is there
+-- a call that the kernel keeps is an open call of the state
 pub kept_some : (o : Option Call) → is_some (option_map kept_call o) ≡ true → (k : Call) × (o ≡ Some k)
 kept_some None h = absurd (false≢true h)
 kept_some (Some k) h = (k, refl)

@@ -1,4 +1,4 @@
--- Whom a receive names, as the code answers it.
+-- The sender that a receive names, as the code answers it.
 use Rattle.std.specs.Prelude.{ℕ, ◌≡◌, ◌<◌, ◌%◌, true, false, ◌||◌, ◌==◌, Option, Some, None}
 use Rattle.kernel_abi.specs.Ids.{index_of}
 use Rattle.kernel_abi.specs.declared.arguments.RecvArgs.{RecvArgs}
@@ -8,7 +8,8 @@ use Rattle.task_table.specs.model.Rows.{asked}
 use Rattle.ipc_core.specs.declared.receiving.Sender.{Sender}
 use Rattle.ipc_core.specs.declared.receiving.Sender.TheVariants.{Any, Kernel, Dead, One}
 
--- a closed receive names the kernel; else a task that is there and not the caller, at an earlier birth or the present one
+-- a receive is open to any sender; or it is closed, to the kernel or to an existing task other than the caller, at
+-- an earlier birth or the present one
 abbrev pub IsSender : State → ℕ → RecvArgs → Sender → Type 0
 IsSender s c x Any = x.closed ≡ false
 IsSender s c x Kernel = (x.closed ≡ true) × ((x.sender.number == 0xFFFF) ≡ true)
@@ -23,12 +24,12 @@ IsSender s c x (One i) =
 abbrev pub AsksFor : State → ℕ → Sender → Type 0
 AsksFor s c sender = IsSender s c (asked s c) sender
 
--- or it names no other task
+-- the same, or the receive names the caller or no task
 abbrev pub IsNamed : State → ℕ → RecvArgs → Option Sender → Type 0
 IsNamed s c x (Some sender) = IsSender s c x sender
 IsNamed s c x None = (x.closed ≡ true) × ((x.sender.number == 0xFFFF) ≡ false) × ((is_out s x.sender.number || (index_of x.sender.number == c)) ≡ true)
 
--- the index of a live one is below n
+-- the index of a sender at its present birth is below n
 abbrev pub IsInside : ℕ → Sender → Type 0
 IsInside n Any = Unit {0}
 IsInside n Kernel = Unit {0}

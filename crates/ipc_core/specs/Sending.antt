@@ -1,4 +1,4 @@
--- What a send and a reply name, as the code answers it.
+-- The tasks that a send and a reply name, as the code answers it.
 use Rattle.std.specs.Prelude.{ℕ, ◌≡◌, ◌<◌, ◌%◌, true, false, ◌||◌, Option, Some, None, ◌==◌}
 use Rattle.std.specs.Option.{option_map}
 use Rattle.kernel_abi.specs.Ids.{index_of}
@@ -10,19 +10,19 @@ use Rattle.task_table.specs.declared.slot.OpenCall.{OpenCall}
 use Rattle.ipc_core.specs.declared.sending.Recipient.{Recipient}
 use Rattle.ipc_core.specs.declared.sending.Recipient.TheVariants.{Dead, Live}
 
--- an id names a task that is there and not the caller, at an earlier birth or the present one
+-- an id names an existing task other than the caller, at an earlier birth or the present one
 abbrev pub IsRecipient : State → ℕ → ℕ → Recipient → Type 0
 IsRecipient s c id (Dead g) =
     ((is_out s id || (index_of id == c)) ≡ false) × (is_dead s id ≡ true) × (g.number ≡ (task_at s (index_of id)).births % 64)
 IsRecipient s c id (Live i) =
     ((is_out s id || (index_of id == c)) ≡ false) × (is_dead s id ≡ false) × (i ≡ index_of id)
 
--- or it names none
+-- the same, or the id names the caller or no task
 abbrev pub IsRecipientOf : State → ℕ → ℕ → Option Recipient → Type 0
 IsRecipientOf s c id (Some recipient) = IsRecipient s c id recipient
 IsRecipientOf s c id None = (is_out s id || (index_of id == c)) ≡ true
 
--- the index of a live one is below n
+-- the index of a recipient at its present birth is below n
 abbrev pub IsAmong : ℕ → Recipient → Type 0
 IsAmong n (Dead g) = Unit {0}
 IsAmong n (Live i) = i < n

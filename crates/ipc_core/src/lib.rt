@@ -1,6 +1,6 @@
 #![tactic(auto)]
-//! Messages between tasks: the system calls SEND, RECV, REPLY and REPLY_FAULT, and those on ids
-//! alone, POST and REFRESH_TASK_ID (Hubris Reference, on IPC).
+//! Messages between tasks: the system calls SEND, RECV, REPLY and REPLY_FAULT, and those that work
+//! only on ids, POST and REFRESH_TASK_ID (Hubris Reference, on IPC).
 
 mod posting;
 mod range;

@@ -30,8 +30,8 @@ fn post_rows(k: &mut Kernel, caller: usize)
     }
 }
 
-/// POST: r4 is the id of a task, r5 the bits to post to it. r4 is 0 then, or the dead code where
-/// the id is that of an earlier birth; an id of no task is a misuse (Hubris Reference, on
+/// POST: r4 is the id of a task, r5 the bits to post to it. r4 becomes 0, or the dead code if the
+/// id is that of an earlier birth. An id of no task is a misuse (Hubris Reference, on
 /// notifications).
 pub fn post_call(k: &mut Kernel, caller: usize)
     requires { MayCall k.old caller }
@@ -57,8 +57,8 @@ fn refresh_rows(k: &mut Kernel, caller: usize)
     k.answer(caller, &[u32::from(id.number)]);
 }
 
-/// REFRESH_TASK_ID: r4 is an id of any birth of a task, and becomes that of the present one; an id
-/// of no task is a misuse (Hubris Reference, on task ids).
+/// REFRESH_TASK_ID: r4 is an id of any birth of a task, and becomes the id of its present birth. An
+/// id of no task is a misuse (Hubris Reference, on task ids).
 pub fn refresh(k: &mut Kernel, caller: usize)
     requires { MayCall k.old caller }
     ensures { Performs refreshed k.old caller k.new }

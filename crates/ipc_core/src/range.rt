@@ -1,4 +1,4 @@
-//! Slices, as a task hands them in.
+//! Slices, as a task passes them in registers.
 
 ghost use Rattle.std.specs.Prelude.{◌≡◌};
 ghost use Rattle.task_table.specs.model.Reading.{is_valid};

@@ -16,21 +16,21 @@ use kernel_abi::{Access, FromIndex, Generation, RecvArgs, TaskId, Usage, dead_co
 use region_check::Right;
 use task_table::{Found, Kernel};
 
-/// Whom a receive hears.
+/// Whose messages a receive accepts.
 #[derive(Clone, Copy)]
 enum Sender {
     /// Any task.
     Any,
-    /// The kernel alone.
+    /// Only the kernel.
     Kernel,
     /// An earlier birth of a task that is now at this generation.
     Dead(Generation),
-    /// The task with this index alone.
+    /// Only the task with this index.
     One(usize),
 }
 
-/// Row 2, and which of rows 4 to 7 it is: whom the caller's receive names; None where that is no
-/// other task.
+/// Row 2, and the choice between rows 4 to 7: the sender that the caller's receive names. None if
+/// it names the caller or no task.
 fn sender_of(k: &Kernel, caller: usize, args: &RecvArgs) -> Option<Sender>
     ensures named { (g : Setup) (t : Turn) → Holds g k.now t →
         IsNamed t.state caller args.now result }
@@ -52,7 +52,7 @@ fn sender_of(k: &Kernel, caller: usize, args: &RecvArgs) -> Option<Sender>
     }
 }
 
-/// Rows 6 and 7: the caller takes the call that a client offers to it; where there is none, it
+/// Rows 6 and 7: the caller takes the call that a client offers to it; if there is none, it
 /// listens.
 fn receive_or_listen(k: &mut Kernel, caller: usize, client: usize, from: FromIndex)
     requires there { caller < task_count k.old }
@@ -71,7 +71,7 @@ fn receive_or_listen(k: &mut Kernel, caller: usize, client: usize, from: FromInd
     }
 }
 
-/// Rows 4 to 7: a message, where no posted bit is under the mask.
+/// Rows 4 to 7: a message, if no posted bit is under the mask.
 fn receive_message(k: &mut Kernel, caller: usize, sender: Sender, best: Option<usize>)
     requires there { caller < task_count k.old }
     requires sender { IsInside (task_count k.old) sender }
@@ -95,7 +95,7 @@ fn receive_message(k: &mut Kernel, caller: usize, sender: Sender, best: Option<u
     }
 }
 
-/// Rows 3 to 7: the posted bits of the caller under its mask, where there are any, else a message.
+/// Rows 3 to 7: the posted bits of the caller under its mask, if there are any, else a message.
 fn receive_input(k: &mut Kernel, caller: usize, mask: u32, sender: Sender, best: Option<usize>)
     requires there { caller < task_count k.old }
     requires sender { IsInside (task_count k.old) sender }
@@ -137,9 +137,9 @@ fn recv_rows(k: &mut Kernel, caller: usize, best: Option<usize>)
     }
 }
 
-/// RECV: r4 and r5 are the buffer, r6 a mask of notifications; where bit 31 of r7 is set, the
-/// receive is closed to the sender whose id is in bits 15 to 0 (0xFFFF: to the kernel alone).
-/// Notifications under the mask come before messages; where there is neither, the caller listens
+/// RECV: r4 and r5 are the buffer, r6 a mask of notifications. If bit 31 of r7 is set, the receive
+/// is closed: it accepts only the sender whose id is in bits 15 to 0 (0xFFFF: only the kernel).
+/// Notifications under the mask come before messages. If there is neither, the caller listens
 /// (Hubris Reference, on RECV).
 ///
 /// `best` is the best sender to the caller.

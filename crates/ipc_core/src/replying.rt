@@ -17,7 +17,7 @@ use kernel_abi::{Access, Reason, ReplyArgs, Usage};
 use region_check::Right;
 use task_table::{Found, Kernel, OpenCall};
 
-/// REPLY, rows 3 and 4: the caller answers a call that it has taken, once the reply is checked.
+/// REPLY, rows 3 and 4: the reply is checked, and the caller answers a call that it has taken.
 fn reply_checked(k: &mut Kernel, caller: usize, client: usize, call: &OpenCall, args: &ReplyArgs)
     requires there { caller < task_count k.old }
     requires client { client < task_count k.old }
@@ -74,8 +74,8 @@ fn reply_rows(k: &mut Kernel, caller: usize)
 
 /// REPLY: r4 is the client's id, r5 the response code, r6 and r7 are the reply. The client gets the
 /// reply in its buffer, the code in r4 and the reply's length in r5. A client that does not await
-/// the caller's reply is left alone; a reply that is longer than the client's buffer is the
-/// caller's misuse (Hubris Reference, on REPLY).
+/// the caller's reply does not change. A reply that is longer than the client's buffer is a misuse
+/// by the caller (Hubris Reference, on REPLY).
 pub fn reply(k: &mut Kernel, caller: usize)
     requires { MayCall k.old caller }
     ensures { Performs replied k.old caller k.new }
@@ -118,8 +118,8 @@ fn reply_fault_rows(k: &mut Kernel, caller: usize)
 }
 
 /// REPLY_FAULT: r4 is the client's id, r5 the number of a reason, 0 to 5. The client faults, and
-/// the fault tells the caller's id and the reason. A client that does not await the caller's reply
-/// is left alone; another reason is the caller's misuse (Hubris Reference, on REPLY_FAULT).
+/// the fault has the caller's id and the reason. A client that does not await the caller's reply
+/// does not change. Any other reason is a misuse by the caller (Hubris Reference, on REPLY_FAULT).
 pub fn reply_fault(k: &mut Kernel, caller: usize)
     requires { MayCall k.old caller }
     ensures { Performs reply_faulted k.old caller k.new }

@@ -15,7 +15,7 @@ use kernel_abi::{Access, Generation, Range, SendArgs, TaskId, Usage, dead_code};
 use region_check::Right;
 use task_table::{Found, Kernel};
 
-/// The other task that a send names.
+/// The task that a send names, which is not the caller.
 #[derive(Clone, Copy)]
 enum Recipient {
     /// An earlier birth of a task that is now at this generation.
@@ -24,7 +24,7 @@ enum Recipient {
     Live(usize),
 }
 
-/// Row 1: which other task an id names; None where it names none.
+/// Row 1: the task that an id names. None if it names the caller or no task.
 fn recipient_of(k: &Kernel, caller: usize, id: TaskId) -> Option<Recipient>
     ensures named { (g : Setup) (t : Turn) → Holds g k.now t →
         IsRecipientOf t.state caller id.number result }
@@ -58,7 +58,7 @@ fn reaches_out(args: &SendArgs) -> bool
         || !is_valid_table(args.table, args.leases)
 }
 
-/// Rows 2 to 5: a caller that waits for nothing sends to another task, once its ranges are checked.
+/// Rows 2 to 5: the ranges are checked, and a caller that waits for nothing sends to another task.
 fn send_checked(k: &mut Kernel, caller: usize, recipient: Recipient, args: &SendArgs)
     requires there { caller < task_count k.old }
     requires recipient { IsAmong (task_count k.old) recipient }
@@ -104,9 +104,9 @@ fn send_rows(k: &mut Kernel, caller: usize)
 
 /// SEND: r4 has the recipient's id in bits 31 to 16 and the operation in bits 15 to 0, r5 and r6
 /// are the message, r7 and r8 the buffer for the reply, r9 and r10 the table of leases and their
-/// number. The caller waits for the reply; where the id is that of an earlier birth, r4 is the dead
-/// code and r5 is 0 at once. A recipient that is the caller or no task is a misuse, and so is a
-/// range that reaches beyond the address space (Hubris Reference, on SEND).
+/// number. The caller waits for the reply. If the id is that of an earlier birth, it does not wait:
+/// r4 is the dead code and r5 is 0. A recipient that is the caller or no task is a misuse, and so
+/// is a range that reaches beyond the address space (Hubris Reference, on SEND).
 pub fn send(k: &mut Kernel, caller: usize)
     requires may_call { MayCall k.old caller }
     requires number { next_call_of k.old + 1 < 2 ^ 32 }

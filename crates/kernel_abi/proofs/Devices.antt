@@ -1,4 +1,4 @@
--- Devices stay sane whatever comes to them.
+-- Devices stay sane after each load, store and byte from outside.
 use Rattle.std.proofs.Common.{◌≡◌, ℕ, zero, suc, ◌+◌, ◌%◌, ◌^◌, ◌<◌, ◌≤◌, ◌⊎◌, inl, inr, Bool, true, false, cond, List, [], ◌∷◌, ◌++◌, length, drop, Option, Some, None, refl, sym, ◌∙◌, subst, ap, arith, set, length-set}
 use Rattle.std.specs.Prelude.{Contains, nat_eq, nat_lt, option_map}
 use Rattle.std.proofs.lemmas.Bool.{ltb-true}

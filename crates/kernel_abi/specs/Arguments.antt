@@ -63,7 +63,7 @@ send_args registers = record {
   leases = register registers r10;
 }
 
--- RECV; bit 31 of r7 closes it
+-- RECV; it is closed if bit 31 of r7 is set
 abbrev pub recv_args : List ℕ → RecvArgs
 recv_args registers = record {
   buffer_base = register registers r4;
@@ -104,7 +104,7 @@ borrow_args registers = record {
 abbrev pub info_args : List ℕ → InfoArgs
 info_args registers = record { lender = low_id (register registers r4); lease = register registers r5 }
 
--- IRQ_CONTROL and IRQ_STATUS; bit 0 of r5 enables
+-- IRQ_CONTROL and IRQ_STATUS; for IRQ_CONTROL, bit 0 of r5 says whether to enable
 abbrev pub irq_args : List ℕ → IrqArgs
 irq_args registers = record { bits = register registers r4; enable = nat_eq (register registers r5 % 2) 1 }
 

@@ -1,4 +1,4 @@
--- Faults, and the numbers of what they tell. Each fault is its number, x and y.
+-- Faults, and the numbers of their details. A fault consists of its number, x and y.
 use Rattle.std.specs.Prelude.{ℕ, Bool, if◌then◌else◌}
 use Rattle.kernel_abi.specs.declared.Access.{Access}
 use Rattle.kernel_abi.specs.declared.Access.TheVariants.{Load, Store, KernelRead, KernelWrite}
@@ -44,7 +44,7 @@ illegal_fault address = record { number = 1; x = address; y = 0 }
 abbrev pub illegal_text_fault : ℕ → Fault
 illegal_text_fault address = record { number = 2; x = address; y = 0 }
 
--- by the number of the access
+-- the fault, from the number of the access
 abbrev pub access_fault_by : ℕ → ℕ → Fault
 access_fault_by address number = record { number = 3; x = address; y = number }
 
@@ -60,7 +60,7 @@ state_fault target = record { number = 5; x = target; y = 0 }
 abbrev pub breakpoint_fault : ℕ → Fault
 breakpoint_fault immediate = record { number = 6; x = immediate; y = 0 }
 
--- by the number of the misuse
+-- the fault, from the number of the misuse
 abbrev pub usage_fault_by : ℕ → Fault
 usage_fault_by number = record { number = 7; x = number; y = 0 }
 
@@ -73,7 +73,7 @@ panic_fault first second = record { number = 8; x = first; y = second }
 abbrev pub injected_fault : Fault
 injected_fault = record { number = 9; x = 0; y = 0 }
 
--- by the number of the server's id and of the reason
+-- the fault, from the number of the server's id and the number of the reason
 abbrev pub reply_fault_by : ℕ → ℕ → Fault
 reply_fault_by server reason = record { number = 10; x = server; y = reason }
 

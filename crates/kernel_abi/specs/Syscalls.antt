@@ -1,4 +1,4 @@
--- The numbers of the system calls: 0 to 8 are the Hubris Reference's, 9 to 13 this project's own.
+-- The numbers of the system calls. 0 to 8 are those of the Hubris Reference; this project added 9 to 13.
 use Rattle.std.specs.Prelude.{ℕ}
 use Rattle.kernel_abi.specs.declared.syscalls.Syscall.{Syscall}
 use Rattle.kernel_abi.specs.declared.syscalls.Syscall.TheVariants.{Send, Recv, Reply, SetTimer, BorrowRead, BorrowWrite, BorrowInfo, IrqControl, Panic, GetTimer, RefreshTaskId, Post, ReplyFault, IrqStatus}

@@ -1,8 +1,8 @@
-//! The arguments of system calls, read from the caller's registers r4 to r11 (Hubris Reference,
-//! on system calls; which register holds which argument is this project's own).
+//! The arguments of system calls, read from the caller's registers r4 to r11 (Hubris Reference, on
+//! system calls; this project chose which register holds which argument).
 //!
-//! Each `of` takes r4 to r11 in this order. Bits above 15 of a register that holds an id count for
-//! nothing, and no value is refused.
+//! Each `of` takes r4 to r11 in this order. It accepts every value. If a register holds only an id,
+//! its bits above 15 are ignored.
 
 ghost use Rattle.std.specs.Prelude.{◌≡◌, ◌+◌, ◌*◌, ◌/◌, ◌%◌, ◌<◌, ◌≤◌};
 ghost use Rattle.kernel_abi.specs.Arguments.{register, low_half, high_half, send_args, recv_args, reply_args, timer_args, borrow_args, info_args, irq_args, id_args};
@@ -32,7 +32,8 @@ fn high_half(word: u32) -> u16
     (word / 0x1_0000) as u16
 }
 
-/// SEND: to whom and what, the message, the buffer for the reply, and the lease table.
+/// SEND: the recipient and the operation, the message, the buffer for the reply, and the lease
+/// table.
 #[derive(Clone, Copy, PartialEq, Eq)]
 pub struct SendArgs {
     pub recipient: TaskId,
@@ -66,8 +67,8 @@ impl SendArgs {
     }
 }
 
-/// RECV: the buffer for a message, the notifications that may wake the caller, and, where it is
-/// closed, the one sender to hear.
+/// RECV: the buffer for a message, the notifications that may wake the caller, and, if the RECV is
+/// closed, the only sender whose messages it takes.
 #[derive(Clone, Copy, PartialEq, Eq)]
 pub struct RecvArgs {
     pub buffer_base: u32,
@@ -95,8 +96,8 @@ impl RecvArgs {
     }
 }
 
-/// REPLY: to whom, the response code and the reply. REPLY_FAULT: to whom, and as `code` the number
-/// of the reason.
+/// REPLY: the client, the response code and the reply. REPLY_FAULT: the client, and as `code` the
+/// number of the reason.
 #[derive(Clone, Copy, PartialEq, Eq)]
 pub struct ReplyArgs {
     pub client: TaskId,
@@ -130,7 +131,7 @@ pub struct TimerArgs {
 }
 
 impl TimerArgs {
-    /// Reads r4 to r7, of the deadline the low word first.
+    /// Reads r4 to r7. The low word of the deadline comes first.
     pub fn of(registers: &[u32; 8]) -> TimerArgs
         ensures { result ≡ timer_args registers.now }
     {
@@ -143,8 +144,8 @@ impl TimerArgs {
     }
 }
 
-/// BORROW_READ and BORROW_WRITE: whose lease and which, where in it to begin, and the caller's
-/// buffer.
+/// BORROW_READ and BORROW_WRITE: the lender, the index of the lease, the offset in the lease at
+/// which to begin, and the caller's buffer.
 #[derive(Clone, Copy, PartialEq, Eq)]
 pub struct BorrowArgs {
     pub lender: TaskId,
@@ -171,7 +172,7 @@ impl BorrowArgs {
     }
 }
 
-/// BORROW_INFO: whose lease and which.
+/// BORROW_INFO: the lender and the index of the lease.
 #[derive(Clone, Copy, PartialEq, Eq)]
 pub struct InfoArgs {
     pub lender: TaskId,
@@ -192,8 +193,8 @@ impl InfoArgs {
     }
 }
 
-/// IRQ_CONTROL and IRQ_STATUS: the notification of the caller's lines, and for IRQ_CONTROL whether
-/// to enable them.
+/// IRQ_CONTROL and IRQ_STATUS: the notification bits of the caller's interrupt lines, and for
+/// IRQ_CONTROL whether to enable these lines.
 #[derive(Clone, Copy, PartialEq, Eq)]
 pub struct IrqArgs {
     pub bits: u32,

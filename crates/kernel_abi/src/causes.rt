@@ -83,7 +83,7 @@ impl Fault {
         }
     }
 
-    /// The task's own PANIC, with its r4 and r5.
+    /// The task made the system call PANIC, with these values in r4 and r5.
     pub fn panic(r4: u32, r5: u32) -> Fault
         ensures { result ≡ panic_fault r4 r5 }
     {
@@ -94,7 +94,7 @@ impl Fault {
         }
     }
 
-    /// By the supervisor's kernel message.
+    /// The supervisor made the task fault, by a message to the kernel.
     pub fn injected() -> Fault
         ensures { result ≡ injected_fault }
     {
@@ -105,7 +105,7 @@ impl Fault {
         }
     }
 
-    /// By a server's REPLY_FAULT.
+    /// A server made its client fault, by REPLY_FAULT.
     pub fn reply_fault(server: TaskId, reason: Reason) -> Fault
         ensures { result ≡ reply_fault server reason }
     {

@@ -23,14 +23,14 @@ pub struct TaskId {
     pub number: u16,
 }
 
-/// How often a task was born again, modulo 64.
+/// How often a task was restarted, modulo 64.
 #[derive(Clone, Copy, Debug, PartialEq, Eq)]
 pub struct Generation {
     pub number: u8,
 }
 
 impl TaskId {
-    /// The id by which messages go to and come from the kernel.
+    /// The id of the kernel, as the recipient or the sender of a message.
     pub const KERNEL: u16 = 0xFFFF;
 
     /// The id that a register's low half holds.
@@ -40,7 +40,8 @@ impl TaskId {
         TaskId { number: id }
     }
 
-    /// The id of the task with this index at this generation, of which the low six bits count.
+    /// The id of the task with this index at this generation. Only the low six bits of the
+    /// generation are used.
     pub fn new(index: u16, generation: Generation) -> TaskId
         requires { index < 1024 }
         ensures { result.number ≡ id_of index generation.number }
@@ -50,7 +51,7 @@ impl TaskId {
         }
     }
 
-    /// Which task, below 1,024. It may be no task of the application.
+    /// The index of the task, below 1,024. The application may have no task with this index.
     pub fn index(&self) -> u16
         ensures value { result ≡ index_of self.now.number }
         ensures small { result < 1024 }
@@ -58,7 +59,7 @@ impl TaskId {
         self.number % 1024
     }
 
-    /// Which birth of the task, below 64.
+    /// The generation of the task, below 64.
     pub fn generation(&self) -> Generation
         ensures value { result.number ≡ generation_of self.now.number }
         ensures small { result.number < 64 }
@@ -69,15 +70,15 @@ impl TaskId {
     }
 }
 
-/// What a caller is answered in r4 for a dead id: the task's present generation under 24 set bits
-/// (Hubris Reference, on task ids).
+/// The dead code, which a caller that names a dead id gets in r4: bits 31..8 are set, and the low
+/// bits are the task's present generation (Hubris Reference, on task ids).
 pub fn dead_code(g: Generation) -> u32
     ensures { result ≡ dead_code_of g.number }
 {
     0xFFFF_FF00 + u32::from(g.number)
 }
 
-/// How a task misused a system call. The numbers are this project's own.
+/// How a task misused a system call. This project chose the numbers.
 #[derive(Clone, Copy, Debug, PartialEq, Eq)]
 pub enum Usage {
     BadCall,
@@ -124,7 +125,7 @@ pub enum Reason {
 }
 
 impl Reason {
-    /// The reason with this number, or None where it is above 5.
+    /// The reason with this number, or None if the number is above 5.
     pub fn of(value: u32) -> Option<Reason>
         ensures { MatchOption result (5 < value) (λ reason. reason_number reason ≡ value) }
     {
@@ -182,7 +183,7 @@ impl Access {
     }
 }
 
-/// Why a task stopped: a number from 1 to 10 and two words that the number gives a meaning.
+/// Why a task faulted: a number from 1 to 10, and two words. The number says what the words mean.
 #[derive(Clone, Copy, Debug, PartialEq, Eq)]
 pub struct Fault {
     pub number: u8,
@@ -190,7 +191,7 @@ pub struct Fault {
     pub y: u32,
 }
 
-/// How a task is.
+/// The health of a task.
 #[derive(Clone, Copy, Debug, PartialEq, Eq)]
 pub enum Health {
     Well,
@@ -198,14 +199,14 @@ pub enum Health {
     Faulted(Fault),
 }
 
-/// When a task is to be posted, in ticks from the start, and which bits.
+/// A timer: the time at which bits are posted to the task, in ticks from the start, and these bits.
 #[derive(Clone, Copy, Debug, PartialEq, Eq)]
 pub struct Timer {
     pub deadline: u64,
     pub bits: u32,
 }
 
-/// Bytes of the address space, none of them above its end.
+/// A range of bytes that lies in the address space of 2^32 bytes.
 #[derive(Clone, Copy, Debug, PartialEq, Eq)]
 pub struct Range {
     pub base: u32,
@@ -213,7 +214,7 @@ pub struct Range {
 }
 
 impl Range {
-    /// The range, or None where it is invalid: where base + len is above 2^32.
+    /// The range, or None if it is invalid, which means that base + len is above 2^32.
     #[inline]
     pub fn of(base: u32, len: u64) -> Option<Range>
         ensures valid { MatchOption result (2 ^ 32 < base + len) (λ _. base + len ≤ 2 ^ 32) }
@@ -263,11 +264,11 @@ pub enum Handled {
 /// Why an open call was closed.
 #[derive(Clone, Copy, PartialEq, Eq)]
 pub enum Ending {
-    /// By its server's REPLY.
+    /// Its server made a REPLY.
     Reply,
-    /// By its server's REPLY_FAULT.
+    /// Its server made a REPLY_FAULT.
     ReplyFault,
-    /// Its client faulted otherwise.
+    /// Its client faulted in another way.
     Client,
     /// Its client or its server was restarted.
     Restart,
@@ -276,11 +277,11 @@ pub enum Ending {
 /// Whose message a task listens for.
 #[derive(Clone, Copy, PartialEq, Eq)]
 pub enum FromIndex {
-    /// Any task's.
+    /// The message of any task.
     Any,
-    /// None: for notifications alone.
+    /// No message: the task listens only for notifications.
     Kernel,
-    /// That of the task with this index.
+    /// The message of the task with this index.
     One(u16),
 }
 
@@ -295,15 +296,15 @@ pub enum Borrow {
     Info,
 }
 
-/// What a device is: a console counts the bytes that are stored to it and gives them out, a port
-/// keeps the bytes that come from outside until they are loaded.
+/// The kind of a device. A console counts the bytes that are stored to it and gives them out. A
+/// port keeps the bytes that come from outside until they are loaded.
 #[derive(Clone, Copy, PartialEq, Eq)]
 pub enum Kind {
     Console,
     Port,
 }
 
-/// What came of a byte from outside: it stands in the queue now, the queue was full, or the device
+/// What happened to a byte from outside: it is in the queue now, the queue was full, or the device
 /// is no port.
 #[derive(Clone, Copy, PartialEq, Eq)]
 pub enum Fed {
@@ -319,7 +320,7 @@ pub struct Given {
     pub byte: u8,
 }
 
-/// A line of the trace without its turn. The last four are told with `--all` alone.
+/// A line of the trace without its turn. The last four are only told with `--all`.
 #[derive(Clone, Copy, PartialEq, Eq)]
 pub enum Note {
     /// The time rose to this.
@@ -331,7 +332,7 @@ pub enum Note {
         line: u8,
         handled: Handled,
     },
-    /// Bits were posted to a task, whose posted bits these were then, before it took any.
+    /// Bits were posted to a task. `posted` has all its posted bits after that, before it took any.
     Post {
         task: u16,
         bits: u32,
@@ -364,7 +365,7 @@ pub enum Note {
         from: FromIndex,
         mask: u32,
     },
-    /// An open call was taken by its server, to which so many bytes were copied.
+    /// A server took a call, and this many bytes were copied to it.
     Take {
         call: u32,
         copied: u32,
@@ -375,8 +376,8 @@ pub enum Note {
         client: u16,
         server: u16,
     },
-    /// The server of an open call used one of its leases, from an offset on, and so many bytes
-    /// moved.
+    /// The server of an open call used one of its leases, from an offset on, and this many bytes
+    /// were copied.
     Borrow {
         call: u32,
         borrow: Borrow,
@@ -384,12 +385,12 @@ pub enum Note {
         offset: u32,
         moved: u32,
     },
-    /// A task was born again; its generation from now on.
+    /// A task was restarted; its generation from now on.
     Restart {
         task: u16,
         generation: u8,
     },
-    /// A byte came from outside for a device; what came of it, or None where there is no such
+    /// A byte came from outside for a device; what happened to it, or None if there is no such
     /// device.
     In {
         device: u8,
@@ -401,20 +402,21 @@ pub enum Note {
         device: usize,
         byte: u8,
     },
-    /// A task asked how its interrupt lines with these bits are, and was answered so.
+    /// A task asked for the state of its interrupt lines with these notification bits, and got this
+    /// answer.
     IrqStatus {
         task: u16,
         bits: u32,
         status: u32,
     },
-    /// The supervisor asked for the first faulted task from an index on, and was answered this
-    /// index.
+    /// The supervisor asked for the first faulted task from an index on, and got this index as the
+    /// answer.
     Find {
         index: u16,
         found: u16,
     },
-    /// A task runs the instruction at an address, of one halfword or of two; the first of two is in
-    /// the high half.
+    /// A task runs the instruction at an address. It has one halfword or two; the first of two is
+    /// in the high half.
     Insn {
         task: u16,
         at: u32,
@@ -436,7 +438,7 @@ pub enum Note {
     },
 }
 
-// A list of fixed room is filled with it where nothing was noted.
+// A list of a fixed length has this note at the places where nothing was noted.
 impl Default for Note {
     ghost use Rattle.kernel_abi.specs.Notes.{blank_note};
 

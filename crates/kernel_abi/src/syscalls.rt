@@ -3,10 +3,10 @@
 ghost use Rattle.std.specs.Prelude.{◌≡◌, ◌<◌, MatchOption};
 ghost use Rattle.kernel_abi.specs.Syscalls.{syscall_number};
 
-/// The register that holds the number of a system call. Which one it is is this project's own.
+/// The register that holds the number of a system call. This project chose the register.
 pub const SYSCALL_SELECTOR: usize = 11;
 
-/// A system call: 0 to 8 are the Hubris Reference's numbers, 9 to 13 this project's own.
+/// A system call. The numbers 0 to 8 are those of the Hubris Reference; this project added 9 to 13.
 #[derive(Clone, Copy, PartialEq, Eq)]
 pub enum Syscall {
     Send,
@@ -26,7 +26,7 @@ pub enum Syscall {
 }
 
 impl Syscall {
-    /// The system call with this number, or None where none has it.
+    /// The system call with this number, or None if there is none.
     pub fn of(number: u32) -> Option<Syscall>
         ensures { MatchOption result (13 < number) (λ syscall. syscall_number syscall ≡ number) }
     {

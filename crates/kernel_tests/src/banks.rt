@@ -1,4 +1,5 @@
-//! Memory in banks: copies over the edges of regions, against a plain list.
+//! Tests memory in banks: copies over the edges of regions, compared with the same copies in a
+//! plain list.
 ghost use Rattle.std.specs.Prelude.{◌≡◌, ◌+◌, ◌<◌, ◌≤◌, length, IfOk};
 ghost use Rattle.mem_banks.specs.Memory.{AreRegions};
 
@@ -7,10 +8,10 @@ use std::alloc::{AllocError, Global};
 use std::test::Fail;
 use task_table::{Memory, RAM};
 
-/// How much RAM there is: five times 256 bytes.
+/// The bytes of RAM: five times 256.
 const SIZE: u32 = 1280;
 
-/// A memory of RAM alone, of which these are regions.
+/// A memory of RAM alone, with these regions.
 fn open(alloc: Global, regions: &[(u32, u32)]) -> Result<Memory, AllocError>
     requires { AreRegions 0 1280 regions.now }
     ensures { IfOk result (λ m. length m.bytes.ram ≡ 1280) }
@@ -18,7 +19,7 @@ fn open(alloc: Global, regions: &[(u32, u32)]) -> Result<Memory, AllocError>
     Memory::open(alloc, &[], SIZE, regions)
 }
 
-/// The byte at each place becomes the place's lowest one.
+/// Sets each byte of the RAM to the low byte of its place.
 fn fill(memory: &mut Memory)
     requires { length memory.old.bytes.ram ≡ 1280 }
     ensures { length memory.new.bytes.ram ≡ 1280 }
@@ -28,7 +29,7 @@ fn fill(memory: &mut Memory)
     }
 }
 
-/// The same bytes as a list.
+/// The same bytes in a list.
 fn filled() -> [u8; 1280] {
     let mut list = [0; 1280];
     for k in 0..1280usize {
@@ -37,7 +38,7 @@ fn filled() -> [u8; 1280] {
     list
 }
 
-/// Copies bytes of the RAM, by their places.
+/// Copies bytes of the RAM from one place to another.
 fn copy(memory: &mut Memory, from: u32, to: u32, count: u32)
     requires size { length memory.old.bytes.ram ≡ 1280 }
     requires source { from + count ≤ 1280 }
@@ -47,7 +48,7 @@ fn copy(memory: &mut Memory, from: u32, to: u32, count: u32)
     memory.copy(RAM + from, RAM + to, count);
 }
 
-/// Whether the RAM has the bytes of a list.
+/// Whether the RAM has the same bytes as a list.
 fn has(memory: &Memory, list: &[u8; 1280]) -> bool {
     for k in 0..1280usize {
         if memory.byte(RAM + k as u32) != list[k] {
@@ -57,7 +58,7 @@ fn has(memory: &Memory, list: &[u8; 1280]) -> bool {
     true
 }
 
-/// Whether a copy in the RAM leaves what it leaves in a list.
+/// Whether a copy in the RAM has the same result as in a list.
 fn copies(memory: &mut Memory, from: u32, to: u32, count: u32) -> bool
     requires size { length memory.old.bytes.ram ≡ 1280 }
     requires source { from + count ≤ 1280 }
@@ -72,8 +73,8 @@ fn copies(memory: &mut Memory, from: u32, to: u32, count: u32) -> bool
     has(memory, &list)
 }
 
-/// Whether a copy does so from and to each place that is at most four bytes from the given ones, in
-/// both directions.
+/// Whether this is true of the copies from and to each place that is at most four bytes away from
+/// the given ones, in both directions.
 fn copies_around(memory: &mut Memory, from: u32, to: u32, count: u32) -> bool
     requires size { length memory.old.bytes.ram ≡ 1280 }
     requires source { (4 ≤ from) × (from + count + 4 ≤ 1280) }
@@ -90,7 +91,8 @@ fn copies_around(memory: &mut Memory, from: u32, to: u32, count: u32) -> bool
     true
 }
 
-/// Whether copies of few bytes, of a bank, of more than one and of nearly all do so.
+/// Whether it is true of copies of a few bytes, of one bank, of more than one bank, and of nearly
+/// all bytes.
 fn copies_over_edges(memory: Memory) -> bool
     requires { length memory.bytes.ram ≡ 1280 }
 {
@@ -123,8 +125,9 @@ fn a_copy_over_three_regions(rt: HostRuntime) -> Result<(), Fail> {
     Ok(())
 }
 
-// One bank; two; five, each ending where the next begins; a shared region, which is one bank, and
-// stretches between; regions that do not begin at a page.
+// The memories have one bank; two banks; five banks, each ending where the next begins; a shared
+// region, which is one bank, with stretches between regions; and regions that do not begin at a
+// page.
 #[test]
 fn copies_over_the_edges_of_banks(rt: HostRuntime) -> Result<(), Fail> {
     let alloc = rt.alloc();

@@ -13,13 +13,13 @@ use std::alloc::{AllocError, Global};
 use std::process::Abort;
 use std::test::Fail;
 
-/// An image of one task with 256 bytes of flash, without these.
+/// The front of an image of one task with 256 bytes of flash. The bytes of the flash follow it.
 const HEAD: [u8; 44] = [
     0x48, 0x42, 0x49, 0x31, 1, 0, 1, 0, 0, 1, 0, 0, 0, 0, 0, 0, 1, 0, 0, 0, 0, 1, 1, 0, 1, 0, 0, 8,
     0, 0, 0, 0x20, 0, 0, 0, 8, 0, 1, 0, 0, 5, 0, 0, 0,
 ];
 
-// The image whose flash begins with `movs r0, #1` and this halfword, and a script.
+// A board of the image whose flash begins with `movs r0, #1` and this halfword, with a script.
 fn with_script(
     rt: &impl Abort,
     alloc: Global,
@@ -44,8 +44,8 @@ fn with_script(
     Board::open(alloc, &image, &script, Vec::new(alloc))
 }
 
-/// The turns and the time, whether the first note is of the first tick, how many notes there are,
-/// and whether the run ended.
+/// The turns, the time, whether the first note is that of the first tick, the number of notes, and
+/// why the run ended, if it did.
 type Shown = (u32, u64, bool, usize, Option<End>);
 
 fn shown(board: &Board) -> Shown
@@ -62,7 +62,7 @@ fn shown(board: &Board) -> Shown
     )
 }
 
-// Turns on end.
+// Makes turns one after another.
 fn advance(board: &mut Board, level: Level, limit: u32)
     requires left { turns_of board.old < limit }
     requires few { limit < 1000 }
@@ -73,7 +73,8 @@ fn advance(board: &mut Board, level: Level, limit: u32)
     board.advance(level, limit);
 }
 
-/// What a new board shows when it has made turns on end, at most 100, and the task's r0 and PC.
+/// What a new board shows after one call of `advance` with limit 100, and the task's r0 and PC
+/// then.
 fn after_turns(
     rt: &impl Abort,
     alloc: Global,
@@ -106,7 +107,7 @@ fn a_board_opens(rt: HostRuntime) -> Result<(), Fail> {
     Ok(())
 }
 
-// The first byte of the flash becomes another one, and the one beside it stays.
+// Sets the first byte of the flash. The byte after it stays.
 #[test]
 fn a_byte_is_set(rt: HostRuntime) -> Result<(), Fail> {
     let mut board = with_script(&rt, rt.alloc(), 0xe7fe, b"")?;
@@ -126,7 +127,8 @@ fn next_turns(rt: HostRuntime) -> Result<(), Fail> {
     Ok(())
 }
 
-// Quiet turns are made up to the limit, to an event or to a note; one by one where all is told.
+// Turns without notes are made in one go, up to the limit, an event or a note. With level `All` one
+// call makes one turn.
 #[test]
 fn turns_on_end(rt: HostRuntime) -> Result<(), Fail> {
     let alloc = rt.alloc();

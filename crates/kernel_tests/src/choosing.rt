@@ -6,7 +6,7 @@ use std::alloc::{AllocError, Global};
 use std::test::Fail;
 use task_table::{Kernel, TaskStart};
 
-/// A task with no bytes of its own.
+/// A task without regions.
 fn a_task(alloc: Global, priority: u8, started: bool) -> TaskStart
     ensures { result.regions.items ≡ [] }
 {
@@ -19,8 +19,9 @@ fn a_task(alloc: Global, priority: u8, started: bool) -> TaskStart
     }
 }
 
-/// A kernel of 512 tasks, with so many priority numbers in turn, of which those before the first
-/// one and each at such a gap are not started; this one is the current one.
+/// A kernel of 512 tasks. Their priority numbers go from 0 up to `numbers - 1`, again and again.
+/// The tasks before task `first` are not started, and neither is every `gap`-th task. Task
+/// `current` is the current one.
 fn many_tasks(
     alloc: Global,
     numbers: u16,
@@ -44,7 +45,7 @@ fn many_tasks(
     Ok(kernel)
 }
 
-/// Whether a priority number is lower than that of the task that was found.
+/// Whether a priority number is lower than that of the task that was found so far, if any.
 fn is_lower(number: u8, found: Option<(usize, u8)>) -> bool {
     match found {
         Some((_, lowest)) => number < lowest,
@@ -52,7 +53,7 @@ fn is_lower(number: u8, found: Option<(usize, u8)>) -> bool {
     }
 }
 
-/// The choice by a look at each task, from the current one on and around.
+/// The task that a look at each task chooses. It goes round once and begins with the current task.
 fn chosen_by_a_look_at_each(kernel: &Kernel) -> Option<usize> {
     let current = kernel.current();
     let count = kernel.task_count();

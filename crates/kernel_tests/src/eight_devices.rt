@@ -1,5 +1,5 @@
-//! Eight devices that a board was handed, four consoles and four ports in turn: what each gives out
-//! and what it has come to, after stores, bytes from outside and loads.
+//! Tests a board with eight devices, four consoles and four ports in turn: what each device gives
+//! out, and its state after stores, bytes from outside and loads.
 ghost use Rattle.std.specs.Prelude.{◌+◌, ◌≤◌};
 ghost use Rattle.board_core.specs.Data.{boxed};
 ghost use Rattle.board_core.specs.Stands.{StandsForSome, turns_of};
@@ -13,14 +13,15 @@ use std::alloc::{AllocError, Global};
 use std::process::Abort;
 use std::test::Fail;
 
-// An image of one task, which has all eight: 0x40000000 to 0x400007ff.
+// An image of one task, which has the region of all eight devices: 0x40000000 to 0x400007ff.
 const HEAD: [u8; 56] = [
     0x48, 0x42, 0x49, 0x31, 1, 0, 2, 0, 0, 1, 0, 0, 0, 0, 0, 0, 1, 0, 0, 0, 0, 1, 2, 0, 1, 0, 0, 8,
     0, 0, 0, 0, 0, 0, 0, 8, 0, 1, 0, 0, 5, 0, 0, 0, 0, 0, 0, 0x40, 0, 8, 0, 0, 11, 0, 0, 0,
 ];
 
-// A byte to the first console, 65, and from there on what the port behind the last one gave; that
-// byte once more; and so with each pair, up to a store behind the last device, which faults.
+// The program stores 65 to the first console, and to each later console the byte that it loaded
+// from the port before it. After each console it loads a byte from the next port and stores it to
+// the same console. At the end it stores past the last device, which faults.
 const CODE: [u8; 24] = [
     0x01, 0x21, 0x89, 0x07, 0x01, 0x22, 0x52, 0x02, 0x01, 0x23, 0x1b, 0x02, 0x41, 0x20, 0x08, 0x70,
     0xc8, 0x5c, 0x08, 0x70, 0x89, 0x18, 0xfa, 0xe7,
@@ -33,7 +34,8 @@ fn image(rt: &impl Abort, alloc: Global) -> Image {
     Image::read(alloc, &bytes).expect(rt, "the image is sound")
 }
 
-/// Whole turns, so many, and what is given out in them: by which device, and which byte.
+/// Makes this many whole turns, and returns what is given out in them: which device, and which
+/// byte.
 fn given_out(alloc: Global, board: &mut Board, turns: u32) -> Result<Vec<(usize, u8)>, AllocError>
     requires stood { StandsForSome (boxed shown) board.old }
     requires few { turns_of board.old + turns ≤ 1000 }
@@ -49,8 +51,8 @@ fn given_out(alloc: Global, board: &mut Board, turns: u32) -> Result<Vec<(usize,
     Ok(out)
 }
 
-/// Where a device is, how many bytes were stored to it, how many wait in it, and the first of them,
-/// if one waits.
+/// The base of a device, how many bytes were stored to it, how many wait in it, and the first of
+/// these, if any.
 type Told = (u32, u32, usize, Option<u8>);
 
 fn told(rt: &impl Abort, board: &Board, k: usize) -> Told {

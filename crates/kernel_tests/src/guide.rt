@@ -1,5 +1,5 @@
-//! The loop of docs/GUIDE.md, From a crate of one's own: whole turns of a board with a console, up
-//! to the end of the run.
+//! Tests the loop of docs/GUIDE.md, From a crate of one's own. It makes whole turns of a board with
+//! a console, up to the end of the run.
 ghost use Rattle.board_core.specs.Data.{boxed};
 ghost use Rattle.board_core.specs.Stands.{StandsForSome};
 
@@ -12,7 +12,8 @@ use std::alloc::{AllocError, Global};
 use std::process::Abort;
 use std::test::Fail;
 
-// An image of one task with 256 bytes of flash and a console, without these.
+// The front of an image of one task with 256 bytes of flash and a console. The bytes of the flash
+// follow it.
 const HEAD: [u8; 56] = [
     0x48, 0x42, 0x49, 0x31, 1, 0, 2, 0, 0, 1, 0, 0, 0, 0, 0, 0, 1, 0, 0, 0, 0, 1, 2, 0, 1, 0, 0, 8,
     0, 0, 0, 0, 0, 0, 0, 8, 0, 1, 0, 0, 5, 0, 0, 0, 0, 0, 0, 0x40, 0, 1, 0, 0, 11, 0, 0, 0,
@@ -32,7 +33,7 @@ fn image(rt: &impl Abort, alloc: Global) -> Image {
     Image::read(alloc, &bytes).expect(rt, "the image is sound")
 }
 
-/// What a turn gives out, and a dot for a tick.
+/// Appends what a turn gives out, and a dot for a tick.
 fn print(notes: &[Note], text: &mut Vec<u8>) -> Result<(), AllocError> {
     for note in notes {
         match note {
@@ -44,7 +45,7 @@ fn print(notes: &[Note], text: &mut Vec<u8>) -> Result<(), AllocError> {
     Ok(())
 }
 
-/// Where the PC was of what ran in each turn, and what the run gives out.
+/// The PC of the task that ran in each turn, and what the run gives out.
 fn play(alloc: Global, board: &mut Board) -> Result<(Vec<u32>, Vec<u8>), AllocError>
     requires { StandsForSome (boxed shown) board.old }
     ensures { StandsForSome (boxed shown) board.new }

@@ -1,6 +1,6 @@
-//! Tests of the kernel's crates over their public calls, with values from outside: what the text of
-//! no run shows. Receives, timers and who sends are stored runs (crates/stored_runs). Nothing else
-//! is here.
+//! Tests of the kernel's crates over their public calls, with values from outside. They test what
+//! the text of a run cannot show. Receives, timers and choices of senders are tested by stored runs
+//! (crates/stored_runs). Nothing else is here.
 #![tactic(auto)]
 
 #[cfg(test)]

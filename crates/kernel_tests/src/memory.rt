@@ -4,7 +4,7 @@ ghost use Rattle.mem_banks.specs.Memory.{IsWithinRam};
 use std::alloc::{AllocError, Global};
 use task_table::{Memory, RAM};
 
-/// A memory with these bytes of flash and so many zero bytes of RAM, of which no region is given.
+/// A memory with these bytes of flash and `ram` zero bytes of RAM, without regions.
 pub fn memory_of(alloc: Global, flash: &[u8], ram: u32) -> Result<Memory, AllocError>
     requires flash { length flash.now ≤ 1048576 }
     requires ram { ram ≤ 262144 }
@@ -14,7 +14,7 @@ pub fn memory_of(alloc: Global, flash: &[u8], ram: u32) -> Result<Memory, AllocE
     Memory::open(alloc, flash, ram, &[])
 }
 
-/// The same, where the whole RAM is given as a region.
+/// The same, with the whole RAM as one region.
 pub fn memory_with_ram(alloc: Global, flash: &[u8], ram: u32) -> Result<Memory, AllocError>
     requires flash { length flash.now ≤ 1048576 }
     requires some { 0 < ram }

@@ -59,7 +59,7 @@ fn memory_is_copied_from_flash(rt: HostRuntime) -> Result<(), Fail> {
     Ok(())
 }
 
-/// Both words of a RAM of eight bytes, of which six were copied from here to there.
+/// Both words of a RAM of eight bytes, after a copy of six bytes inside it.
 fn six_copied(alloc: Global, from: u32, to: u32) -> Result<[u32; 2], AllocError>
     requires from { from ≤ 2 }
     requires to { to ≤ 2 }
@@ -79,7 +79,8 @@ fn memory_is_copied_where_ranges_overlap(rt: HostRuntime) -> Result<(), Fail> {
     Ok(())
 }
 
-/// A kernel of two tasks, the second of which is not started, and of one owned line.
+/// A kernel with two tasks and one interrupt line that has an owner. The second task is not
+/// started.
 fn two_tasks(alloc: Global) -> Result<Kernel, AllocError>
     ensures { IfOk result (λ k. (task_count k ≡ 2) × (note_count k ≡ 0)
         × (length (memory_of k).ram ≡ 8)) }

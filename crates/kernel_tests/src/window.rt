@@ -1,11 +1,11 @@
-//! A window of four regions, or of fewer. That one of given regions is opened is a clause; that
-//! others are not is only tried here.
+//! Tests windows of four regions or fewer. A clause says that a window of the memory's regions is
+//! opened. That a window of other regions is not opened is only tested here.
 ghost use Rattle.std.specs.Prelude.{◌≡◌, ◌<◌, length, slice_set};
 
 use std::test::Fail;
 use task_table::{FLASH, Memory, RAM, WindowUser};
 
-/// Looks at the first byte of the code and of the second area, and writes over the first one of the
+/// Reads the first byte of the code and of the second area, and overwrites the first byte of the
 /// data and of both areas.
 #[derive(Drop)]
 pub struct Stamp {
@@ -15,7 +15,9 @@ pub struct Stamp {
 }
 
 impl WindowUser for Stamp {
-    ghost did = { λ old flash ram area second new after left second_left. (after ≡ slice_set ram 0 old.byte) × (left ≡ slice_set area 0 old.byte) × (second_left ≡ slice_set second 0 old.byte) };
+    ghost did = { λ old flash ram area second new after left second_left.
+        (after ≡ slice_set ram 0 old.byte) × (left ≡ slice_set area 0 old.byte)
+        × (second_left ≡ slice_set second 0 old.byte) };
 
     fn work(
         &mut self,
@@ -50,7 +52,8 @@ struct Sizes {
 }
 
 impl WindowUser for Sizes {
-    ghost did = { λ old flash ram area second new after left second_left. (new.flash ≡ length flash) × (new.ram ≡ length ram) × (new.area ≡ length area) × (new.second ≡ length second) };
+    ghost did = { λ old flash ram area second new after left second_left. (new.flash ≡ length flash)
+        × (new.ram ≡ length ram) × (new.area ≡ length area) × (new.second ≡ length second) };
 
     fn work(
         &mut self,
@@ -69,8 +72,8 @@ impl WindowUser for Sizes {
 // No region.
 const NONE: (u32, u32) = (RAM, 0);
 
-/// Whether a window of four regions is opened. What the stamp saw and wrote is right then, and else
-/// nothing is written.
+/// Whether a window of four regions is opened. None if the stamp read or wrote the wrong bytes in
+/// it, or if anything is written although no window is opened.
 fn is_lent(
     memory: &mut Memory,
     flash: (u32, u32),
@@ -110,7 +113,7 @@ fn is_lent(
     right.then_some(opened)
 }
 
-// Regions that share a page or begin at none.
+// Regions that share a page or do not begin at a page.
 const REGIONS: [(u32, u32); 5] = [
     (FLASH, 32),
     (FLASH + 32, 16),
@@ -119,8 +122,8 @@ const REGIONS: [(u32, u32); 5] = [
     (RAM + 64, 256),
 ];
 
-/// Whether each area is opened beside these, as the first one, as the second one, and beside each
-/// other one, just where no two of all are the same.
+/// Whether each area is opened with these two regions, as the first area, as the second one, and
+/// together with each other area, exactly if no two of the regions are the same.
 fn opens_each_area(memory: &mut Memory, flash: usize, ram: usize) -> bool
     requires flash { flash < 5 }
     requires ram { ram < 5 }
@@ -166,7 +169,8 @@ fn opens_each_area(memory: &mut Memory, flash: usize, ram: usize) -> bool
     true
 }
 
-/// Whether each two of them are opened, in each order, with no area, with one and with two.
+/// Whether each code and data region is opened with no area, with one and with two, exactly if no
+/// two of the regions are the same.
 fn opens_each_four(memory: &mut Memory) -> bool {
     for flash in 0..5usize {
         for ram in 2..5usize {
@@ -184,7 +188,7 @@ fn opens_each_four(memory: &mut Memory) -> bool {
     true
 }
 
-// Such as have no bank of their own are not opened.
+// Ranges that are not banks are not opened.
 #[test]
 fn regions_of_a_memory_are_opened(rt: HostRuntime) -> Result<(), Fail> {
     let mut memory = Memory::open(rt.alloc(), &[7; 64], 512, &REGIONS)?;
@@ -215,8 +219,8 @@ fn regions_of_a_memory_are_opened(rt: HostRuntime) -> Result<(), Fail> {
     Ok(())
 }
 
-// No bytes are beside it, also where the RAM begins with a region. An empty region elsewhere is
-// none.
+// A code region is opened alone, even if the RAM begins with a region. An empty region elsewhere is
+// not accepted as no region.
 #[test]
 fn a_text_alone_is_opened(rt: HostRuntime) -> Result<(), Fail> {
     let regions = [(FLASH, 32), (RAM, 8)];
@@ -246,8 +250,8 @@ fn a_text_alone_is_opened(rt: HostRuntime) -> Result<(), Fail> {
     Ok(())
 }
 
-// The second area of the first window is the data of the other one, and the first area of the first
-// one is its second.
+// The second area of the first window is the data of the second window, and the first area of the
+// first window is the second area of the second window.
 #[test]
 fn a_second_area_is_read_and_written(rt: HostRuntime) -> Result<(), Fail> {
     let mut memory = Memory::open(rt.alloc(), &[7; 64], 512, &REGIONS)?;

@@ -1,4 +1,4 @@
--- One more piece of a text of pieces that are numbered from 0 on.
+-- One more piece of a text whose pieces are numbered from 0 on.
 use Rattle.std.proofs.Common.{◌≡◌, ℕ, ◌+◌, List, [], ◌∷◌, ◌++◌, ◌∙◌, ap, sym, arith}
 use Rattle.std.specs.List.{flat_map, range_with_len, sum_by}
 use Rattle.std.proofs.lemmas.List.{flat_map_more, map-id}

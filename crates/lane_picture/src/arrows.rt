@@ -20,7 +20,7 @@ fn way_class(way: ArrowKind) -> &'static str
     }
 }
 
-/// Where an arrow begins: on the side of its lane that is the nearer one to the other's.
+/// Where an arrow begins: on the side of its lane that faces the other lane.
 fn start_line(picture: &LanePicture<'_>, arrow: &Arrow) -> u64
     requires { IsBounded picture.now }
     ensures { result ≡ (if nat_lt arrow.now.from arrow.now.to then lane_bottom
@@ -34,7 +34,7 @@ fn start_line(picture: &LanePicture<'_>, arrow: &Arrow) -> u64
     }
 }
 
-/// Where it ends.
+/// Where an arrow ends: on the side of its lane that faces the other lane.
 fn end_line(picture: &LanePicture<'_>, arrow: &Arrow) -> u64
     requires { IsBounded picture.now }
     ensures { result ≡ (if nat_lt arrow.now.from arrow.now.to then lane_top (drawn_of picture.now)
@@ -67,7 +67,7 @@ fn push_arrow(picture: &LanePicture<'_>, arrow: &Arrow, out: &mut Vec<u8>) -> Re
     push_text("\"/>\n", out)
 }
 
-/// The arrows, where there are not too many.
+/// Pushes the arrows, unless there are too many.
 pub fn push_arrows(picture: &LanePicture<'_>, out: &mut Vec<u8>) -> Result<(), AllocError>
     requires { IsBounded picture.now }
     ensures { OnOk result (out.new.items ≡ out.old.items ++ arrows_text (drawn_of picture.now)) }

@@ -16,7 +16,7 @@ use std::alloc::{AllocError, Global};
 ///
 /// # Errors
 ///
-/// Only want of memory.
+/// Only if memory runs out.
 #[tactic(auto, unfolding(crate::specs::Drawing::drawing_text))]
 pub fn draw(alloc: Global, picture: &LanePicture<'_>) -> Result<Vec<u8>, AllocError>
     requires columns { length picture.now.outside.now ≤ 1200 }

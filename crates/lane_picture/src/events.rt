@@ -1,4 +1,4 @@
-//! What stands below the lanes: what befell tasks.
+//! The rows below the lanes: what happened to tasks.
 ghost use Rattle.std.specs.Prelude.{◌≡◌, ◌++◌, ◌+◌, ◌-◌, ◌<◌, codes, decimal, length};
 ghost use Rattle.std.specs.Result.{OnOk};
 ghost use Rattle.std.specs.List.{flat_map, range_with_len};
@@ -10,7 +10,7 @@ use crate::sizes::row_line;
 use crate::text::{push_decimal, push_escaped, push_text};
 use std::alloc::AllocError;
 
-// What stands before the words of a row.
+// Pushes the text before the words of a row.
 fn begin_row(
     picture: &LanePicture<'_>,
     j: u32,
@@ -29,7 +29,7 @@ fn begin_row(
     push_text("\">", out)
 }
 
-// What stands behind them.
+// Pushes the text after the words of a row.
 fn end_row(out: &mut Vec<u8>) -> Result<(), AllocError>
     ensures { OnOk result (out.new.items ≡ out.old.items ++ codes "</text>\n") }
 {
@@ -90,7 +90,7 @@ fn push_more(picture: &LanePicture<'_>, out: &mut Vec<u8>) -> Result<(), AllocEr
     end_row(out)
 }
 
-/// That there are none, or more.
+/// Pushes a row if there are no events, or more than the picture lists.
 fn push_rest(picture: &LanePicture<'_>, out: &mut Vec<u8>) -> Result<(), AllocError>
     requires { IsBounded picture.now }
     ensures { OnOk result (out.new.items ≡ out.old.items ++ rest_text (drawn_of picture.now)) }

@@ -1,21 +1,21 @@
-//! The lane of a task: its words, the boxes of what it does, and the marks of its faults and
+//! The lane of a task: its words, the boxes of its activities, and the marks of its faults and
 //! births.
 ghost use Rattle.std.specs.Prelude.{◌≡◌, ◌++◌, ◌<◌, ◌*◌, ◌≤◌};
 ghost use Rattle.std.specs.Result.{OnOk};
 ghost use Rattle.std.specs.List.{flat_map, range_with_len};
 ghost use Rattle.lane_picture.specs.Sizes.{IsBounded, columns, drawn_of, tasks};
-ghost use Rattle.lane_picture.specs.Drawing.{birth_box, fault_box, lane_text, marks_text, running, share_text, word_box, word_path, words_text};
+ghost use Rattle.lane_picture.specs.Drawing.{activity_box, activity_path, birth_box, fault_box, lane_text, marks_text, running, share_text, words_text};
 
 use crate::names::{push_calls_at, push_name};
 use crate::parts::LanePicture;
 use crate::sizes::{
-    cell_at, column_left, column_width, columns, lane_bottom, lane_height, lane_top, lane_words,
-    part, tasks, word_height,
+    activity_height, cell_at, column_left, column_width, columns, lane_bottom, lane_height,
+    lane_top, lane_words, part, tasks,
 };
 use crate::text::{push_box, push_box_or_none, push_decimal, push_text};
 use std::alloc::AllocError;
 
-/// In how many turns a task runs.
+/// The number of turns in which a task runs.
 fn running(picture: &LanePicture<'_>, i: u32) -> u64
     requires { IsBounded picture.now }
     ensures is { result ≡ running (drawn_of picture.now) i }
@@ -23,12 +23,12 @@ fn running(picture: &LanePicture<'_>, i: u32) -> u64
 {
     let mut turns = 0;
     for k in 0..columns(picture) {
-        turns += u64::from(cell_at(picture, k, i).words[0]);
+        turns += u64::from(cell_at(picture, k, i).turns[0]);
     }
     turns
 }
 
-/// Of how many turns that is.
+/// Pushes the share of these turns, in percent of all turns.
 fn push_share(runs: u64, turns: u32, out: &mut Vec<u8>) -> Result<(), AllocError>
     requires { runs ≤ 1200 * 4294967295 }
     ensures { OnOk result (out.new.items ≡ out.old.items ++ share_text runs turns) }
@@ -41,24 +41,25 @@ fn push_share(runs: u64, turns: u32, out: &mut Vec<u8>) -> Result<(), AllocError
     }
 }
 
-/// A word of a task in a column: its box stands on those of the words before it.
-fn push_word_box(
+/// Pushes the box of an activity of a task in a column. It is on top of the boxes of the activities
+/// before it.
+fn push_activity_box(
     picture: &LanePicture<'_>,
     i: u32,
-    word: usize,
+    activity: usize,
     k: u16,
     out: &mut Vec<u8>,
 ) -> Result<(), AllocError>
     requires bounded { IsBounded picture.now }
-    requires word { word < 7 }
+    requires activity { activity < 7 }
     ensures { OnOk result (out.new.items ≡ out.old.items
-        ++ word_box (drawn_of picture.now) i word k) }
+        ++ activity_box (drawn_of picture.now) i activity k) }
 {
     let cell = cell_at(picture, k, i);
-    let low = word_height(picture, &cell, word);
-    let high = word_height(picture, &cell, word + 1);
+    let low = activity_height(picture, &cell, activity);
+    let high = activity_height(picture, &cell, activity + 1);
     let left = column_left(picture, u32::from(k));
-    // a word ends within the lane, and not below where it begins
+    // the box of an activity ends within the lane, and not below its beginning
     let top = lane_bottom(picture, i).saturating_sub(high);
     push_box_or_none(
         left,
@@ -69,55 +70,59 @@ fn push_word_box(
     )
 }
 
-fn push_word_boxes(
+fn push_activity_boxes(
     picture: &LanePicture<'_>,
     i: u32,
-    word: usize,
+    activity: usize,
     out: &mut Vec<u8>,
 ) -> Result<(), AllocError>
     requires bounded { IsBounded picture.now }
-    requires word { word < 7 }
+    requires activity { activity < 7 }
     ensures { OnOk result (out.new.items ≡ out.old.items
-        ++ flat_map (word_box (drawn_of picture.now) i word)
+        ++ flat_map (activity_box (drawn_of picture.now) i activity)
         (range_with_len 0 (columns (drawn_of picture.now)))) }
 {
     for k in 0..columns(picture) {
-        push_word_box(picture, i, word, k, out)?;
+        push_activity_box(picture, i, activity, k, out)?;
     }
     Ok(())
 }
 
-#[tactic(auto, unfolding(crate::specs::Drawing::word_path))]
-fn push_word_path(
+#[tactic(auto, unfolding(crate::specs::Drawing::activity_path))]
+fn push_activity_path(
     picture: &LanePicture<'_>,
     i: u32,
-    word: usize,
+    activity: usize,
     out: &mut Vec<u8>,
 ) -> Result<(), AllocError>
     requires bounded { IsBounded picture.now }
-    requires word { word < 7 }
+    requires activity { activity < 7 }
     ensures { OnOk result (out.new.items ≡ out.old.items
-        ++ word_path (drawn_of picture.now) i word) }
+        ++ activity_path (drawn_of picture.now) i activity) }
 {
     push_text("<path class=\"a", out)?;
-    push_decimal(word as u64, out)?;
+    push_decimal(activity as u64, out)?;
     push_text("\" d=\"", out)?;
-    push_word_boxes(picture, i, word, out)?;
+    push_activity_boxes(picture, i, activity, out)?;
     push_text("\"/>\n", out)
 }
 
-fn push_word_paths(picture: &LanePicture<'_>, i: u32, out: &mut Vec<u8>) -> Result<(), AllocError>
+fn push_activity_paths(
+    picture: &LanePicture<'_>,
+    i: u32,
+    out: &mut Vec<u8>,
+) -> Result<(), AllocError>
     requires { IsBounded picture.now }
     ensures { OnOk result (out.new.items ≡ out.old.items
-        ++ flat_map (word_path (drawn_of picture.now) i) (range_with_len 0 7)) }
+        ++ flat_map (activity_path (drawn_of picture.now) i) (range_with_len 0 7)) }
 {
-    for word in 0..7 {
-        push_word_path(picture, i, word, out)?;
+    for activity in 0..7 {
+        push_activity_path(picture, i, activity, out)?;
     }
     Ok(())
 }
 
-/// A column in which a task faulted is marked over its lane.
+/// Pushes the mark of a column in which a task faulted, over its lane.
 fn push_fault_box(
     picture: &LanePicture<'_>,
     i: u32,
@@ -153,7 +158,7 @@ fn push_fault_boxes(picture: &LanePicture<'_>, i: u32, out: &mut Vec<u8>) -> Res
     Ok(())
 }
 
-/// A column in which a task was born is marked below its lane.
+/// Pushes the mark of a column in which a task was born, below its lane.
 fn push_birth_box(
     picture: &LanePicture<'_>,
     i: u32,
@@ -220,7 +225,7 @@ fn push_lane(picture: &LanePicture<'_>, i: u32, out: &mut Vec<u8>) -> Result<(),
     ensures { OnOk result (out.new.items ≡ out.old.items ++ lane_text (drawn_of picture.now) i) }
 {
     push_words(picture, i, out)?;
-    push_word_paths(picture, i, out)?;
+    push_activity_paths(picture, i, out)?;
     push_marks(picture, i, out)
 }
 

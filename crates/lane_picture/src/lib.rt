@@ -1,5 +1,5 @@
-//! A picture of lanes as SVG (docs/FORMATS.md, Picture), of what was counted before: what each of
-//! some tasks did in each column of turns, the arrows of calls, and what is told of them in words.
+//! A picture of lanes as SVG (docs/FORMATS.md, Picture), made from counts: what each task did in
+//! each column of turns, the arrows of calls, and some words about the tasks.
 #![tactic(auto)]
 
 mod arrows;

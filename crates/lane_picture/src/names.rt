@@ -1,4 +1,4 @@
-//! The name of a task, and what is told of its calls.
+//! The name of a task, and the words about its calls.
 ghost use Rattle.std.specs.Prelude.{◌≡◌, ◌++◌, ◌<◌};
 ghost use Rattle.std.specs.Result.{OnOk};
 ghost use Rattle.lane_picture.specs.Sizes.{drawn_of};
@@ -75,7 +75,7 @@ fn push_calls(
     }
 }
 
-/// The calls of a task.
+/// Pushes the words about the calls of a task.
 pub fn push_calls_at(picture: &LanePicture<'_>, i: u32, out: &mut Vec<u8>) -> Result<(), AllocError>
     ensures { OnOk result (out.new.items ≡ out.old.items
         ++ calls_text (drawn_of picture.now) (calls_at (drawn_of picture.now) i)) }

@@ -1,4 +1,4 @@
-//! What came from outside: a box a column, the highest where most came.
+//! What came from outside: a box for each column, the highest for the column with the most turns.
 ghost use Rattle.std.specs.Prelude.{◌≡◌, ◌++◌, slice_index_or};
 ghost use Rattle.std.specs.Result.{OnOk};
 ghost use Rattle.lane_picture.specs.Sizes.{IsBounded, drawn_of};

@@ -1,16 +1,16 @@
 //! What a picture is made of.
 
-/// A column of turns of a task: in how many of them it did each thing, in the order of the words
-/// (runs, ready, offers, awaits, listens, faulted, stopped), and whether it faulted and was born in
-/// one of them.
+/// A column of turns of a task. It has the number of turns of each activity, in the order runs,
+/// ready, offers, awaits, listens, faulted, stopped; and whether the task faulted or was born in
+/// one of the turns.
 #[derive(Clone, Copy)]
 pub struct Cell {
-    pub words: [u32; 7],
+    pub turns: [u32; 7],
     pub faulted: bool,
     pub born: bool,
 }
 
-/// A call that is open: its number, the index of its server, and the turn of the offer.
+/// An open call: its number, the index of its server, and the turn of the offer.
 #[derive(Clone, Copy)]
 pub struct AskedCall {
     pub call: u32,
@@ -18,8 +18,8 @@ pub struct AskedCall {
     pub since: u32,
 }
 
-/// A call that was closed: the index of its server, the turn of the offer, and how many turns it
-/// was open.
+/// A closed call: the index of its server, the turn of the offer, and the number of turns for which
+/// it was open.
 #[derive(Clone, Copy)]
 pub struct Longest {
     pub server: u16,
@@ -27,8 +27,8 @@ pub struct Longest {
     pub turns: u32,
 }
 
-/// The calls of a task: how many it offered, which one it has asked and is open, and the first of
-/// the longest of those that were closed.
+/// The calls of a task: how many it offered, which one is open, and the longest of the closed ones
+/// (the first one, if several are as long).
 #[derive(Clone, Copy)]
 pub struct TaskCalls {
     pub count: u64,
@@ -39,15 +39,15 @@ pub struct TaskCalls {
 /// What an arrow shows.
 #[derive(Clone, Copy)]
 pub enum ArrowKind {
-    /// A call, from the turn of its offer to that in which it was taken.
+    /// A call, from the turn of its offer to the turn in which it was taken.
     Call,
     /// A reply.
     Answer,
-    /// Another ending of a call than by a reply.
+    /// The end of a call without a reply.
     Break,
 }
 
-/// From a task in a turn to a task in a turn.
+/// An arrow from a task in a turn to a task in a turn.
 #[derive(Clone, Copy)]
 pub struct Arrow {
     pub way: ArrowKind,
@@ -67,18 +67,19 @@ pub struct LanePicture<'a> {
     pub ticks: u64,
     /// How many turns a column has.
     pub column_turns: u32,
-    /// Of the tasks.
+    /// The names of the tasks.
     pub names: &'a [String],
-    /// In how many turns something came from outside, of each column.
+    /// For each column, the number of turns in which something came from outside.
     pub outside: &'a [u32],
-    /// The cells of the tasks, of each column one behind the other.
+    /// The cells of all tasks, column after column.
     pub cells: &'a [Cell],
-    /// Of each task.
+    /// The calls of each task.
     pub calls: &'a [TaskCalls],
-    /// The first ones, or all.
+    /// All arrows, or the first ones; `all_arrows` is how many there are.
     pub arrows: &'a [Arrow],
     pub all_arrows: u64,
-    /// What befell tasks, in words: the first ones, or all.
+    /// What happened to tasks, in words: all events, or the first ones; `all_events` is how many
+    /// there are.
     pub events: &'a [String],
     pub all_events: u64,
 }

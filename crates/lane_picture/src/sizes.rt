@@ -1,10 +1,10 @@
-//! Where the parts of a picture lie.
+//! Where the parts of a picture are.
 ghost use Rattle.std.specs.Prelude.{◌≡◌, ◌+◌, ◌*◌, ◌^◌, ◌<◌, ◌≤◌, sum, take};
-ghost use Rattle.lane_picture.specs.Sizes.{IsBounded, cell_at, column_left, column_width, columns, drawn_of, lane_bottom, lane_height, lane_pitch, lane_top, lane_words, lanes_end, part, row_line, tasks, turn_left, word_height};
+ghost use Rattle.lane_picture.specs.Sizes.{IsBounded, activity_height, cell_at, column_left, column_width, columns, drawn_of, lane_bottom, lane_height, lane_pitch, lane_top, lane_words, lanes_end, part, row_line, tasks, turn_left};
 
 use crate::parts::{Cell, LanePicture};
 
-/// How much of a height or a width so many of all are.
+/// The part of a height or a width (`room`) for `some` out of `all`.
 pub fn part(room: u64, some: u64, all: u64) -> u64
     requires { room * some < 2 ^ 64 }
     ensures { result ≡ part room some all }
@@ -84,7 +84,7 @@ pub fn lane_bottom(picture: &LanePicture<'_>, i: u32) -> u64
     lane_top(picture, i) + lane_height(picture)
 }
 
-/// The line on which the words of a lane stand.
+/// The base line of the words of a lane.
 pub fn lane_words(picture: &LanePicture<'_>, i: u32) -> u64
     requires { IsBounded picture.now }
     ensures { result ≡ lane_words (drawn_of picture.now) i }
@@ -101,7 +101,7 @@ pub fn lanes_end(picture: &LanePicture<'_>) -> u64
     lane_top(picture, tasks(picture))
 }
 
-/// The line of a row below the lanes.
+/// The base line of a row below the lanes.
 pub fn row_line(picture: &LanePicture<'_>, j: u32) -> u64
     requires { IsBounded picture.now }
     ensures { result ≡ row_line (drawn_of picture.now) j }
@@ -110,7 +110,7 @@ pub fn row_line(picture: &LanePicture<'_>, j: u32) -> u64
 }
 
 const NO_CELL: Cell = Cell {
-    words: [0; 7],
+    turns: [0; 7],
     faulted: false,
     born: false,
 };
@@ -129,28 +129,28 @@ pub fn cell_at(picture: &LanePicture<'_>, k: u16, i: u32) -> Cell
     }
 }
 
-// The turns that the first words of a cell have.
-fn turns_before(cell: &Cell, word: usize) -> u64
-    requires { word ≤ 7 }
-    ensures is { result ≡ sum (take word cell.now.words) }
+// The number of turns of the first activities of a cell.
+fn turns_before(cell: &Cell, activity: usize) -> u64
+    requires { activity ≤ 7 }
+    ensures is { result ≡ sum (take activity cell.now.turns) }
     ensures below { result < 2 ^ 35 }
 {
     let mut total = 0;
-    for turns in &cell.words[..word] {
+    for turns in &cell.turns[..activity] {
         total += u64::from(*turns);
     }
     total
 }
 
-/// From the bottom of a lane up to where a word begins.
-pub fn word_height(picture: &LanePicture<'_>, cell: &Cell, word: usize) -> u64
+/// The height above the bottom of a lane at which the box of an activity begins.
+pub fn activity_height(picture: &LanePicture<'_>, cell: &Cell, activity: usize) -> u64
     requires bounded { IsBounded picture.now }
-    requires word { word ≤ 7 }
-    ensures { result ≡ word_height (drawn_of picture.now) cell.now word }
+    requires activity { activity ≤ 7 }
+    ensures { result ≡ activity_height (drawn_of picture.now) cell.now activity }
 {
     part(
         lane_height(picture),
-        turns_before(cell, word),
+        turns_before(cell, activity),
         turns_before(cell, 7),
     )
 }

@@ -1,4 +1,4 @@
-//! Pieces of text, each pushed behind what stands before it.
+//! Pieces of text. Each is appended to the text before it.
 ghost use Rattle.std.specs.Prelude.{◌≡◌, ◌++◌, decimal};
 ghost use Rattle.std.specs.Result.{OnOk};
 ghost use Rattle.lane_picture.specs.Drawing.{box_or_none, box_text, escape, escaped};
@@ -32,7 +32,7 @@ fn push_escape(byte: u8, out: &mut Vec<u8>) -> Result<(), AllocError>
     }
 }
 
-/// A text as XML has it.
+/// Pushes a text as XML writes it.
 pub fn push_escaped(text: &str, out: &mut Vec<u8>) -> Result<(), AllocError>
     ensures { OnOk result (out.new.items ≡ out.old.items ++ escaped text.now) }
 {
@@ -42,7 +42,7 @@ pub fn push_escaped(text: &str, out: &mut Vec<u8>) -> Result<(), AllocError>
     Ok(())
 }
 
-/// A box from a corner to the right, down and back.
+/// Pushes a box, from its top left corner to the right, down and back.
 #[tactic(auto, unfolding(crate::specs::Drawing::box_text))]
 pub fn push_box(
     x: u64,
@@ -66,7 +66,7 @@ pub fn push_box(
     push_text("z", out)
 }
 
-/// A box, or none where it has no height.
+/// Pushes a box, or nothing if it has no height.
 pub fn push_box_or_none(
     x: u64,
     y: u64,

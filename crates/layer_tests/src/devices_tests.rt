@@ -1,9 +1,9 @@
-//! A console and a port, over the calls of a device: what is shown, taken, counted and given out at
-//! which offset.
+//! Tests a console and a port over the calls of a device: what each shows, takes, counts and gives
+//! out at each offset.
 use devices::{Console, Device, Port};
 use kernel_abi::{Fed, Kind};
 
-/// A port at which the bytes 0, 1, 2, .. wait.
+/// A port in which the bytes 0, 1, 2, .. wait.
 fn port_of(bytes: u8) -> Port {
     let mut port = Port::new(0x4000_1000);
     for byte in 0..bytes {

@@ -1,5 +1,6 @@
-//! A source that is refused, and another in its place; sources at once and one by one. Images that
-//! are built are stored rows (crates/stored_runs).
+//! Tests the builder: a source that is refused and is then replaced by another one, and sources
+//! that are added all at once or one by one. The bytes of built images are tested by stored rows
+//! (crates/stored_runs).
 
 use app_toml::App;
 use image_build::{Builder, build};
@@ -21,7 +22,7 @@ stack = 64
 notifications = [\"fault\"]
 ";
 
-/// What stands before the zeros.
+/// The bytes of the image before the zeros at its end.
 const ONE_IMAGE: [u8; 74] = [
     0x48, 0x42, 0x49, 0x32, 1, 0, 0, 0, 2, 0, 0, 0, 0, 1, 0, 0, 0, 1, 0, 0, 1, 0, 0, 0, 6, 0, 0, 0,
     0, 1, 2, 1, 1, 0, 0, 8, 0x40, 0, 0, 0x20, 0, 0, 0, 8, 0, 1, 0, 0, 5, 0, 0, 0, 0, 0, 0, 0x20, 0,
@@ -44,8 +45,8 @@ fn a_refused_source_may_be_followed_by_another(rt: HostRuntime) {
     assert!(rt; bytes.as_slice().get(..74) == Some(ONE_IMAGE.as_slice()));
 }
 
-/// Three tasks; `note_last_go` is a notification of the third in every source, and one of its own
-/// in the second's.
+/// Three tasks. In every source `note_last_go` is a notification of the third task. In the second
+/// task's source it is a notification of the second task too.
 const THREE: &str = "[board]
 flash = 65536
 ram = 16384

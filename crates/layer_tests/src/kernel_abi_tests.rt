@@ -1,11 +1,12 @@
-//! Rows of the layouts and numbers, and what each call takes from which register.
+//! Tests the layouts and numbers of the kernel's interface, and which argument each call takes from
+//! which register.
 use kernel_abi::{
     Access, BorrowArgs, Fault, Generation, IdArgs, InfoArgs, IrqArgs, LeaseEntry, Note, Range,
     Reason, RecvArgs, ReplyArgs, SYSCALL_SELECTOR, SendArgs, Syscall, TaskId, TimerArgs, Usage,
     dead_code,
 };
 
-// Each register holds another number, so that no two can be confused.
+// Each register holds a different number, so that a test fails if two are swapped.
 const REGISTERS: [u32; 8] = [
     0x0402_0C05,
     0x5555_0001,
@@ -33,7 +34,7 @@ fn ids(rt: HostRuntime) {
     assert!(rt; found == (0x0C05, 5, 3, 1023, 63, 0xFFFF_FF01, 0xFFFF_FF3F));
 }
 
-/// A fault of any number.
+/// A fault with any number.
 fn fault(number: u8, x: u32, y: u32) -> Fault {
     Fault { number, x, y }
 }
@@ -143,7 +144,7 @@ fn syscalls(rt: HostRuntime) {
     assert!(rt; SYSCALL_SELECTOR == 11);
 }
 
-// The last word, and the whole address space.
+// The last word of the address space, and all of it.
 #[test]
 fn ranges(rt: HostRuntime) {
     let found = [

@@ -1,6 +1,7 @@
-//! Tests of the crates below the kernel, over public calls: files and sinks, the plain data of the
-//! kernel, devices, words, regions and scripts; lines, instructions, codes, the assembler and the
-//! lines of a trace; plans of memory, the builder and the large sample. Nothing else is here.
+//! Tests of the crates below the kernel, over public calls. They are about files and sinks, the
+//! plain data of the kernel, devices, words, regions and scripts; about lines, instructions, codes,
+//! the assembler and the lines of a trace; and about plans of memory, the builder and the large
+//! sample. Nothing else is here.
 #![tactic(auto)]
 
 #[cfg(test)]

@@ -1,5 +1,5 @@
-//! Plans that no application has; those of applications are stored rows (crates/stored_runs,
-//! data/plans.txt).
+//! Tests plans that no application has. Plans of applications are tested by stored rows
+//! (crates/stored_runs, data/plans.txt).
 
 use mem_plan::plan;
 use std::test::Fail;

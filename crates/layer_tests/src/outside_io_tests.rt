@@ -1,4 +1,5 @@
-//! Each maker and each call once with ample memory, and each way for a call to fail.
+//! Tests files and sinks: each constructor and each call once with enough memory, and each way in
+//! which a call can fail.
 ghost use Rattle.std.specs.Prelude.{◌≤◌, length};
 
 use outside_io::{Failed, Files, HostFiles, HostSink, MemFiles, MemSink, ReadAll, Sink, read_all};
@@ -28,7 +29,7 @@ fn letters(alloc: Global, fails: &[u64]) -> Result<MemFiles, AllocError> {
     one_file(alloc, fails, "a.img", b"abcde", 8)
 }
 
-// Whether these bytes, of which there are at most 9,000, are all that stand under the name.
+// Whether the file with this name has exactly these bytes. There are at most 9,000 of them.
 fn has<F: Files>(alloc: Global, files: &mut F, name: &str, bytes: &[u8]) -> bool {
     match read_all(alloc, files, name, bytes.len().min(9000)) {
         Ok(all) => all.as_slice() == bytes,
@@ -36,7 +37,7 @@ fn has<F: Files>(alloc: Global, files: &mut F, name: &str, bytes: &[u8]) -> bool
     }
 }
 
-/// What a read from a place on gives, and what the buffer holds then.
+/// What a read from `at` on returns, and what the buffer holds afterwards.
 fn read(files: &mut MemFiles, name: &str, at: u64) -> (Result<usize, Failed>, [u8; 3]) {
     let mut buf = *b"___";
     (files.read(name, at, &mut buf), buf)
@@ -64,7 +65,7 @@ fn reads_up_to_the_end(files: &mut MemFiles) -> bool {
     found == wanted
 }
 
-/// Whether the bytes are put, and whether "a.img" holds what is wanted then.
+/// Whether the put succeeds, and whether "a.img" holds the wanted bytes afterwards.
 fn put(
     alloc: Global,
     files: &mut MemFiles,
@@ -113,7 +114,7 @@ fn holds_nothing_at_first(rt: HostRuntime) -> Result<(), Fail> {
     Ok(())
 }
 
-/// Which of a read, a put, a read and a put succeed.
+/// Which of four calls succeed: a read, a put, a read and a put.
 fn four_calls(files: &mut MemFiles) -> [bool; 4] {
     let mut buf = [0u8; 8];
     [
@@ -140,7 +141,8 @@ fn fails_at_the_listed_calls(rt: HostRuntime) -> Result<(), Fail> {
     Ok(())
 }
 
-/// Calls 1 to 4, of which the last, at the end, fails; calls 5 to 7; call 8; one of another name.
+/// Reads with calls 1 to 4, of which the last one, at the end of the file, fails; then with calls 5
+/// to 7; then with call 8, which fails; then a file that does not exist.
 fn failures(alloc: Global, files: &mut MemFiles) -> [Option<ReadAll>; 4] {
     [
         read_all(alloc, files, "long", 9000).err(),
@@ -152,7 +154,7 @@ fn failures(alloc: Global, files: &mut MemFiles) -> [Option<ReadAll>; 4] {
 
 #[test]
 fn reads_all_within_the_limit(rt: HostRuntime) -> Result<(), Fail> {
-    // More than two of the pieces in which it reads.
+    // Longer than two of the pieces in which `read_all` reads.
     let long = [7u8; 9000];
     let mut files = one_file(rt.alloc(), &[4, 8], "long", &long, 9000)?;
     let failed = failures(rt.alloc(), &mut files);
@@ -167,7 +169,7 @@ fn reads_all_within_the_limit(rt: HostRuntime) -> Result<(), Fail> {
     Ok(())
 }
 
-/// Whether the piece is taken, and whether the text is as wanted then.
+/// What the push returns, and whether the sink has the wanted text afterwards.
 fn push(sink: &mut MemSink, piece: &[u8], text: &[u8]) -> (Result<(), Failed>, bool) {
     (sink.push(piece), sink.text() == text)
 }
@@ -244,7 +246,7 @@ fn puts_and_reads<F: Files>(alloc: Global, files: &mut F, name: &str) -> [bool; 
     ]
 }
 
-// Reads that go on, that go back and that are beyond the end, of the file that holds `abcde`.
+// Reads the file that holds `abcde`: forwards, back, and beyond its end.
 fn reads_anywhere<F: Files>(files: &mut F, name: &str) -> ([Result<usize, Failed>; 5], [u8; 3]) {
     let mut buf = *b"___";
     let counts = [

@@ -1,15 +1,16 @@
-//! Does the assembler read what an instruction's text says? Each code of one halfword that is an
-//! instruction, and many of two, are decoded, written as text at an address, and assembled there.
+//! Tests that the assembler reads the text of an instruction as that instruction. Each one-halfword
+//! code that is an instruction, and many two-halfword codes, are decoded, written as text at an
+//! address, and assembled there.
 use arrayvec::ArrayString;
 use std::alloc::Global;
 use thumb_asm::assemble;
 use thumb_decode::decode;
 use thumb_insn::{Decoded, Insn};
 
-/// Where the instructions stand: no branch leads below address 0.
+/// The address of the instructions. From here no branch leads below address 0.
 const AT: u32 = 0x0800_1000;
 
-/// How many texts gave their code, and how many did not.
+/// How many texts were assembled to their code, and how many were not.
 #[derive(Clone, Copy, PartialEq, Eq)]
 struct Count {
     same: u32,
@@ -26,7 +27,7 @@ impl Count {
     }
 }
 
-/// Is the text of an instruction assembled to these bytes?
+/// Whether the text of an instruction is assembled to these bytes.
 fn is_read(alloc: Global, insn: &Insn, bytes: &[u8]) -> bool {
     let mut text: ArrayString<64> = ArrayString::new();
     insn.text(AT, &mut text);
@@ -76,7 +77,7 @@ fn others(alloc: Global) -> Count {
     count
 }
 
-/// So many texts gave their code, and each of them.
+/// The count if all texts, `same` of them, were assembled to their code.
 fn all(same: u32) -> Count {
     Count { same, other: 0 }
 }

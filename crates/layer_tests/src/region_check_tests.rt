@@ -1,4 +1,4 @@
-//! Bytes and ranges at the edges of regions.
+//! Tests bytes and ranges at the edges of regions.
 use region_check::{Region, Right, Rights, first_lacking, is_size, may, may_range, one_gives};
 
 const fn region(base: u32, read_only: bool, execute: bool, device: bool) -> Region {
@@ -14,7 +14,7 @@ const fn region(base: u32, read_only: bool, execute: bool, device: bool) -> Regi
     }
 }
 
-// Flash, a gap, two regions that adjoin (the higher one first, and read-only), and a device.
+// Flash, a gap, two adjacent regions (the higher one comes first and is read-only), and a device.
 fn sample() -> [Region; 4] {
     [
         region(0x0800_0000, true, true, false),
@@ -52,7 +52,7 @@ fn adjoining_regions(rt: HostRuntime) {
     assert!(rt; found == [None, None, Some(0x2000_0200)]);
 }
 
-// Of the third range the first byte and the last one are permitted, and none between them is.
+// In the third range only the first and the last byte are permitted.
 #[test]
 fn gaps(rt: HostRuntime) {
     let regions = sample();
@@ -82,8 +82,8 @@ fn devices_and_nothing(rt: HostRuntime) {
     assert!(rt; found == [Some(0x4000_0000), None, None]);
 }
 
-// Over the end of a region to one that adjoins, without the right there, of a device, past the
-// flash, and in no region.
+// Accesses across the end of a region into an adjacent one, without the right there, to a device,
+// past the flash, and outside all regions.
 #[test]
 fn accesses(rt: HostRuntime) {
     let regions = sample();

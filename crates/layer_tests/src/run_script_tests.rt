@@ -1,5 +1,5 @@
-//! What no run shows of scripts: turns that none has. The order of events, how many there may be
-//! and what is refused are stored rows (crates/stored_runs).
+//! Tests what no run shows about scripts: turns that no run has. The order of events, the most
+//! events and refused scripts are tested by stored rows (crates/stored_runs).
 use run_script::{Event, Script};
 use std::test::Fail;
 

@@ -1,4 +1,4 @@
-//! The sample of seed 1, beside what its rules give by hand.
+//! Tests the sample of seed 1 against values that were worked out by hand from its rules.
 
 use run_script::Event;
 use sample_gen::sample;

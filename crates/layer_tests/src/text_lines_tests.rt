@@ -1,9 +1,9 @@
-//! Each call once, with what docs/FORMATS.md says of it.
+//! Tests each call once against docs/FORMATS.md.
 use text_lines::{Lines, hex_number, number};
 
 const SOURCE: &[u8] = b"movs r0, #1\r\n\nb here\rx\n\r\nlast\r";
 
-/// What comes of SOURCE, and that no line comes after the last.
+/// The lines of SOURCE; after the last one comes no other.
 const LINES: [Option<&[u8]>; 7] = [
     Some(b"movs r0, #1"),
     Some(b""),

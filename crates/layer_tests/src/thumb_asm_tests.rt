@@ -1,5 +1,5 @@
-//! What the refusal of a source says of itself. Sources that are assembled or refused are stored
-//! rows (crates/stored_runs).
+//! Tests the text of a refusal of a source. Sources that are assembled or refused are tested by
+//! stored rows (crates/stored_runs).
 
 use std::test::Fail;
 use thumb_asm::{AsmFault, Cause};

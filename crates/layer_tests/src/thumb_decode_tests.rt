@@ -1,5 +1,5 @@
-//! Codes with the texts and refusals that a second reading of the table of instructions has for
-//! them.
+//! Tests codes against the texts and refusals that a second reading of the table of instructions
+//! gives for them.
 use arrayvec::ArrayString;
 use thumb_decode::decode;
 use thumb_insn::Decoded;
@@ -130,7 +130,7 @@ c002 08000000 stm r0!, {r1}
 4b0f 08000002 ldr r3, 0x08000040
 ";
 
-/// Codes that no row of the table has.
+/// Codes that match no row of the table.
 const ILLEGAL: [(u16, Option<u16>); 31] = [
     (0xde00, None),
     (0x44ff, None),
@@ -165,7 +165,7 @@ const ILLEGAL: [(u16, Option<u16>); 31] = [
     (0xf000, Some(0x8000)),
 ];
 
-/// The text of what a code is, or why it is none.
+/// The text of the instruction of a code, or why the code is not an instruction.
 fn text(first: u16, second: Option<u16>, at: u32) -> ArrayString<64> {
     let mut out = ArrayString::new();
     match decode(first, second) {

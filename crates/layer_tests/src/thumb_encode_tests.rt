@@ -1,11 +1,12 @@
-//! The codes that LLVM 14's assembler (`llvm-mc -triple=thumbv6m-none-eabi`) gives for one text or
-//! more of each row of the table in docs/FORMATS.md, and what has no code.
+//! Tests against the codes of LLVM 14's assembler (`llvm-mc -triple=thumbv6m-none-eabi`), for at
+//! least one text of each row of the table in docs/FORMATS.md. It also tests instructions that have
+//! no code.
 use arrayvec::ArrayString;
 use thumb_decode::decode;
 use thumb_encode::{Fit, encode};
 use thumb_insn::{Code, Cond, Decoded, Insn, Reg};
 
-/// Where the instructions stand.
+/// The address of the instructions.
 const AT: u32 = 0x0800_1000;
 
 /// A code of one halfword or two, and the text for which LLVM gives it at AT.

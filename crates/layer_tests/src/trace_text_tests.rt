@@ -1,9 +1,9 @@
-//! A line of each note, and that the longest of each kind fits.
+//! Tests a line of each kind of note, and that the longest line of each kind fits.
 use arrayvec::ArrayString;
 use kernel_abi::{Borrow, Ending, Fault, Fed, FromIndex, Handled, Note};
 use trace_text::TurnLines;
 
-/// A turn, a note that it leaves, and what is told of it.
+/// A turn, a note of it, and the line of the note.
 struct Row {
     turn: u32,
     note: Note,
@@ -372,7 +372,7 @@ const NOTES: [Row; 41] = [
 
 const MOST: u32 = u32::MAX;
 
-/// The longest line of each kind, and how long it is.
+/// A note with the longest line of each kind, and the length of that line.
 const LONGEST: [(Note, usize); 20] = [
     (Note::Tick { now: u64::MAX }, 37),
     (

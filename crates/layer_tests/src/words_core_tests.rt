@@ -1,5 +1,5 @@
-//! What is expected was recorded from Unicorn 2.0.1 as a Cortex-M0, or is the manual's rule at an
-//! edge.
+//! Tests the functions on words, flags and registers. The expected values were recorded from
+//! Unicorn 2.0.1 as a Cortex-M0, or follow from the manual's rule for an edge case.
 use words_core::{Flags, Regs, add_with_carry, asr, extend, lsl, lsr, ror};
 
 /// Flags from four digits, N first.
@@ -53,8 +53,7 @@ enum Shift {
     Turn,
 }
 
-/// Which shift of which word by how much, with the carry before, and what comes of it with the
-/// carry.
+/// A shift, a word, the amount and the carry before it; then the result and the carry after it.
 const SHIFTS: [(Shift, u32, u8, bool, u32, bool); 32] = [
     (Shift::Left, 0xFFFF_FF82, 8, false, 0xFFFF_8200, true),
     (Shift::Left, 0xA902_5ADF, 31, true, 0x8000_0000, true),

@@ -1,4 +1,4 @@
--- Where borrowed bytes lie, and what moves where there are none.
+-- Where borrowed bytes lie, and what a move of no bytes does.
 use Rattle.std.proofs.Common.{◌≡◌, ◌+◌, ◌-◌, ◌*◌, ◌^◌, ◌≤◌, ℕ, Bool, true, false, cond, [], take, drop, None, Some, refl, sym, ◌∙◌, ap, leb}
 use Rattle.std.specs.Prelude.{Result, Ok, Err}
 use Rattle.kernel_abi.specs.declared.LeaseEntry.{LeaseEntry}
@@ -25,7 +25,7 @@ use Rattle.lease_core.specs.Loans.{way_of, IsBuffer, IsLeased, IsEntry, IsEntryA
 use Rattle.lease_core.specs.declared.way.Way.{Way}
 use Rattle.lease_core.specs.declared.way.Way.TheVariants as way
 
--- ## what may be copied lies in memory
+-- ## bytes that may be copied lie in memory
 
 pub leased_good : (w : Way) (g : Setup) (m : Memory) (i : ℕ) (r : Slice) → ArePlaced g m → bad_byte g i (way_of w).lender r ≡ None → IsLeased w m r.base r.len
 leased_good way.Read g m i r placed good = within-good g m i Read r placed good
@@ -66,7 +66,7 @@ moved_none way.Write g k t c leased own h = holds_none g k t (Lease c.number) ow
 
 -- ## the table of a taken call
 
--- it ends inside the address space
+-- the table ends inside the address space
 pub table_fits : (g : Setup) (s : State) (i j : ℕ) (k : Call) (call : OpenCall) → Sane g s → taken_by s i j ≡ Some k → kept_call k ≡ call → call.table + 12 * call.leases ≤ 2 ^ 32
 table_fits g s i j k call sane taken same =
     let fit = sane.steady.calls.fit k (found_call s i k (taken_call g s i j k sane taken).call) in
@@ -75,13 +75,13 @@ table_fits g s i j k call sane taken same =
     let leases : k.leases ≡ call.leases = ap (λ (x : OpenCall). x.leases) same in
     rw (← table, ← leases) ends
 
--- and it is a call of the lender
+-- and the call is one of the lender
 pub of_lender : (g : Setup) (s : State) (i j : ℕ) (k : Call) → Sane g s → taken_by s i j ≡ Some k → k.client.index ≡ i
 of_lender g s i j k sane taken = ap (λ (b : Birth). b.index) (taken_call g s i j k sane taken).client
 
 -- ## an entry
 
--- that from the address where it begins
+-- the entry by the address at which it begins
 pub entry_from : (g : Setup) (s : State) (i : ℕ) (k : Call) (table lease : ℕ) (r : Result LeaseEntry ℕ) → k.table ≡ table → IsEntryAt g s i (table + 12 * lease) r → IsEntry g s i k lease r
 unfolding grant
 entry_from g s i k table lease (Ok e) same h = rw (← same) at h

@@ -46,7 +46,7 @@ entry_good g way c x k i e t client listed good entry =
     let here : bad_byte g k.client.index Read (entry_range k x.lease) ≡ None = ap (λ j. bad_byte g j Read (entry_range k x.lease)) client ∙ good in
     rw (listed, here, ← entry) refl
 
--- ## the same for what gets of a lease
+-- ## the same for BORROW_INFO
 
 pub answered_invalid : (g : Setup) (c lease : ℕ) (k : Call) (i : ℕ) (e : LeaseEntry) (t : Turn) → k.client.index ≡ i → is_valid (lease_range e) ≡ false → grant_answered g c lease k e t ≡ uninformed c no_lease (misused g i 3 t)
 answered_invalid g c lease k i e t client invalid = rw (← client, invalid) refl
@@ -64,7 +64,7 @@ answered_good g c lease k i e t client listed good entry =
     let here : bad_byte g k.client.index Read (entry_range k lease) ≡ None = ap (λ j. bad_byte g j Read (entry_range k lease)) client ∙ good in
     rw (listed, here, ← entry) refl
 
--- ## the whole, by its arguments
+-- ## the whole system call, by its arguments
 
 abbrev pub Borrowed : Setup → Kernel → Way → ℕ → Turn → BorrowArgs → Type 0
 Borrowed g k way c t x =

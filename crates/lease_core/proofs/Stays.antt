@@ -17,7 +17,7 @@ use Rattle.lease_core.specs.Loans.{way_of, IsBuffer, IsLeased, WritesNone, IsHel
 use Rattle.lease_core.specs.declared.way.Way.{Way}
 use Rattle.lease_core.specs.declared.way.Way.TheVariants as way
 
--- ## what is clear of an entry does not meet it
+-- ## bytes that are clear of an entry do not overlap it
 
 and_false : (b : Bool) → (b && false) ≡ false
 and_false true = refl

@@ -1,4 +1,4 @@
--- A borrow went well only where no row of it applied but the last.
+-- A borrow went well only if its last row applied.
 use Rattle.std.proofs.Common.{◌≡◌, ◌<◌, ◌≤◌, ℕ, Bool, true, false, not, cond, List, [], ◌∷◌, length, Option, Some, None, refl, sym, subst, ◌∙◌, ap, arith, eqb, leb, ltb, get_or, bit_and, is_some, get_or-set_other}
 use Rattle.std.proofs.lemmas.Bool.{not-false}
 use Rattle.std.specs.Option.{option_map}
@@ -34,7 +34,7 @@ use Rattle.lease_core.specs.declared.borrowing.Loan.{Loan}
 use Rattle.lease_core.proofs.Leases.{leased_good, buffer_good, of_lender}
 use Rattle.lease_core.proofs.Stays.{clear_moved}
 
--- ## who faults is not ready
+-- ## a task that faults is not ready
 
 health-woken_by : (i j : ℕ) (lo : Option Listen) (t : Turn) → (task_at (woken_by i lo t).state j).health ≡ (task_at t.state j).health
 unfolding returned noted given bits_cleared
@@ -83,7 +83,7 @@ well_faulted fault e = cc
 faulted_ill : (g : Setup) (c : ℕ) (fault : Fault) (t : Turn) → c < length t.state.tasks → WentWell c (faulted g c fault t) → ⊥
 faulted_ill g c fault t inside well = well_faulted fault (sym (well-ready (faulted g c fault t).state c well.ready) ∙ health-faulted g c fault t inside)
 
--- ## who gets another code
+-- ## a borrower that gets another code
 
 fourth : (code : ℕ) (values registers : List ℕ) → 4 ≤ length registers → get_or (with_results (code ∷ values) registers) 4 0 ≡ code
 fourth code values [] many = absurd (omega arith)
@@ -115,19 +115,19 @@ module _ (g : Setup) where
       let after = sane-faulted i fault t h there low high in
       answered_ill c code values (faulted g i fault t) after (still h after inside) some few well
 
--- ## of the rows the last
+-- ## the last row
 
--- P: what is said of what a row leads to
+-- P: a property of the result of a row
 passed : (P : Turn → Type 0) (b : Bool) {u v : Turn} → P (cond b u v) → (P u → ⊥) → (b ≡ false) × P v
 passed P true p ill = absurd (ill p)
 passed P false p ill = (refl, p)
 
--- it went well, and wrote none of an entry that begins at an address
+-- the borrow went well, and wrote no byte of an entry that begins at an address
 abbrev pub Went : ℕ → ℕ → Turn → Type 0
 Went c base u = WentWell c u × WritesNone u.writes base 12
 
 module _ (g : Setup) (t : Turn) (h : Sane g t.state) where
-  -- the lender of a taken call is there
+  -- the lender of a taken call exists
   client_there : (i j : ℕ) (k : Call) → taken_by t.state i j ≡ Some k → k.client.index < length t.state.tasks
   client_there i j k taken =
       let fit = h.steady.calls.fit k (found_call t.state i k (taken_call g t.state i j k h taken).call) in
@@ -203,7 +203,7 @@ module _ (g : Setup) (t : Turn) (h : Sane g t.state) where
       let r2 = passed P (is_dead t.state y.lender.number) r1.1 (λ p. answered_ill g c _ (0 ∷ 0 ∷ []) t h inside (omega arith) (omega arith) p) in
       subst (λ (z : InfoArgs). (is_out t.state z.lender.number ≡ false) × (is_dead t.state z.lender.number ≡ false) × WentWell c (informed_by g c z.lease (taken_by t.state (index_of z.lender.number) c) t)) (sym same) (r1.0, r2.0, r2.1)
 
--- the call that was found is the one that is kept
+-- the call that was found is the one that the kernel keeps
 pub kept_is : (o : Option Call) (k : Call) (kept : OpenCall) → o ≡ Some k → Some kept ≡ option_map kept_call o → kept_call k ≡ kept
 kept_is o k kept is found = let e : Some kept ≡ Some (kept_call k) = rw is at found in some_is e
   where

@@ -18,7 +18,7 @@ use crate::way::Way;
 use kernel_abi::{Access, Borrow, BorrowArgs, LeaseEntry, Note, Usage, dead_code};
 use task_table::{Found, Kernel, OpenCall, Slice};
 
-/// A borrow of a lease: which way and by which arguments, who borrows from whom, and the number of
+/// A borrow of a lease: its way and its arguments, the borrower and the lender, and the number of
 /// the lender's call.
 #[derive(Clone, Copy)]
 struct Loan {
@@ -29,7 +29,7 @@ struct Loan {
     call: u32,
 }
 
-/// A borrower gets a code, and that nothing moved.
+/// A borrower gets a code and the count 0, since nothing moved.
 fn refuse(k: &mut Kernel, borrower: usize, code: u32)
     requires there { borrower < task_count k.old }
     requires room { note_count k.old < turn_notes }
@@ -40,7 +40,7 @@ fn refuse(k: &mut Kernel, borrower: usize, code: u32)
     k.answer(borrower, &[code, 0]);
 }
 
-/// Row 8: `count` bytes of a loan, at least one, move. Those of the lease begin at `leased`.
+/// Row 8: moves `count` bytes of a loan, at least one. The bytes of the lease begin at `leased`.
 fn move_bytes(k: &mut Kernel, loan: &Loan, leased: u32, count: u32)
     requires some { 0 < count }
     requires leased { IsLeased loan.now.way (memory_of k.old) leased count }
@@ -58,7 +58,7 @@ fn move_bytes(k: &mut Kernel, loan: &Loan, leased: u32, count: u32)
     }
 }
 
-/// Row 8, the end: the borrow is noted, and the borrower gets how many bytes moved.
+/// Row 8, the end: the borrow is noted, and the borrower gets the number of bytes that moved.
 fn answer_lent(k: &mut Kernel, loan: &Loan, count: u32)
     requires there { loan.now.borrower < task_count k.old }
     requires room { note_count k.old + 2 ≤ turn_notes }
@@ -77,8 +77,8 @@ fn answer_lent(k: &mut Kernel, loan: &Loan, count: u32)
     k.answer(loan.borrower, &[0, count]);
 }
 
-/// Rows 7 and 8: `count` bytes of the lease from `leased` on, at least one, where the lender may
-/// lend them by its regions.
+/// Rows 7 and 8: moves `count` bytes of the lease from `leased` on, at least one, if the regions of
+/// the lender allow it.
 fn lend_bytes(k: &mut Kernel, loan: &Loan, leased: u32, count: u32)
     requires borrower { loan.now.borrower < task_count k.old }
     requires lender { loan.now.lender < task_count k.old }
@@ -102,8 +102,8 @@ fn lend_bytes(k: &mut Kernel, loan: &Loan, leased: u32, count: u32)
     answer_lent(k, loan, count);
 }
 
-/// Rows 7 and 8: as many bytes from the offset on as buffer and lease have, into or from a good
-/// buffer.
+/// Rows 7 and 8: moves as many bytes from the offset on as both the buffer and the lease have. The
+/// buffer has been checked.
 fn lend(k: &mut Kernel, loan: &Loan, entry: &LeaseEntry)
     requires borrower { loan.now.borrower < task_count k.old }
     requires lender { loan.now.lender < task_count k.old }
@@ -123,15 +123,15 @@ fn lend(k: &mut Kernel, loan: &Loan, entry: &LeaseEntry)
 {
     let count = loan.args.buffer_length.min(entry.len - loan.args.offset);
     if count == 0 {
-        // the lease may end with the address space, where no address is left
+        // no byte moves: the lease may end at the end of the address space, and then the offset
+        // gives no address
         answer_lent(k, loan, 0);
     } else {
         lend_bytes(k, loan, entry.base + loan.args.offset, count);
     }
 }
 
-/// Rows 6 to 8: a lease that allows the borrow and has the offset; the borrower's buffer is
-/// checked.
+/// Rows 6 to 8: the lease allows the borrow and has the offset. The borrower's buffer is checked.
 fn borrow_into(k: &mut Kernel, loan: &Loan, entry: &LeaseEntry)
     requires borrower { loan.now.borrower < task_count k.old }
     requires lender { loan.now.lender < task_count k.old }
@@ -246,9 +246,9 @@ fn borrow(k: &mut Kernel, caller: usize, way: Way)
 
 /// BORROW_READ: r4 is the id of the lender, r5 the lease, r6 an offset, r7 and r8 the caller's
 /// buffer. As many bytes of the lease from the offset on as the buffer has are copied into it. r4
-/// is 0 and r5 how many bytes moved; where the lender has no such lease for the caller, or faults
-/// by it, r4 is 1 and r5 is 0 (Hubris Reference, on leases). Where r4 is 0, the entry of the lease
-/// is kept from then on, unless one of its bytes was written.
+/// is 0 and r5 the number of bytes that moved. If the lender has no such lease for the caller, or
+/// faults by it, r4 is 1 and r5 is 0 (Hubris Reference, on leases). If r4 is 0, the entry of the
+/// lease is kept from then on, unless the borrow wrote one of its bytes.
 pub fn borrow_read(k: &mut Kernel, caller: usize)
     requires { MayCall k.old caller }
     ensures performs { Performs (λ g. borrowed g reading) k.old caller k.new }

@@ -20,8 +20,8 @@ pub(crate) fn is_lease_valid(entry: &LeaseEntry) -> bool
     kernel_abi::Range::of(entry.base, u64::from(entry.len)).is_some()
 }
 
-/// The entry of a lease of a call, or the first byte of it that the lender may not read, as memory
-/// has it. It is kept.
+/// Reads the entry of a lease of a call from memory, and keeps it. If the lender may not read it,
+/// returns the first byte that it may not read.
 fn read_entry(k: &mut Kernel, lender: usize, call: &OpenCall, lease: u32) -> Result<LeaseEntry, u32>
     requires there { lender < task_count k.old }
     requires listed { lease < call.now.leases }
@@ -48,7 +48,7 @@ fn read_entry(k: &mut Kernel, lender: usize, call: &OpenCall, lease: u32) -> Res
 }
 
 /// Row 3, first half: the entry of a lease of a call, or the first byte of it that the lender may
-/// not read. It is kept from then on, or was before.
+/// not read. After this the entry is kept.
 pub(crate) fn entry_of(
     k: &mut Kernel,
     lender: usize,

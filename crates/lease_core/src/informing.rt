@@ -17,7 +17,7 @@ use crate::entries::{entry_of, is_lease_valid};
 use kernel_abi::{Access, Borrow, InfoArgs, LeaseEntry, Note, Usage, dead_code};
 use task_table::{Found, Kernel, OpenCall};
 
-/// A caller gets a code, and nothing of a lease.
+/// A caller gets a code, and zeros instead of attributes and length.
 fn answer_nothing(k: &mut Kernel, caller: usize, code: u32)
     requires there { caller < task_count k.old }
     requires room { note_count k.old < turn_notes }
@@ -28,7 +28,7 @@ fn answer_nothing(k: &mut Kernel, caller: usize, code: u32)
     k.answer(caller, &[code, 0, 0]);
 }
 
-/// Rows 3 and 4: what a caller gets for a lease whose entry was read.
+/// Rows 3 and 4: the answer for a lease whose entry was read.
 fn inform_entry(
     k: &mut Kernel,
     caller: usize,
@@ -60,7 +60,7 @@ fn inform_entry(
     k.answer(caller, &[0, entry.attributes & 3, entry.len]);
 }
 
-/// Rows 2 to 4: what a caller gets for a lease of a call that it has taken.
+/// Rows 2 to 4: the answer for a lease of a call that the caller has taken.
 fn inform_of(k: &mut Kernel, caller: usize, lender: usize, call: &OpenCall, lease: u32)
     requires there { caller < task_count k.old }
     requires lender { lender < task_count k.old }
@@ -108,9 +108,9 @@ fn borrow_info_rows(k: &mut Kernel, caller: usize)
 }
 
 /// BORROW_INFO: r4 is the id of the lender, r5 the lease. r4 is 0, r5 its attributes (bit 0 lends
-/// for reading, bit 1 for writing) and r6 its length; where the lender has no such lease for the
-/// caller, or faults by it, r4 is 1 and r5 and r6 are 0 (Hubris Reference, on leases). Where r4 is
-/// 0, the entry of the lease is kept from then on.
+/// for reading, bit 1 for writing) and r6 its length. If the lender has no such lease for the
+/// caller, or faults by it, r4 is 1 and r5 and r6 are 0 (Hubris Reference, on leases). If r4 is 0,
+/// the entry of the lease is kept from then on.
 pub fn borrow_info(k: &mut Kernel, caller: usize)
     requires { MayCall k.old caller }
     ensures performs { Performs informed k.old caller k.new }

@@ -1,6 +1,6 @@
 #![tactic(auto)]
-//! Borrows of what a client has leased to its server: the system calls BORROW_READ, BORROW_WRITE
-//! and BORROW_INFO (Hubris Reference, on leases).
+//! Borrows of memory that a client has leased to its server: the system calls BORROW_READ,
+//! BORROW_WRITE and BORROW_INFO (Hubris Reference, on leases).
 
 mod borrowing;
 mod entries;

@@ -1,4 +1,4 @@
-//! Which way borrowed bytes move.
+//! The way in which borrowed bytes move.
 
 ghost use Rattle.std.specs.Prelude.{◌≡◌};
 ghost use Rattle.lease_core.specs.Loans.{way_of};
@@ -6,7 +6,7 @@ ghost use Rattle.lease_core.specs.Loans.{way_of};
 use kernel_abi::{Access, Borrow};
 use region_check::Right;
 
-/// Which way the bytes of a borrow move.
+/// The way in which the bytes of a borrow move.
 #[derive(Clone, Copy)]
 pub(crate) enum Way {
     /// From the lease into the borrower's buffer.
@@ -26,7 +26,7 @@ impl Way {
         }
     }
 
-    /// The right that the lender is to have to the bytes that it lends.
+    /// The right that the lender needs to the bytes that it lends.
     pub(crate) fn lender_right(self) -> Right
         ensures { result ≡ (way_of self).lender }
     {
@@ -36,7 +36,7 @@ impl Way {
         }
     }
 
-    /// The access by which the lender faults where it has no right.
+    /// The access that the lender's fault reports if it lacks the right.
     pub(crate) fn lender_access(self) -> Access
         ensures { result ≡ (way_of self).lender_access }
     {
@@ -46,7 +46,7 @@ impl Way {
         }
     }
 
-    /// The right that the borrower is to have to its buffer.
+    /// The right that the borrower needs to its buffer.
     pub(crate) fn own_right(self) -> Right
         ensures { result ≡ (way_of self).own }
     {
@@ -56,7 +56,7 @@ impl Way {
         }
     }
 
-    /// The access by which the borrower faults where it has no right.
+    /// The access that the borrower's fault reports if it lacks the right.
     pub(crate) fn own_access(self) -> Access
         ensures { result ≡ (way_of self).own_access }
     {
@@ -66,7 +66,7 @@ impl Way {
         }
     }
 
-    /// The bit of the attributes of a lease that allows it.
+    /// The bit of a lease's attributes that allows this way.
     pub(crate) fn bit(self) -> u32
         ensures { result ≡ (way_of self).bit }
     {

@@ -1,6 +1,6 @@
--- Banks that stand in the two parts of their list, from which one each is changed.
+-- A list of banks in two parts, of each of which one bank is changed.
 use Rattle.std.proofs.Common.{ℕ, ◌≡◌, ◌≢◌, ◌<◌, ◌-◌, ◌++◌, List, [], Option, Some, None, length, get_or, set, refl, ap, sym, subst, ◌∙◌, arith, length-take, length-drop}
-use Rattle.std.proofs.lemmas.List.{get_or_default, get_or-set_same, get_or-set_other, set-set, set_comm, get_or_append_left, get_or-append_right, set-append_left, set-append_right, length-append, length-set, same_lists, places, nil_from_length}
+use Rattle.std.proofs.lemmas.List.{get_or_default, get_or-set_same, get_or-set_other, set-set, set_comm, get_or_append_left, get_or-append_right, set-get_or, set-append_left, set-append_right, length-append, length-set, same_lists, places, nil_from_length}
 use Rattle.mem_banks.specs.declared.bank.Bank.{Bank}
 use Rattle.mem_banks.specs.Banks.{IsPut}
 use Rattle.mem_banks.specs.Windows.{Doing, AreOpened, AreOpenedBeside, AreAllOpened, AreTwo, bytes_in, IsPutIn}
@@ -171,6 +171,93 @@ second_by did old after final i j l k s s' e p q z left there is_p base other_i 
       second_put = two.1;
       third_put = three.1;
       fourth_put = put_back old three.0 after final k e p q z left there is_p base opened.second_size (then_beside k e old two.0 opened.two three.0 after (then_beside k e old one.0 opened.one two.0 opened.two one.2 two.2) three.2) is_q base_z bytes_z is_final;
+    }
+
+-- ## banks before those of the areas
+put_wider : (front back after : List Bank) (k o : ℕ) (new : List ℕ) → k < length front → IsPut front k o new after → IsPut (front ++ back) k o new (after ++ back)
+put_wider front back after k o new there (b, is, puts) = (
+  b,
+  ap (λ (xs : List Bank). xs ++ back) is ∙ sym (set-append_left front back k b there),
+  λ d. rw (get_or_append_left front back d k there) (puts d),
+)
+
+put_length : (old after : List Bank) (k o : ℕ) (new : List ℕ) → IsPut old k o new after → length after ≡ length old
+put_length old after k o new (b, is, puts) = ap (λ (xs : List Bank). length xs) is ∙ length-set old k b
+
+bytes_wider : (front back : List Bank) (k : ℕ) (d : Bank) → k < length front → bytes_in (front ++ back) (Some k) d ≡ bytes_in front (Some k) d
+bytes_wider front back k d there = ap (λ (b : Bank). b.bytes.items) (get_or_append_left front back d k there)
+
+opened_wider : {B : Type 0} (did : Doing B) (front back after : List Bank) (i j : ℕ) (area second left second_left : List ℕ) (s s' : B) → i < length front → j < length front → AreOpened did front i (Some j) area second s s' after left second_left → AreOpened did (front ++ back) i (Some j) area second s s' (after ++ back) left second_left
+opened_wider did front back after i j area second left second_left s s' there_i there_j opened =
+    let count = put_length front opened.between i 0 [] opened.first_put in
+    record {
+      after = opened.after;
+      work = λ d. rw (get_or_append_left front back d i there_i, bytes_wider front back j d there_j) (opened.work d);
+      size = λ d. opened.size d ∙ ap (λ (xs : List ℕ). length xs) (sym (bytes_wider front back j d there_j));
+      area_size = opened.area_size;
+      second_size = opened.second_size;
+      between = opened.between ++ back;
+      first_put = put_wider front back opened.between i 0 [] there_i opened.first_put;
+      second_put = put_wider opened.between back after j 0 opened.after (omega (arith, count, there_j)) opened.second_put;
+    }
+
+beside_wider : {B : Type 0} (did : Doing B) (front back after : List Bank) (i j k : ℕ) (second left : List ℕ) (s s' : B) → i < length front → j < length front → k < length front → AreOpenedBeside did front i (Some j) (Some k) second s s' after left → AreOpenedBeside did (front ++ back) i (Some j) (Some k) second s s' (after ++ back) left
+beside_wider did front back after i j k second left s s' there_i there_j there_k opened =
+    let count = put_length front opened.one i 0 [] opened.first_put in
+    let count_two = put_length opened.one opened.two j 0 opened.after opened.second_put in
+    record {
+      after = opened.after;
+      area_after = opened.area_after;
+      work = λ d. rw (get_or_append_left front back d i there_i, bytes_wider front back j d there_j, bytes_wider front back k d there_k) (opened.work d);
+      size = λ d. opened.size d ∙ ap (λ (xs : List ℕ). length xs) (sym (bytes_wider front back j d there_j));
+      area_size = λ d. opened.area_size d ∙ ap (λ (xs : List ℕ). length xs) (sym (bytes_wider front back k d there_k));
+      second_size = opened.second_size;
+      one = opened.one ++ back;
+      two = opened.two ++ back;
+      first_put = put_wider front back opened.one i 0 [] there_i opened.first_put;
+      second_put = put_wider opened.one back opened.two j 0 opened.after (omega (arith, count, there_j)) opened.second_put;
+      third_put = put_wider opened.two back after k 0 opened.area_after (omega (arith, count, count_two, there_k)) opened.third_put;
+    }
+
+-- the bank p behind them, and z with the bytes that were left of it
+pub three_by : {B : Type 0} (did : Doing B) (old front back after final : List Bank) (i j k : ℕ) (s s' : B) (p z : Bank) (left second second_left : List ℕ) → old ≡ front ++ back → length front ≡ k → k < length old → i < j → j < k → p ≡ get_or back 0 p → z.base ≡ p.base → z.bytes.items ≡ left → length after ≡ k → final ≡ after ++ set back 0 z →
+    AreOpened did front i (Some j) p.bytes.items second s s' after left second_left → AreOpenedBeside did old i (Some j) (Some k) second s s' final second_left
+three_by did old front back after final i j k s s' p z left second second_left split len there order behind is_p base bytes count is_final opened =
+    let at_p : p ≡ get_or old k p = is_p ∙ sym (get_back old front back k p split len) in
+    let same : set old k p ≡ front ++ back = ap (λ (b : Bank). set old k b) at_p ∙ set-get_or old k p ∙ split in
+    let wide = opened_wider did front back after i j p.bytes.items second left second_left s s' (omega (arith, len, order, behind)) (omega (arith, len, behind)) opened in
+    let all = subst (λ (xs : List Bank). AreOpened did xs i (Some j) p.bytes.items second s s' (after ++ back) left second_left) (sym same) wide in
+    let left_p : p ≡ get_or (after ++ back) k p = is_p ∙ sym (get_back (after ++ back) after back k p refl count) in
+    area_by did old (after ++ back) final i (Some j) k s s' p p p z left second second_left there at_p refl (λ e. omega (arith, e, order, behind)) (λ e. omega (arith, e, behind)) all left_p base bytes (is_final ∙ set_back (after ++ back) after back k z refl count)
+
+pub four_by : {B : Type 0} (did : Doing B) (old front back after final : List Bank) (i j k l : ℕ) (s s' : B) (p z : Bank) (left : List ℕ) → old ≡ front ++ back → length front ≡ l → l < length old → i < j → j < k → k < l → p ≡ get_or back 0 p → z.base ≡ p.base → z.bytes.items ≡ left → length after ≡ l → final ≡ after ++ set back 0 z →
+    AreOpenedBeside did front i (Some j) (Some k) p.bytes.items s s' after left → AreAllOpened did old i (Some j) (Some k) (Some l) s s' final
+four_by did old front back after final i j k l s s' p z left split len there order behind last is_p base bytes count is_final opened =
+    let at_p : p ≡ get_or old l p = is_p ∙ sym (get_back old front back l p split len) in
+    let same : set old l p ≡ front ++ back = ap (λ (b : Bank). set old l b) at_p ∙ set-get_or old l p ∙ split in
+    let wide = beside_wider did front back after i j k p.bytes.items left s s' (omega (arith, len, order, behind, last)) (omega (arith, len, behind, last)) (omega (arith, len, last)) opened in
+    let all = subst (λ (xs : List Bank). AreOpenedBeside did xs i (Some j) (Some k) p.bytes.items s s' (after ++ back) left) (sym same) wide in
+    let left_p : p ≡ get_or (after ++ back) l p = is_p ∙ sym (get_back (after ++ back) after back l p refl count) in
+    second_by did old (after ++ back) final i (Some j) (Some k) l s s' p p p z left there at_p refl (λ e. omega (arith, e, order, behind, last)) (λ e. omega (arith, e, behind, last)) (λ e. omega (arith, e, last)) all left_p base bytes (is_final ∙ set_back (after ++ back) after back l z refl count)
+
+pub without_second : {B : Type 0} (did : Doing B) (old after : List Bank) (i : ℕ) (j k : Option ℕ) (s s' : B) (second left : List ℕ) → second ≡ [] → AreOpenedBeside did old i j k second s s' after left → AreAllOpened did old i j k None s s' after
+without_second did old after i j k s s' second left none opened =
+    let nothing : left ≡ [] = nil_from_length left (opened.second_size ∙ ap (λ (xs : List ℕ). length xs) none) in
+    record {
+      after = opened.after;
+      area_after = opened.area_after;
+      second_after = [];
+      work = λ d. rw (none, nothing) at (opened.work d);
+      size = opened.size;
+      area_size = opened.area_size;
+      second_size = λ d. refl;
+      one = opened.one;
+      two = opened.two;
+      three = after;
+      first_put = opened.first_put;
+      second_put = opened.second_put;
+      third_put = opened.third_put;
+      fourth_put = refl;
     }
 
 -- ## no areas

@@ -1,4 +1,4 @@
--- What a window of four banks makes of the memory.
+-- What the memory is after a window of four banks.
 use Rattle.std.proofs.Common.{ℕ, zero, suc, ◌≡◌, ◌≢◌, ◌<◌, ◌≤◌, ◌+◌, ◌⊎◌, inl, inr, Bool, true, false, ◌&&◌, eqb, rules, leb, List, [], ◌∷◌, Option, Some, None, length, take, drop, get_or, Contains, refl, ap, sym, ◌∙◌, subst, arith, length-take, length-drop}
 use Rattle.std.proofs.lemmas.Bool.{le-leb, lt-leb, cases_lt}
 use Rattle.std.proofs.lemmas.List.{length-append, same_lists, places, nil_from_length}
@@ -6,7 +6,7 @@ use Rattle.mem_banks.specs.declared.bank.Bank.{Bank}
 use Rattle.mem_banks.specs.Banks.{flash_of, AreLaid, IsAt, IsPut}
 use Rattle.mem_banks.specs.Kept.{AreKept, IsDone, seen, spans_of}
 use Rattle.mem_banks.specs.Parts.{AreParts}
-use Rattle.mem_banks.specs.Windows.{Doing, AreAllOpened, AreTwo, AreApart, bytes_of, bytes_in, IsBankOf, HasNoBank, IsPlaceOf, HasNoPlace, IsPutIn, IsInMemory, IsInRam, IsOpened, IsNoRegion, IsGivenOrNone, AreGiven}
+use Rattle.mem_banks.specs.Windows.{Doing, AreAllOpened, AreTwo, AreApart, bytes_of, bytes_in, IsBankOf, HasNoBank, IsPlaceOf, HasNoPlace, IsPutIn, IsInMemory, IsInRam, IsOpened, IsNoRegion, IsGivenOrNone, AreGiven, IsBehind, AreRising}
 use Rattle.mem_banks.specs.Memory.{Memory, with_bytes}
 use Rattle.mem_banks.proofs.Copies.{with_bytes_none}
 use Rattle.mem_banks.proofs.Pieces.{Side, ram_side, flash_side, side_in, put_done, nothing_done}
@@ -216,6 +216,15 @@ module _ {B : Type 0} (did : Doing B) (table : List ℕ) (banks after : List Ban
         second_size = second_size;
         left = all_done.value ∙ ap (λ m. with_bytes m second.0 opened.second_after) (three_done.value ∙ ap (λ m. with_bytes m area.0 opened.area_after) ram_done);
       }
+
+-- banks in order are different ones
+two_behind : (i j : ℕ) (l : Option ℕ) → i ≤ j → IsBehind j l → AreTwo (Some i) l
+two_behind i j None low behind = tt
+two_behind i j (Some k) low behind = λ e. omega (arith, e, low, behind)
+
+pub rising_window : {B : Type 0} (did : Doing B) (table : List ℕ) (banks after : List Bank) (i j k : ℕ) (l : Option ℕ) (flash ram area second : ℕ × ℕ) (s s' : B) → AreKept table banks → AreRising banks i j k l flash ram area second → AreAllOpened did banks i (Some j) (Some k) l s s' after → IsOpened did (seen banks) flash ram area second s s' (seen after)
+rising_window did table banks after i j k l flash ram area second s s' kept there opened =
+    all_window did table banks after i (Some j) (Some k) l flash ram area second s s' kept there.3 there.4 there.5 there.6 opened (λ e. omega (arith, e, there.0)) (λ e. omega (arith, e, there.0, there.1)) (λ e. omega (arith, e, there.1)) (two_behind i k l (omega (arith, there.0, there.1)) there.2) (two_behind j k l (omega (arith, there.1)) there.2) (two_behind k k l (omega arith) there.2)
 
 -- ## the banks of regions that were given
 -- the bank that has the first byte of a region's bank is that one

@@ -1,4 +1,4 @@
--- A bank in the midst of the others of its kind.
+-- A bank in the middle of the others in the flash, or in the RAM.
 use Rattle.std.proofs.Common.{◌≡◌, ◌+◌, ◌≤◌, ◌<◌, inl, inr, ℕ, zero, suc, true, false, leb, List, [], ◌∷◌, ◌++◌, length, get_or, set, refl, ap, arith, append_assoc}
 use Rattle.std.proofs.lemmas.Bool.{le-leb, lt-leb, cases_lt}
 use Rattle.std.proofs.lemmas.List.{length-append, append-nil}

@@ -1,4 +1,4 @@
--- What a store leaves of a memory.
+-- The memory after a store.
 use Rattle.std.proofs.Common.{◌≡◌, ◌-◌, ◌∙◌, ℕ, List, length, ap, arith, inl, inr, sym}
 use Rattle.std.proofs.lemmas.List.{nil_from_length}
 use Rattle.mem_banks.specs.Memory.{IsWithinRam, Memory, with_bytes}

@@ -1,4 +1,4 @@
--- What stands in the bytes of a region is what the memory has there.
+-- The bytes of a region's bank are those that the memory has there.
 use Rattle.std.proofs.Common.{◌≡◌, ◌+◌, ◌-◌, ◌≤◌, ◌<◌, inl, inr, ℕ, List, length, take, drop, refl, ap, arith, length-take, length-drop}
 use Rattle.std.proofs.lemmas.Bool.{cases_lt}
 use Rattle.std.proofs.lemmas.List.{length-append, same_lists, places}

@@ -1,4 +1,4 @@
--- What a bank has is what the memory has there.
+-- The bytes of a bank are those that the memory has there.
 use Rattle.std.proofs.Common.{Option, Some, None, ◌∙◌, ◌≡◌, ◌+◌, ◌-◌, ◌*◌, ◌≤◌, ◌<◌, inl, inr, ℕ, suc, true, false, leb, List, [], ◌∷◌, ◌&&◌, length, take, drop, get_or, set, length-take, length-drop, ◌%◌, ltb, refl, ap, sym, arith}
 use Rattle.std.proofs.lemmas.Bool.{le-leb, lt-leb, lt-ltb, le-ltb, cases_lt, false≢true}
 use Rattle.std.proofs.lemmas.List.{length-append, nil_from_length}

@@ -12,14 +12,15 @@ abbrev pub ram_of : List Bank → List ℕ
 ram_of [] = []
 ram_of (b ∷ bs) = if nat_le 0x20000000 b.base then (b.bytes.items ++ ram_of bs) else ram_of bs
 
--- each bank begins where the one before it of its kind ends, the first ones at f and r
+-- each bank of the flash begins where the one before it in the flash ends, and each bank of the RAM where the
+-- one before it in the RAM ends; the first ones begin at f and r
 abbrev pub AreLaid : ℕ → ℕ → List Bank → Type 0
 AreLaid f r [] = Unit {0}
 AreLaid f r (b ∷ bs) =
     (b.base ≡ (if nat_le 0x20000000 b.base then r else f))
     × AreLaid (if nat_le 0x20000000 b.base then f else (f + length b.bytes.items)) (if nat_le 0x20000000 b.base then (r + length b.bytes.items) else r) bs
 
--- an address is at this place of this bank; it is at none
+-- an address is at offset o of bank k; an address is in no bank
 abbrev pub IsAt : List Bank → ℕ → ℕ → ℕ → Type 0
 IsAt banks k o a = (k < length banks) × ((d : Bank) → ((slice_index_or banks k d).base + o ≡ a) × (o < length (slice_index_or banks k d).bytes.items))
 

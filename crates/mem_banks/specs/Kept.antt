@@ -1,4 +1,4 @@
--- What the type keeps of its table and its banks.
+-- What is always true of the table and the banks.
 use Rattle.std.specs.Prelude.{ℕ, ◌+◌, ◌<◌, ◌≤◌, ◌≡◌, ◌-◌, ◌⊎◌, ◌++◌, replicate, List, [], ◌∷◌, length, All}
 use Rattle.mem_banks.specs.declared.bank.Bank.{Bank}
 use Rattle.mem_banks.specs.Memory.{Memory, with_bytes}
@@ -11,7 +11,7 @@ pub record AreKept (table : List ℕ) (banks : List Bank) : Type 0 where
   pub pages : length table ≡ 8192
   pub hints : All (λ k. k < length banks) table
 
--- the memory that banks are
+-- the memory that the banks hold
 abbrev pub seen : List Bank → Memory
 seen banks = record { flash = flash_of banks; ram = ram_of banks }
 
@@ -20,20 +20,20 @@ abbrev pub spans_of : List Bank → List (ℕ × ℕ)
 spans_of [] = []
 spans_of (b ∷ bs) = (b.base, length b.bytes.items) ∷ spans_of bs
 
--- banks of the same spans in which these bytes stand from an address on
+-- banks of the same spans, after these bytes were written from an address on
 pub record IsDone (table : List ℕ) (banks after : List Bank) (a : ℕ) (new : List ℕ) : Type 0 where
   pub kept : AreKept table after
   pub spans : spans_of after ≡ spans_of banks
   pub value : seen after ≡ with_bytes (seen banks) a new
 
--- one more bank, of so many zero bytes; one for those between two addresses, if there are any
+-- one more bank, of this many zero bytes; one more bank from one address to another, if they differ
 abbrev pub IsAdded : List Bank → ℕ → ℕ → List Bank → Type 0
 IsAdded old base size banks = (b : Bank) × (banks ≡ old ++ b ∷ []) × (b.base ≡ base) × (b.bytes.items ≡ replicate size 0)
 
 abbrev pub IsFilled : List Bank → ℕ → ℕ → List Bank → Type 0
 IsFilled old from to banks = ((to ≤ from) × (banks ≡ old)) ⊎ ((from < to) × IsAdded old from (to - from) banks)
 
--- banks from a base on go on those before, below the RAM or in it
+-- banks from a base on can follow the ones that are there, below the RAM or in it
 pub record IsNext (banks : List Bank) (base end : ℕ) : Type 0 where
   pub laid : AreLaid 0x08000000 0x20000000 banks
   pub flash : base < 0x20000000 → (end ≤ 0x20000000) × (base ≡ 0x08000000 + length (flash_of banks))
@@ -45,7 +45,7 @@ pub record IsLaidOut (old banks : List Bank) (base end : ℕ) : Type 0 where
   pub flash : base < 0x20000000 → (flash_of banks ≡ flash_of old ++ replicate (end - base) 0) × (ram_of banks ≡ ram_of old)
   pub ram : 0x20000000 ≤ base → (ram_of banks ≡ ram_of old ++ replicate (end - base) 0) × (flash_of banks ≡ flash_of old)
 
--- the banks of so much flash and RAM, all of zero bytes
+-- the banks of this much flash and RAM, all of zero bytes
 pub record AreZeros (banks : List Bank) (f r : ℕ) : Type 0 where
   pub some : 0 < length banks
   pub laid : AreLaid 0x08000000 0x20000000 banks

@@ -1,10 +1,12 @@
--- The bytes of four regions, handed to somebody for the time of one call. A region is its base and its size.
+-- The bytes of four regions, lent to a user for the time of one call. A region is given by its base and its
+-- size.
 use Rattle.std.specs.Prelude.{ℕ, ◌+◌, ◌<◌, ◌≤◌, ◌⊎◌, ◌≡◌, ◌≢◌, List, [], length, slice_index_or, Contains, Option, Some, None}
 use Rattle.mem_banks.specs.declared.bank.Bank.{Bank}
 use Rattle.mem_banks.specs.Memory.{Memory, bytes_at, with_bytes}
 use Rattle.mem_banks.specs.Banks.{IsPut}
 
--- a region lies in the RAM; in the flash, which ends below the RAM; in one of both
+-- a region lies in the RAM; a region lies in the flash, which ends below the RAM; a region lies in one of the
+-- two
 abbrev pub IsInRam : Memory → ℕ × ℕ → Type 0
 IsInRam m r = (0x20000000 ≤ r.0) × (r.0 + r.1 ≤ 0x20000000 + length m.ram)
 
@@ -22,12 +24,13 @@ AreApart r s = (r.0 + r.1 ≤ s.0) ⊎ (s.0 + s.1 ≤ r.0)
 abbrev pub bytes_of : Memory → ℕ × ℕ → List ℕ
 bytes_of m r = bytes_at m r.0 r.1
 
--- what a user does with bytes of flash, RAM and two further areas: those of the flash stay, and it leaves others of the three in the RAM
+-- What a user does with the bytes of the flash, of the RAM and of two more areas. It does not change those of
+-- the flash. The last three lists are the bytes that it leaves in the RAM and in the areas.
 abbrev pub Doing : Type 0 → Type 1
 Doing B = B → List ℕ → List ℕ → List ℕ → List ℕ → B → List ℕ → List ℕ → List ℕ → Type 0
 
--- a user b did its work with the bytes of four regions of a memory; then it is b', and the bytes that it left of all but the
--- first region stand there
+-- A user b did its work with the bytes of four regions of a memory, and is b' after that. The memory has the
+-- bytes that it left in all regions but the first.
 pub record IsOpened {B : Type 0} (did : Doing B) (m : Memory) (flash ram area second : ℕ × ℕ) (b b' : B) (m' : Memory) : Type 0 where
   pub flash_there : IsInMemory m flash
   pub ram_there : IsInRam m ram
@@ -45,15 +48,15 @@ pub record IsOpened {B : Type 0} (did : Doing B) (m : Memory) (flash ram area se
   pub second_size : length second_after ≡ second.1
   pub left : m' ≡ with_bytes (with_bytes (with_bytes m ram.0 after) area.0 area_after) second.0 second_after
 
--- it is no region: it has no bytes, and begins where the RAM does
+-- this is no region: it has no bytes, and begins where the RAM begins
 abbrev pub IsNoRegion : ℕ × ℕ → Type 0
 IsNoRegion r = (r.0 ≡ 0x20000000) × (r.1 ≡ 0)
 
--- one of some regions, in the RAM, or none
+-- one of these regions, in the RAM, or no region
 abbrev pub IsGivenOrNone : List (ℕ × ℕ) → ℕ × ℕ → Type 0
 IsGivenOrNone regions r = IsNoRegion r ⊎ (Contains regions r × (0 < r.1) × (0x20000000 ≤ r.0))
 
--- four of some regions: one in the flash, and three in the RAM, of which each may be none
+-- four of these regions: one in the flash, and three in the RAM, each of which may be no region
 pub record AreGiven (regions : List (ℕ × ℕ)) (flash ram area second : ℕ × ℕ) : Type 0 where
   pub flash_given : Contains regions flash
   pub flash_some : 0 < flash.1
@@ -68,13 +71,13 @@ pub record AreGiven (regions : List (ℕ × ℕ)) (flash ram area second : ℕ �
 abbrev pub IsBankOf : List Bank → ℕ → ℕ × ℕ → Type 0
 IsBankOf banks k r = (k < length banks) × ((d : Bank) → ((slice_index_or banks k d).base ≡ r.0) × (length (slice_index_or banks k d).bytes.items ≡ r.1))
 
--- no bank has the bytes of a region that has some
+-- the region has no bytes, or no bank has its bytes and no others
 abbrev pub HasNoBank : List Bank → ℕ × ℕ → Type 0
 HasNoBank banks r = (k : ℕ) → 0 < r.1 → IsBankOf banks k r → ⊥
 
--- ## banks of the RAM, or none
+-- ## banks of the RAM, or no bank
 
--- a region of the RAM has this bank, or is none and has no bank
+-- a region of the RAM has this bank, or it is no region and has no bank
 abbrev pub IsPlaceOf : List Bank → Option ℕ → ℕ × ℕ → Type 0
 IsPlaceOf banks None r = IsNoRegion r
 IsPlaceOf banks (Some k) r = IsBankOf banks k r × (0x20000000 ≤ r.0) × (IsNoRegion r → ⊥)
@@ -82,7 +85,7 @@ IsPlaceOf banks (Some k) r = IsBankOf banks k r × (0x20000000 ≤ r.0) × (IsNo
 abbrev pub HasNoPlace : List Bank → ℕ × ℕ → Type 0
 HasNoPlace banks r = (IsNoRegion r → ⊥) × (0x20000000 ≤ r.0 → HasNoBank banks r)
 
--- two banks, or fewer
+-- two different banks, or fewer than two
 abbrev pub AreTwo : Option ℕ → Option ℕ → Type 0
 AreTwo (Some i) (Some j) = i ≢ j
 AreTwo (Some i) None = Unit {0}
@@ -92,11 +95,20 @@ abbrev pub IsOne : List Bank → Option ℕ → Type 0
 IsOne banks (Some k) = k < length banks
 IsOne banks None = Unit {0}
 
--- a bank of a region of code, and behind it one of a region of the RAM, where there is no area
+-- bank i of a region of code, and after it bank j of a region of the RAM; there are no areas
 abbrev pub AreUsual : List Bank → ℕ → ℕ → ℕ × ℕ → ℕ × ℕ → ℕ × ℕ → ℕ × ℕ → Type 0
 AreUsual banks i j flash ram area second = (i < j) × IsBankOf banks i flash × IsPlaceOf banks (Some j) ram × IsNoRegion area × IsNoRegion second
 
--- the bytes of a bank, and what writes over all of them
+-- a bank after another one, or none
+abbrev pub IsBehind : ℕ → Option ℕ → Type 0
+IsBehind i None = Unit {0}
+IsBehind i (Some j) = i < j
+
+-- banks in this order: that of a region of code, and those of three regions of the RAM, of which the last one may be none
+abbrev pub AreRising : List Bank → ℕ → ℕ → ℕ → Option ℕ → ℕ × ℕ → ℕ × ℕ → ℕ × ℕ → ℕ × ℕ → Type 0
+AreRising banks i j k l flash ram area second = (i < j) × (j < k) × IsBehind k l × IsBankOf banks i flash × IsPlaceOf banks (Some j) ram × IsPlaceOf banks (Some k) area × IsPlaceOf banks l second
+
+-- the bytes of a bank, or none; the banks after all bytes of a bank are written
 abbrev pub bytes_in : List Bank → Option ℕ → Bank → List ℕ
 bytes_in banks (Some k) d = (slice_index_or banks k d).bytes.items
 bytes_in banks None d = []
@@ -105,7 +117,8 @@ abbrev pub IsPutIn : List Bank → Option ℕ → List ℕ → List Bank → Typ
 IsPutIn old (Some k) new banks = IsPut old k 0 new banks
 IsPutIn old None new banks = banks ≡ old
 
--- a user did its work with the bytes of two banks and those of two areas, and those of the first one are as before
+-- a user did its work with the bytes of two banks and those of two areas, and did not change those of the
+-- first bank
 pub record AreOpened {B : Type 0} (did : Doing B) (old : List Bank) (i : ℕ) (j : Option ℕ) (area second : List ℕ) (b b' : B) (banks : List Bank) (left second_left : List ℕ) : Type 0 where
   pub after : List ℕ
   pub work : (d : Bank) → did b (slice_index_or old i d).bytes.items (bytes_in old j d) area second b' after left second_left
@@ -116,7 +129,7 @@ pub record AreOpened {B : Type 0} (did : Doing B) (old : List Bank) (i : ℕ) (j
   pub first_put : IsPut old i 0 [] between
   pub second_put : IsPutIn between j after banks
 
--- the same where those of the first area are of a bank too
+-- the same if the bytes of the first area are those of a bank too
 pub record AreOpenedBeside {B : Type 0} (did : Doing B) (old : List Bank) (i : ℕ) (j k : Option ℕ) (second : List ℕ) (b b' : B) (banks : List Bank) (left : List ℕ) : Type 0 where
   pub after : List ℕ
   pub area_after : List ℕ
@@ -130,7 +143,7 @@ pub record AreOpenedBeside {B : Type 0} (did : Doing B) (old : List Bank) (i : �
   pub second_put : IsPutIn one j after two
   pub third_put : IsPutIn two k area_after banks
 
--- the same where those of both are
+-- the same if the bytes of both areas are those of banks
 pub record AreAllOpened {B : Type 0} (did : Doing B) (old : List Bank) (i : ℕ) (j k l : Option ℕ) (b b' : B) (banks : List Bank) : Type 0 where
   pub after : List ℕ
   pub area_after : List ℕ

@@ -1,4 +1,4 @@
-//! Banks of bytes, and where an address is in them.
+//! Banks of bytes, and how an address is found in them.
 
 ghost use Rattle.std.specs.Prelude.{◌≡◌, ◌+◌, ◌*◌, ◌<◌, length, take, drop, IfSome, IfNone, All};
 ghost use Rattle.mem_banks.specs.Memory.{number_of};
@@ -11,17 +11,17 @@ pub struct Bank {
     pub bytes: Vec<u8>,
 }
 
-/// A byte of a bank: which bank, and how many bytes of it come before.
+/// A byte of a bank: the index of the bank, and the offset of the byte in it.
 #[derive(Copy, Clone, Drop)]
 pub struct Place {
     pub bank: usize,
     pub at: usize,
 }
 
-/// How many pages the table has an entry for.
+/// The number of pages, each of which has an entry in the table.
 pub const PAGES: usize = 8192;
 
-/// The entry of an address in the table of pages. Flash and RAM have none in common.
+/// The index of an address's entry in the table of pages. No entry belongs to both flash and RAM.
 #[inline(always)]
 pub fn page(addr: u32) -> usize
     ensures { result < 8192 }
@@ -48,7 +48,7 @@ pub fn search(banks: &[Bank], addr: u32) -> Option<Place>
     None
 }
 
-/// Where an address is in the banks. The table says in which bank to look first.
+/// Where an address is in the banks. The table names the bank to look in first.
 pub fn find(banks: &[Bank], table: &[u16], addr: u32) -> Option<Place>
     requires len { length table.now ≡ 8192 }
     requires hints { All (λ k. k < length banks.now) table.now }
@@ -66,7 +66,8 @@ pub fn find(banks: &[Bank], table: &[u16], addr: u32) -> Option<Place>
     search(banks, addr)
 }
 
-/// The number that two bytes from a place on spell where both are there, the lowest first.
+/// The number that the two bytes from a place on spell, the lowest byte first, if the bank has
+/// both.
 #[inline(always)]
 pub fn whole_half(bytes: &[u8], at: usize) -> u16
     requires { at + 1 < length bytes.now }
@@ -75,7 +76,8 @@ pub fn whole_half(bytes: &[u8], at: usize) -> u16
     u16::from(bytes[at]) + 256 * u16::from(bytes[at + 1])
 }
 
-/// The number that four bytes from a place on spell where all of them are there, the lowest first.
+/// The number that the four bytes from a place on spell, the lowest byte first, if the bank has all
+/// of them.
 #[inline(always)]
 pub fn whole_word(bytes: &[u8], at: usize) -> u32
     requires { at + 3 < length bytes.now }

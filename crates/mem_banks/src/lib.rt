@@ -1,5 +1,6 @@
-//! The bytes of flash and RAM, as one map from addresses to bytes. They lie in banks: one for each
-//! different region of the tasks, so that shared regions are one, and one for each stretch between.
+//! The bytes of flash and RAM, as one map from addresses to bytes. They are kept in banks: one for
+//! each different region of the tasks, so that a shared region has one bank, and one for each
+//! stretch between regions.
 #![tactic(auto)]
 
 mod bank;
@@ -25,18 +26,19 @@ pub const FLASH: u32 = 0x0800_0000;
 pub const RAM: u32 = 0x2000_0000;
 
 /// The flash and the RAM of a board, and the regions that were given. Callers see the two lists of
-/// bytes and the regions, but not what banks there are.
+/// bytes and the regions, but not the banks.
 #[derive(Drop)]
 pub struct Memory {
-    /// By base; an empty one where there is no memory at all.
+    /// In the order of their bases. If there is no memory at all, there is one empty bank.
     banks: Vec<Bank>,
-    /// For each page of 256 bytes the bank in which to look first. It is a hint: the bank's own
-    /// bounds say whether an address is in it.
+    /// For each page of 256 bytes, the index of the bank to look in first. It is a hint: the bounds
+    /// of a bank say whether an address is in it.
     table: Vec<u16>,
     /// How many bytes the RAM has.
     ram: u32,
     regions: Vec<(u32, u32)>,
-    /// For the empty list that stands beside a region of the flash alone.
+    /// For the empty lists that stand in for an absent region, and for a bank whose bytes are taken
+    /// out.
     alloc: Global,
 }
 
@@ -49,18 +51,23 @@ impl Model for Memory {
 
     ghost Value = { Opened };
 
-    ghost view = { λ m. record { bytes = record { flash = flash_of m.banks.items; ram = ram_of m.banks.items }; regions = m.regions.items } };
+    ghost view = { λ m. record {
+      bytes = record { flash = flash_of m.banks.items; ram = ram_of m.banks.items };
+      regions = m.regions.items;
+    } };
 
-    ghost invariant = { λ m. AreKept m.table.items m.banks.items × AreParts m.regions.items (spans_of m.banks.items) × (m.ram ≡ ram_size (spans_of m.banks.items)) };
+    ghost invariant = { λ m. AreKept m.table.items m.banks.items
+        × AreParts m.regions.items (spans_of m.banks.items)
+        × (m.ram ≡ ram_size (spans_of m.banks.items)) };
 }
 
 impl Memory {
-    /// A memory with these bytes of flash and so many zero bytes of RAM. The regions are those that
-    /// are no device, by base and size in bytes.
+    /// A memory with these bytes of flash and this many zero bytes of RAM. The regions are those
+    /// that are no devices, by base and size in bytes.
     ///
     /// # Errors
     ///
-    /// Only want of memory.
+    /// Only if memory runs out.
     pub fn open(
         alloc: Global,
         flash: &[u8],
@@ -96,7 +103,7 @@ impl Memory {
         find(&self.banks, &self.table, addr).is_some()
     }
 
-    /// The byte at an address. Where there is no memory it is 0.
+    /// The byte at an address; 0 if there is no memory at the address.
     #[inline(always)]
     pub fn byte(&self, addr: u32) -> u8
         ensures { result ≡ number_at self.now.bytes addr 1 }
@@ -109,7 +116,7 @@ impl Memory {
         self.byte_beyond(addr)
     }
 
-    /// As `byte`, where another bank may have it.
+    /// The same if another bank than the one that the table names may have the byte.
     #[cold]
     #[inline(never)]
     fn byte_beyond(&self, addr: u32) -> u8
@@ -121,8 +128,8 @@ impl Memory {
         }
     }
 
-    /// The number that the two bytes from an address on spell, the lowest first. Where there is
-    /// no memory a byte counts as 0.
+    /// The number that the two bytes from an address on spell, the lowest byte first. A byte that
+    /// is not in memory counts as 0.
     pub fn half(&self, addr: u32) -> u16
         ensures { result ≡ number_at self.now.bytes addr 2 }
     {
@@ -134,7 +141,7 @@ impl Memory {
         self.half_beyond(addr)
     }
 
-    /// As `half`, where the two bytes may lie in two banks.
+    /// The same if the two bytes may lie in two banks.
     #[cold]
     #[inline(never)]
     fn half_beyond(&self, addr: u32) -> u16
@@ -146,8 +153,8 @@ impl Memory {
         u16::from(self.byte(addr)) + 256 * u16::from(self.byte(addr + 1))
     }
 
-    /// The number that the four bytes from an address on spell, the lowest first. Where there is
-    /// no memory a byte counts as 0.
+    /// The number that the four bytes from an address on spell, the lowest byte first. A byte that
+    /// is not in memory counts as 0.
     #[inline(always)]
     pub fn word(&self, addr: u32) -> u32
         ensures { result ≡ number_at self.now.bytes addr 4 }
@@ -160,7 +167,7 @@ impl Memory {
         self.word_beyond(addr)
     }
 
-    /// As `word`, where the four bytes may lie in two banks or more.
+    /// The same if the four bytes may lie in two or more banks.
     #[cold]
     #[inline(never)]
     fn word_beyond(&self, addr: u32) -> u32
@@ -174,8 +181,8 @@ impl Memory {
         low + 65536 * high
     }
 
-    /// The number that 1, 2 or 4 bytes from an address on spell, the lowest first. Where there is
-    /// no memory a byte counts as 0.
+    /// The number that 1, 2 or 4 bytes from an address on spell, the lowest byte first. A byte that
+    /// is not in memory counts as 0.
     #[inline(never)]
     pub fn number(&self, addr: u32, size: u32) -> u32
         requires { (size ≡ 1) ⊎ (size ≡ 2) ⊎ (size ≡ 4) }
@@ -188,7 +195,7 @@ impl Memory {
         }
     }
 
-    /// Whether so many bytes from an address on lie in the RAM.
+    /// Whether this many bytes from an address on lie in the RAM.
     #[inline(always)]
     pub fn is_ram(&self, addr: u32, count: u32) -> bool
         ensures { result ≡ is_ram self.now.bytes addr count }
@@ -220,7 +227,7 @@ impl Memory {
         store_at(&mut self.banks, &self.table, RAM, bytes);
     }
 
-    /// Copies so many bytes, as if all were read before the first is written.
+    /// Copies this many bytes, as if all of them were read before the first is written.
     pub fn copy(&mut self, from: u32, to: u32, count: u32)
         requires source { IsWithin self.old.bytes from count }
         requires target { IsWithin self.old.bytes to count }

@@ -1,4 +1,4 @@
-//! Bytes written into banks, and copied from bank to bank.
+//! Writes bytes into banks, and copies them from bank to bank.
 
 ghost use Rattle.std.specs.Prelude.{◌≡◌, slice_index_or, ◌+◌, ◌<◌, ◌≤◌, length, vec_len};
 ghost use Rattle.mem_banks.specs.Memory.{pasted, bytes_at, IsWithin};
@@ -29,8 +29,8 @@ fn put_in(banks: &mut [Bank], k: usize, at: usize, new: &[u8])
     put(&mut bank.bytes, at, new);
 }
 
-/// Writes bytes over those from an address on. Where they lie in the bank that the table names, one
-/// test finds it.
+/// Writes bytes over those from an address on. One test finds the bank if it is the one that the
+/// table names.
 #[inline(always)]
 pub fn store_at(banks: &mut [Bank], table: &[u16], addr: u32, bytes: &[u8])
     requires kept { AreKept table.now banks.old }
@@ -67,8 +67,8 @@ fn store_pieces(banks: &mut [Bank], table: &[u16], addr: u32, bytes: &[u8])
     }
 }
 
-/// Copies bytes from a place of one bank to a place of another, or of the same one. Two banks are
-/// at hand at once, one to be read and one to be written.
+/// Copies bytes from a place of one bank to a place of another bank, or of the same one. It borrows
+/// two banks at once, one to read and one to write.
 fn move_piece(banks: &mut [Bank], source: Place, target: Place, count: usize)
     requires source { source.bank < length banks.old }
     requires target { target.bank < length banks.old }
@@ -99,7 +99,7 @@ fn move_piece(banks: &mut [Bank], source: Place, target: Place, count: usize)
     }
 }
 
-/// Copies so many bytes, the first ones first, a piece at a time.
+/// Copies this many bytes, a piece at a time, from the first piece to the last.
 #[inline(never)]
 pub fn copy_from_start(banks: &mut [Bank], table: &[u16], from: u32, to: u32, count: u32)
     requires kept { AreKept table.now banks.old }
@@ -124,7 +124,7 @@ pub fn copy_from_start(banks: &mut [Bank], table: &[u16], from: u32, to: u32, co
     }
 }
 
-/// Copies so many bytes, the last ones first, a piece at a time.
+/// Copies this many bytes, a piece at a time, from the last piece to the first.
 #[inline(never)]
 pub fn copy_from_end(banks: &mut [Bank], table: &[u16], from: u32, to: u32, count: u32)
     requires kept { AreKept table.now banks.old }

@@ -1,5 +1,5 @@
-//! The banks of a memory that opens: one for each different region, and one for each stretch
-//! between.
+//! The banks of a new memory: one for each different region, and one for each stretch between
+//! regions.
 
 ghost use Rattle.std.specs.Prelude.{◌≡◌, ◌+◌, ◌<◌, ◌≤◌, ◌⊎◌, length, IfOk, replicate, All, Contains, ℕ};
 ghost use Rattle.std.specs.List.Sorted.{IsPermutation, IsNonDecreasingBy};
@@ -11,7 +11,7 @@ use crate::bank::{Bank, PAGES, page};
 use crate::{FLASH, RAM};
 use std::alloc::{AllocError, Global};
 
-/// The regions in the order of their bases, so that one pass over them lays their banks.
+/// The regions in the order of their bases, so that one pass over them can lay their banks.
 fn in_order(alloc: Global, regions: &[(u32, u32)]) -> Result<Vec<(u32, u32)>, AllocError>
     ensures same { IfOk result (λ v. IsPermutation regions.now v.items) }
     ensures order { IfOk result (λ v. IsNonDecreasingBy (λ r. r.0) v.items) }
@@ -21,7 +21,7 @@ fn in_order(alloc: Global, regions: &[(u32, u32)]) -> Result<Vec<(u32, u32)>, Al
     Ok(sorted)
 }
 
-/// A bank of so many zero bytes.
+/// A bank of this many zero bytes.
 fn zeros(alloc: Global, base: u32, size: u32) -> Result<Bank, AllocError>
     ensures { IfOk result (λ b. (b.base ≡ base) × (b.bytes.items ≡ replicate size 0)) }
 {
@@ -29,7 +29,7 @@ fn zeros(alloc: Global, base: u32, size: u32) -> Result<Bank, AllocError>
     Ok(Bank { base, bytes })
 }
 
-/// Adds a bank of so many zero bytes.
+/// Adds a bank of this many zero bytes.
 fn add(alloc: Global, banks: &mut Vec<Bank>, base: u32, size: u32) -> Result<(), AllocError>
     ensures { IfOk result (λ _. IsAdded banks.old.items base size banks.new.items) }
 {
@@ -37,7 +37,7 @@ fn add(alloc: Global, banks: &mut Vec<Bank>, base: u32, size: u32) -> Result<(),
     Ok(())
 }
 
-/// Adds a bank of the zero bytes between two addresses, unless there are none.
+/// Adds a bank of zero bytes from one address to another, unless they are the same address.
 fn fill(alloc: Global, banks: &mut Vec<Bank>, from: u32, to: u32) -> Result<(), AllocError>
     ensures { IfOk result (λ _. IsFilled banks.old.items from to banks.new.items) }
 {
@@ -48,7 +48,7 @@ fn fill(alloc: Global, banks: &mut Vec<Bank>, from: u32, to: u32) -> Result<(), 
 }
 
 /// Adds the banks from a base to an end: one for each different region there, and one for each
-/// stretch between. The regions come in the order of their bases.
+/// stretch between them. The regions are in the order of their bases.
 fn lay(
     alloc: Global,
     banks: &mut Vec<Bank>,
@@ -71,7 +71,7 @@ fn lay(
 {
     let mut at = base;
     for &(start, size) in regions {
-        // Others have their bank already, since regions that overlap are the same, or lie
+        // Any other region has a bank already, since regions that overlap are the same, or it lies
         // elsewhere.
         if at <= start && start < end {
             fill(alloc, banks, at, start)?;
@@ -82,8 +82,8 @@ fn lay(
     fill(alloc, banks, at, end)
 }
 
-/// The banks of so much flash and RAM, all of zero bytes. Where there is no memory at all there is
-/// one empty bank, so that each entry of the table names one.
+/// The banks of this much flash and RAM, all of zero bytes. If there is no memory at all, there is
+/// one empty bank, so that each entry of the table names a bank.
 pub fn all_banks(
     alloc: Global,
     flash: u32,
@@ -100,7 +100,7 @@ pub fn all_banks(
     banks_over(alloc, flash, ram, &sorted)
 }
 
-/// As `all_banks`, where the regions come in the order of their bases.
+/// The same for regions in the order of their bases.
 fn banks_over(
     alloc: Global,
     flash: u32,
@@ -123,15 +123,15 @@ fn banks_over(
     Ok(banks)
 }
 
-/// So many zeros.
+/// A list of this many zeros.
 fn blank(alloc: Global, count: usize) -> Result<Vec<u16>, AllocError>
     ensures { IfOk result (λ t. t.items ≡ replicate count 0) }
 {
     vec![in alloc; 0u16; count]
 }
 
-/// The table of pages: for each the first bank that has a byte of it, and the first of all where
-/// none has.
+/// The table of pages: for each page the first bank that has a byte of it, or the first of all
+/// banks if none has.
 pub fn table_of(alloc: Global, banks: &[Bank]) -> Result<Vec<u16>, AllocError>
     requires { 0 < length banks.now }
     ensures pages { IfOk result (λ t. length t.items ≡ 8192) }
@@ -142,7 +142,7 @@ pub fn table_of(alloc: Global, banks: &[Bank]) -> Result<Vec<u16>, AllocError>
     Ok(table)
 }
 
-/// Each page of which a bank has a byte names the first one that does.
+/// Makes the entry of each page name the first bank that has a byte of it, if there is one.
 fn mark_all(table: &mut [u16], banks: &[Bank])
     requires pages { length table.old ≡ 8192 }
     requires hints { All (λ k. k < length banks.now) table.old }
@@ -157,7 +157,7 @@ fn mark_all(table: &mut [u16], banks: &[Bank])
     }
 }
 
-/// Each page of which a bank has a byte names it.
+/// Makes the entry of each page of which bank `i` has a byte name this bank.
 fn mark(table: &mut [u16], banks: &[Bank], i: usize)
     requires there { (i < length banks.now) × (i < 65536) }
     requires pages { length table.old ≡ 8192 }

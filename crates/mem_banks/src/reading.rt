@@ -1,4 +1,4 @@
-//! Bytes read out of banks, a piece for each bank.
+//! Reads bytes from banks, a piece for each bank.
 
 ghost use Rattle.std.specs.Prelude.{◌≡◌, ◌≤◌, ◌+◌, ◌++◌, length, take};
 ghost use Rattle.mem_banks.specs.Memory.{bytes_at, IsWithin};
@@ -15,7 +15,7 @@ fn put(out: &mut [u8], at: usize, piece: &[u8])
     out[at..at + piece.len()].copy_from_slice(piece);
 }
 
-/// Reads the bytes from an address on, as many as there is room for.
+/// Reads the bytes from an address on, as many as the buffer has room for.
 pub fn read_pieces(banks: &[Bank], table: &[u16], addr: u32, out: &mut [u8])
     requires kept { AreKept table.now banks.now }
     requires within { IsWithin (seen banks.now) addr (length out.old) }

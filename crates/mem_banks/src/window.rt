@@ -1,21 +1,22 @@
-//! The bytes of four banks, handed to somebody for the time of one call.
+//! The bytes of four banks, lent to a user for the time of one call.
 
 ghost use Rattle.std.specs.Prelude.{◌≡◌, ◌<◌, ℕ, List, IfSome, IfNone, length, Some, None, true, false};
 ghost use Rattle.mem_banks.specs.Kept.{AreKept};
-ghost use Rattle.mem_banks.specs.Windows.{AreOpened, AreOpenedBeside, AreAllOpened, AreUsual, IsBankOf, HasNoBank, IsPlaceOf, HasNoPlace, AreTwo, IsOne};
+ghost use Rattle.mem_banks.specs.Windows.{AreOpened, AreOpenedBeside, AreAllOpened, AreUsual, IsBankOf, HasNoBank, IsPlaceOf, HasNoPlace, AreTwo, IsOne, AreRising, IsBehind};
 
 use crate::bank::{Bank, find, page};
 use crate::{Memory, RAM};
 use std::alloc::Global;
 use std::mem::swap;
 
-/// Who works with the bytes of four regions while a window on them is open: code, which stays as it
-/// is, data in the RAM, and two further areas of the RAM.
+/// A user of a window: it works with the bytes of four regions while the window is open. These are
+/// code, which it does not change, data in the RAM, and two more areas of the RAM.
 pub trait WindowUser {
-    /// Before, the bytes of the four regions, after, and the bytes of the three in the RAM after.
+    /// The user before, the bytes of the four regions before, the user after, and the bytes of the
+    /// three regions in the RAM after.
     ghost did: { Self → List ℕ → List ℕ → List ℕ → List ℕ → Self → List ℕ → List ℕ → List ℕ → Type 0 };
 
-    /// Does its work. No region gets longer or shorter.
+    /// Does the user's work. No region gets longer or shorter.
     fn work(
         &mut self,
         flash: &mut Vec<u8>,
@@ -31,7 +32,7 @@ pub trait WindowUser {
         ensures second { length second.new.items ≡ length second.old.items };
 }
 
-/// The bank that has the bytes of a region and no others. Most often the table names it.
+/// The bank that has the bytes of a region and no others. The table usually names it.
 #[inline(always)]
 fn bank_of(banks: &[Bank], table: &[u16], region: (u32, u32)) -> Option<usize>
     requires { AreKept table.now banks.now }
@@ -46,7 +47,7 @@ fn bank_of(banks: &[Bank], table: &[u16], region: (u32, u32)) -> Option<usize>
     bank_beyond(banks, table, region)
 }
 
-/// As `bank_of`, where the table names another bank.
+/// The same if the table names another bank.
 #[cold]
 #[inline(never)]
 fn bank_beyond(banks: &[Bank], table: &[u16], region: (u32, u32)) -> Option<usize>
@@ -61,7 +62,8 @@ fn bank_beyond(banks: &[Bank], table: &[u16], region: (u32, u32)) -> Option<usiz
     None
 }
 
-/// The bank of a region of the RAM, where it has one; none where it is no region.
+/// The bank of a region of the RAM. `None` if the region has no bank of its own; `Some(None)` if it
+/// is no region.
 #[inline(always)]
 fn ram_bank(banks: &[Bank], table: &[u16], region: (u32, u32)) -> Option<Option<usize>>
     requires { AreKept table.now banks.now }
@@ -78,7 +80,7 @@ fn ram_bank(banks: &[Bank], table: &[u16], region: (u32, u32)) -> Option<Option<
     Some(Some(k))
 }
 
-/// Whether they are no one bank.
+/// Whether the two are different banks, or at least one is none.
 #[inline(always)]
 fn are_two(first: Option<usize>, second: Option<usize>) -> bool
     ensures two { result ≡ true → AreTwo first second }
@@ -90,7 +92,7 @@ fn are_two(first: Option<usize>, second: Option<usize>) -> bool
     }
 }
 
-/// Opens the bytes of two banks, of which that of the code is the first, beside those of two areas.
+/// Opens the bytes of two banks, of which the first is that of the code, and those of two areas.
 #[inline(always)]
 fn open_in_order<B: WindowUser>(
     banks: &mut [Bank],
@@ -109,7 +111,7 @@ fn open_in_order<B: WindowUser>(
     user.work(&mut front[flash].bytes, &mut back[0].bytes, area, second);
 }
 
-/// Opens the bytes of two banks, beside those of two areas.
+/// Opens the bytes of two banks and those of two areas.
 fn open_two<B: WindowUser>(
     banks: &mut [Bank],
     flash: usize,
@@ -132,7 +134,7 @@ fn open_two<B: WindowUser>(
     }
 }
 
-/// Opens the bytes of one bank, beside those of two areas.
+/// Opens the bytes of one bank and those of two areas.
 fn open_one<B: WindowUser>(
     banks: &mut [Bank],
     flash: usize,
@@ -149,7 +151,7 @@ fn open_one<B: WindowUser>(
     user.work(&mut banks[flash].bytes, &mut none, area, second);
 }
 
-/// Opens the bytes of one bank or two, beside those of two areas.
+/// Opens the bytes of one or two banks and those of two areas.
 #[inline(always)]
 fn open_beside<B: WindowUser>(
     banks: &mut [Bank],
@@ -172,8 +174,9 @@ fn open_beside<B: WindowUser>(
     }
 }
 
-/// Opens the bytes of one bank or two and of that of an area, beside those of a second one. Its
-/// bytes are taken out of it meanwhile. Most tasks have no area, so this is a function of its own.
+/// Opens the bytes of one or two banks, of the bank of an area, and those of a second area. The
+/// bytes of the first area are taken out of its bank for this time. Most tasks have no area, so
+/// this is a separate function.
 #[inline(never)]
 fn open_area<B: WindowUser>(
     banks: &mut [Bank],
@@ -199,8 +202,8 @@ fn open_area<B: WindowUser>(
     swap(&mut banks[area].bytes, &mut bytes);
 }
 
-/// Opens the bytes of one bank or two, and of that of an area, where there is one, beside those of
-/// a second one.
+/// Opens the bytes of one or two banks, of the bank of an area if there is one, and those of a
+/// second area.
 #[inline(always)]
 fn open_areas<B: WindowUser>(
     banks: &mut [Bank],
@@ -229,8 +232,9 @@ fn open_areas<B: WindowUser>(
     }
 }
 
-/// Opens the bytes of up to three banks and of that of a second area. Its bytes are taken out of it
-/// meanwhile. Few tasks have two areas, so this is a function of its own.
+/// Opens the bytes of up to three banks and of the bank of a second area. The bytes of the second
+/// area are taken out of its bank for this time. Few tasks have two areas, so this is a separate
+/// function.
 #[inline(never)]
 fn open_second<B: WindowUser>(
     banks: &mut [Bank],
@@ -260,7 +264,7 @@ fn open_second<B: WindowUser>(
     swap(&mut banks[second].bytes, &mut bytes);
 }
 
-/// Opens the bytes of one bank or two, and of those of two areas, where there are some.
+/// Opens the bytes of one or two banks, and of the banks of up to two areas.
 #[inline(always)]
 fn open_all<B: WindowUser>(
     banks: &mut [Bank],
@@ -301,8 +305,8 @@ fn is_bank_of(bank: &Bank, region: (u32, u32)) -> bool
     bank.base == region.0 && bank.bytes.len() == region.1 as usize
 }
 
-/// The banks of a region of code and of one of the RAM as those of most tasks lie: each is the one
-/// that the table names, that of the code comes first, and there is no area.
+/// The banks of a region of code and of a region of the RAM in the case that most tasks are in:
+/// each is the bank that the table names, the bank of the code comes first, and there is no area.
 #[inline(always)]
 fn usual_banks(
     banks: &[Bank],
@@ -326,7 +330,7 @@ fn usual_banks(
     None
 }
 
-/// Opens the bytes of two banks, of which that of the code is the first.
+/// Opens the bytes of two banks, of which the first is that of the code.
 #[inline(always)]
 fn open_usual<B: WindowUser>(
     banks: &mut [Bank],
@@ -344,10 +348,140 @@ fn open_usual<B: WindowUser>(
     open_in_order(banks, flash, ram, &mut none, &mut no_second, user);
 }
 
+/// The bank of a region of the RAM, if the table names it and it comes after the bank `before`.
+#[inline(always)]
+fn bank_behind(banks: &[Bank], table: &[u16], region: (u32, u32), before: usize) -> Option<usize>
+    requires { AreKept table.now banks.now }
+    ensures { IfSome result (λ k. (before < k) × IsPlaceOf banks.now (Some k) region) }
+{
+    if region.0 < RAM || region.1 == 0 {
+        return None;
+    }
+    let k = table[page(region.0)] as usize;
+    if before < k && is_bank_of(&banks[k], region) {
+        return Some(k);
+    }
+    None
+}
+
+/// The banks of a region of code, of two regions of the RAM and of a third one, if there is one.
+/// The table names each of these banks, and they are in this order, as those of most tasks with
+/// areas.
+#[inline(always)]
+fn rising_banks(
+    banks: &[Bank],
+    table: &[u16],
+    flash: (u32, u32),
+    ram: (u32, u32),
+    area: (u32, u32),
+    second: (u32, u32),
+) -> Option<(usize, usize, usize, Option<usize>)>
+    requires { AreKept table.now banks.now }
+    ensures { IfSome result (λ p. AreRising banks.now p.0 p.1 p.2 p.3 flash ram area second) }
+{
+    let code = table[page(flash.0)] as usize;
+    if !is_bank_of(&banks[code], flash) {
+        return None;
+    }
+    let data = bank_behind(banks, table, ram, code)?;
+    let more = bank_behind(banks, table, area, data)?;
+    if second == (RAM, 0) {
+        return Some((code, data, more, None));
+    }
+    let last = bank_behind(banks, table, second, more)?;
+    Some((code, data, more, Some(last)))
+}
+
+/// Opens the bytes of three banks that lie in this order, beside those of a second area.
+#[inline(always)]
+fn open_three<B: WindowUser>(
+    banks: &mut [Bank],
+    flash: usize,
+    ram: usize,
+    area: usize,
+    second: &mut Vec<u8>,
+    user: &mut B,
+)
+    requires there { area < length banks.old }
+    requires area { ram < area }
+    requires ram { flash < ram }
+    ensures { AreOpenedBeside B.did banks.old flash (Some ram) (Some area) second.old.items user.old
+        user.new banks.new second.new.items }
+{
+    let (front, back) = banks.split_at_mut(area);
+    open_in_order(front, flash, ram, &mut back[0].bytes, second, user);
+}
+
+/// Opens the bytes of four banks that lie in this order.
+#[inline(always)]
+fn open_four<B: WindowUser>(
+    banks: &mut [Bank],
+    flash: usize,
+    ram: usize,
+    area: usize,
+    second: usize,
+    user: &mut B,
+)
+    requires there { second < length banks.old }
+    requires second { area < second }
+    requires area { ram < area }
+    requires ram { flash < ram }
+    ensures { AreAllOpened B.did banks.old flash (Some ram) (Some area) (Some second) user.old
+        user.new banks.new }
+{
+    let (front, back) = banks.split_at_mut(second);
+    open_three(front, flash, ram, area, &mut back[0].bytes, user);
+}
+
+/// Opens the bytes of three banks that lie in this order, and no second area.
+#[inline(always)]
+fn open_three_alone<B: WindowUser>(
+    banks: &mut [Bank],
+    flash: usize,
+    ram: usize,
+    area: usize,
+    alloc: Global,
+    user: &mut B,
+)
+    requires there { area < length banks.old }
+    requires area { ram < area }
+    requires ram { flash < ram }
+    ensures { AreAllOpened B.did banks.old flash (Some ram) (Some area) None user.old user.new
+        banks.new }
+{
+    let mut none = Vec::new(alloc);
+    open_three(banks, flash, ram, area, &mut none, user);
+}
+
+/// Opens the bytes of three or four banks that lie in this order.
+#[inline(always)]
+fn open_rising<B: WindowUser>(
+    banks: &mut [Bank],
+    flash: usize,
+    ram: usize,
+    area: usize,
+    second: Option<usize>,
+    alloc: Global,
+    user: &mut B,
+)
+    requires area_there { area < length banks.old }
+    requires there { IsOne banks.old second }
+    requires second { IsBehind area second }
+    requires area { ram < area }
+    requires ram { flash < ram }
+    ensures { AreAllOpened B.did banks.old flash (Some ram) (Some area) second user.old user.new
+        banks.new }
+{
+    match second {
+        Some(k) => open_four(banks, flash, ram, area, k, user),
+        None => open_three_alone(banks, flash, ram, area, alloc, user),
+    }
+}
+
 impl Memory {
     ghost use Rattle.mem_banks.specs.Windows.{IsOpened, AreGiven};
 
-    /// As `open_window`, wherever the banks lie.
+    /// The same as `open_window`, for banks in any order and with areas.
     #[inline(never)]
     fn open_any<B: WindowUser>(
         &mut self,
@@ -386,9 +520,42 @@ impl Memory {
         true
     }
 
-    /// Opens the bytes of four regions, by base and size, where each has a bank of its own and all
-    /// but the first one lie in the RAM, or have no bytes and begin where the RAM does. Else
-    /// nothing changes, and the answer is false. Regions that were given to `open` are opened.
+    /// As `open_window`, for a task with areas. Most tasks have none, so this is a function of its
+    /// own.
+    #[inline(never)]
+    fn open_with_areas<B: WindowUser>(
+        &mut self,
+        flash: (u32, u32),
+        ram: (u32, u32),
+        area: (u32, u32),
+        second: (u32, u32),
+        user: &mut B,
+    ) -> bool
+        ensures opened { result ≡ true →
+            IsOpened B.did self.old.bytes flash ram area second user.old user.new self.new.bytes }
+        ensures given { AreGiven self.old.regions flash ram area second → result ≡ true }
+        ensures regions { self.new.regions ≡ self.old.regions }
+        ensures kept { result ≡ false → self.new ≡ self.old }
+        ensures left { result ≡ false → user.new ≡ user.old }
+    {
+        if let Some((code, data, more, last)) = rising_banks(
+            &self.banks,
+            &self.table,
+            flash,
+            ram,
+            area,
+            second,
+        ) {
+            open_rising(&mut self.banks, code, data, more, last, self.alloc, user);
+            return true;
+        }
+        self.open_any(flash, ram, area, second, user)
+    }
+
+    /// Opens the bytes of four regions, given by base and size, and returns true. Each region needs
+    /// a bank of its own. All but the first one have to lie in the RAM, or to have no bytes and
+    /// begin where the RAM begins. Otherwise nothing changes, and the result is false. Regions that
+    /// were given to `open` are opened.
     #[inline(always)]
     pub fn open_window<B: WindowUser>(
         &mut self,
@@ -416,6 +583,6 @@ impl Memory {
             open_usual(&mut self.banks, code, data, self.alloc, user);
             return true;
         }
-        self.open_any(flash, ram, area, second, user)
+        self.open_with_areas(flash, ram, area, second, user)
     }
 }

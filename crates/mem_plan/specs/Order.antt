@@ -17,7 +17,7 @@ abbrev pub numbered : ℕ → List ℕ → List Ranked
 numbered k [] = []
 numbered k (r ∷ rs) = (record { 0 = r }, k) ∷ numbered (k + 1) rs
 
--- the larger one first, of equal ones that of the lower index
+-- the larger one comes first, of equal ones that of the lower index
 abbrev pub goes_before : Ranked → Ranked → Ordering
 goes_before a b = ordering_then (nat_cmp b.0.0 a.0.0) (nat_cmp a.1 b.1)
 
@@ -29,6 +29,6 @@ IsPacked order base n bases = (k : ℕ) (d : Ranked) → k < n
 abbrev pub is_at : ℕ → Ranked → ℕ
 is_at m o = if o.1 == m then 1 else 0
 
--- no index stands twice
+-- no index occurs twice
 abbrev pub HasDistinctIndices : List Ranked → Type 0
 HasDistinctIndices order = (m : ℕ) → sum_by (is_at m) order ≤ 1

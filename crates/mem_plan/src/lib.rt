@@ -1,6 +1,6 @@
 //! Where memory regions are placed, given their sizes (docs/FORMATS.md, Plan). Each size is rounded
-//! up to a power of two of at least 256; the largest is placed first, of equal ones the one that
-//! stands first, each where the one before it ends.
+//! up to a power of two of at least 256. The regions are placed from the largest to the smallest,
+//! equal ones in the order of the list. Each begins where the one before it ends.
 #![tactic(auto)]
 
 mod made;

@@ -1,4 +1,4 @@
-//! What a plan is, and why there is none.
+//! The type of a plan, and the reasons why there is none.
 
 ghost use Rattle.std.specs.Prelude.{◌≡◌};
 ghost use Rattle.mem_plan.specs.declared.made.PlanFault.TheVariants.{Memory};
@@ -15,8 +15,8 @@ pub struct Plan {
 /// Why `plan` gives no plan.
 #[derive(Debug, Drop, Error)]
 pub enum PlanFault {
-    /// The rounded sizes sum to so many bytes (or to 2^64 - 1 or more), which is more than there
-    /// are.
+    /// The rounded sizes sum to `needed` bytes, which is more than the room. The value 2^64 - 1
+    /// stands for every sum of at least that.
     #[error("{needed} bytes are needed")]
     TooSmall { needed: u64 },
     /// There was not enough memory to make the plan.

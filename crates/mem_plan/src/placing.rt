@@ -1,4 +1,4 @@
-//! Regions in their order, packed from the base.
+//! Places regions in their order, packed from the base.
 
 ghost use Rattle.std.specs.Prelude.{◌≡◌, ◌≤◌, ◌<◌, ◌+◌, ◌^◌, length, map, sum_by, All, List, IfOk, IfErr};
 ghost use Rattle.std.specs.List.Sorted.{IsPermutation, IsSorted};
@@ -53,9 +53,9 @@ fn packed(
 /// Where regions of these sizes begin in the `room` bytes from the address `base` on. Each size is
 /// in bytes, from 1 to 2^20, and is rounded up to a power of two of at least 256.
 ///
-/// `TooSmall` comes exactly where the rounded sizes sum to more than the room, and then no other
-/// placement fits either. At a base that is a multiple of 2^20 each region begins at a multiple of
-/// its rounded size; they take the first bytes of the room (`packed`).
+/// The error is `TooSmall` exactly if the rounded sizes sum to more than the room, and then no
+/// other placement fits either. If the base is a multiple of 2^20, each region begins at a multiple
+/// of its rounded size. The regions take the first bytes of the room (`packed`).
 pub fn plan(alloc: Global, sizes: &[u32], base: u32, room: u32) -> Result<Plan, PlanFault>
     requires sizes { All (λ s. (1 ≤ s) × (s ≤ 1048576)) sizes.now }
     requires fits { base + room ≤ 2 ^ 32 }

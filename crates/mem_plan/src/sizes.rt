@@ -32,7 +32,7 @@ pub(crate) fn rounded_all(alloc: Global, sizes: &[u32]) -> Result<Vec<u32>, Allo
     Ok(out)
 }
 
-/// The sum of the sizes in bytes, or the largest number of 64 bits where the sum is above it.
+/// The sum of the sizes in bytes, or the largest number of 64 bits if the sum is above it.
 pub(crate) fn needed_of(rounded: &[u32]) -> u64
     ensures { result ≡ min (total rounded.now) (2 ^ 64 - 1) }
 {

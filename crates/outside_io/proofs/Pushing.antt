@@ -2,7 +2,7 @@
 use Rattle.std.proofs.Common.{◌≡◌, ◌<◌, ℕ, zero, suc, arith, List, [], ◌∷◌, ◌++◌, length, take, drop, get_or, Option, Some, None, refl, sym, ap, subst, ◌∙◌, append_assoc}
 use Rattle.std.specs.Prelude.{Result, Ok, Err}
 use Rattle.std.specs.List.{flat_map}
-use Rattle.std.specs.Io.KnownBytes.{Appends}
+use Rattle.std.specs.Io.KnownBytes.{Appends, Keeps}
 use Rattle.std.proofs.lemmas.List.{append-nil}
 use Rattle.outside_io.specs.Outside.{AppendsFront, Pushes}
 
@@ -15,6 +15,18 @@ appends_more None b c x y p q = tt
 appends_more (Some xs) None c x y p q = absurd p
 appends_more (Some xs) (Some ys) None x y p q = absurd q
 appends_more (Some xs) (Some ys) (Some zs) x y p q = q ∙ ap (λ (w : List ℕ). w ++ y) p ∙ append_assoc xs x y
+
+-- what was appended is kept
+pub appends_kept : (a b c : Option (List ℕ)) (x : List ℕ) → Appends a b x → Keeps b c → Appends a c x
+appends_kept None b c x p k = tt
+appends_kept (Some xs) None c x p k = absurd p
+appends_kept (Some xs) (Some ys) None x p k = absurd k
+appends_kept (Some xs) (Some ys) (Some zs) x p k = k ∙ p
+
+-- a text was appended whole, and then passed on or not
+pub pushes_kept : {T E : Type 0} (a b c : Option (List ℕ)) (x : List ℕ) (r : Result T E) → Appends a b x → Keeps b c → Pushes a c x r
+pushes_kept a b c x (Ok v) p k = appends_kept a b c x p k
+pushes_kept a b c x (Err e) p k = (x, ([], sym (append-nil x)), appends_kept a b c x p k)
 
 -- a front of what comes next
 pub front_more : (a b c : Option (List ℕ)) (x y : List ℕ) → Appends a b x → AppendsFront b c y → AppendsFront a c (x ++ y)

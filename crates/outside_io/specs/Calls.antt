@@ -7,7 +7,8 @@ use Rattle.outside_io.specs.Outside.{raised}
 abbrev pub is_next_listed : List ℕ → ℕ → Bool
 is_next_listed fails calls = list_any (λ k. nat_eq k (raised calls 1)) fails
 
--- a read fills the front of the buffer with all that the contents have from a place on, as far as the buffer goes, and leaves its rest
+-- a read fills the front of the buffer with the contents from a position on, up to the end of one of the two,
+-- and leaves the rest of the buffer as it was
 pub record IsWholePart (all : List ℕ) (at n : ℕ) (before after : List ℕ) : Type 0 where
   pub as_long : n ≡ min (length before) (length all - at)
   pub filled : after ≡ take n (drop at all) ++ drop n before

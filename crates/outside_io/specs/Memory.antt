@@ -15,7 +15,8 @@ contents_by m = contents_under m.held
 abbrev pub rooms_of : MemFiles → List ℕ → Option ℕ
 rooms_of m = room_under m.held
 
--- all of the files in memory but what they hold: which calls are to fail, how many were made, the three counts, the last failing name
+-- the files in memory without their contents: which calls have to fail, how many were made, the three counts,
+-- and the last failing name
 pub record Tally : Type 0 where
   pub fails : List ℕ
   pub calls : ℕ

@@ -1,8 +1,8 @@
 -- What reads, puts and pushes do, by what an object shows of itself and by its counts.
-use Rattle.std.specs.Prelude.{◌≡◌, ◌⊎◌, ℕ, ◌+◌, ◌-◌, ◌^◌, ◌<◌, ◌≤◌, min, List, ◌++◌, length, take, drop, Option, Some, Result, MatchResult, OnErr}
+use Rattle.std.specs.Prelude.{◌≡◌, ℕ, ◌+◌, ◌-◌, ◌^◌, ◌<◌, ◌≤◌, min, List, ◌++◌, length, take, drop, Option, Some, Result, MatchResult, OnErr}
 use Rattle.std.specs.Io.KnownBytes.{Appends}
 
--- where an object shows a value, it has P
+-- if an object shows a value, the value has P
 abbrev pub WhereSeen : {T : Type 0} → Option T → (T → Type 0) → Type 0
 WhereSeen {T} contents P = (value : T) → contents ≡ Some value → P value
 
@@ -14,12 +14,12 @@ raised count by = min (count + by) (2 ^ 64 - 1)
 abbrev pub Rose : ℕ → ℕ → Type 0
 Rose before now = raised before 1 ≤ now
 
--- a failure is answered only where the count of faults rose, and the count doesn't fall
+-- a failure is returned only if the count of faults rose, and the count does not fall
 pub record HasCause {T E : Type 0} (before now : ℕ) (result : Result T E) : Type 0 where
   pub later : before ≤ now
   pub failed : OnErr result (Rose before now)
 
--- the count rises by one at a failure, and stays else
+-- the count rises by one at a failure, and otherwise stays
 abbrev pub CountsFailure : {T E : Type 0} → ℕ → ℕ → Result T E → Type 0
 CountsFailure before now result = MatchResult result (λ _. now ≡ before) (λ _. now ≡ raised before 1)
 
@@ -45,11 +45,9 @@ Gives before now result = MatchResult result (λ n. now ≡ raised before n) (λ
 abbrev pub IsFront : List ℕ → List ℕ → Type 0
 IsFront front bytes = (back : List ℕ) × (bytes ≡ front ++ back)
 
--- what a put leaves under its name, where it is seen: the new bytes, or after a failure the old ones or a front of the new ones
+-- what a put leaves under its name: the new bytes, where it is seen, or after a failure what was there
 abbrev pub Puts : {E : Type 0} → Option (List ℕ) → Option (List ℕ) → List ℕ → Result (Unit {0}) E → Type 0
-Puts old new bytes result = MatchResult result
-    (λ _. WhereSeen new (λ c. c ≡ bytes))
-    (λ _. WhereSeen new (λ c. (old ≡ Some c) ⊎ IsFront c bytes))
+Puts old new bytes result = MatchResult result (λ _. WhereSeen new (λ c. c ≡ bytes)) (λ _. new ≡ old)
 
 -- a front of the text was appended
 abbrev pub AppendsFront : Option (List ℕ) → Option (List ℕ) → List ℕ → Type 0

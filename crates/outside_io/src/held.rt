@@ -1,7 +1,7 @@
-//! Contents in memory, and the room that they have.
+//! Contents in memory, and their room.
 ghost use Rattle.std.specs.Prelude.{◌≤◌, vec_len, vec_capacity};
 
-// Contents, and room for so many bytes in all.
+// Contents, and room for this many bytes in all.
 #[derive(Drop)]
 pub struct Held {
     pub bytes: Vec<u8>,

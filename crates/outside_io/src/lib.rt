@@ -1,6 +1,6 @@
-//! The outside of a program: files by name and a sink for its text, with what they show of
-//! themselves and their counts of faults. Real ones are the trusted edge; those in memory fail at
-//! the calls that they are given, and are pinned whole by their contracts.
+//! The outside of a program: files by name and a sink for its text, with the data that they show of
+//! themselves and their counts of faults. Real files and outputs are trusted. Those in memory fail
+//! at the calls that they are told to fail at, and their contracts say all of what they do.
 #![tactic(auto)]
 
 mod held;
@@ -8,6 +8,7 @@ mod host;
 mod lines;
 mod memory;
 mod reading;
+mod replacing;
 mod traits;
 
 pub use host::{HostFiles, HostSink};

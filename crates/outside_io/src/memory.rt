@@ -33,7 +33,7 @@ fn short_name(name: &str) -> ShortName
 
 ghost use Rattle.outside_io.specs.Held.{contents_under, room_under, has_room};
 
-// Puts the bytes in the place of those that are held under a name, which has room for them.
+// Replaces the bytes that are held under a name by these, for which the name has room.
 fn replace(held: &mut BTreeMap<String, Held>, name: &str, bytes: &[u8])
     requires { has_room held.old name.now (length bytes.now) ≡ true }
     ensures put { contents_under held.new name.now ≡ Some bytes.now }
@@ -51,7 +51,7 @@ fn replace(held: &mut BTreeMap<String, Held>, name: &str, bytes: &[u8])
     }
 }
 
-// A file is held under the name, and has room for so many bytes.
+// Whether a file is held under the name and has room for this many bytes.
 fn is_roomy(held: &BTreeMap<String, Held>, name: &str, len: usize) -> bool
     ensures { result ≡ has_room held.now name.now len }
 {
@@ -64,7 +64,8 @@ fn is_roomy(held: &BTreeMap<String, Held>, name: &str, len: usize) -> bool
 ghost use Rattle.outside_io.specs.Calls.{is_next_listed, IsWholePart};
 ghost use Rattle.outside_io.specs.Outside.{IsPart};
 
-// Copies the bytes from a place on to the front of the buffer, as many as both have.
+// Copies the bytes from a position on to the front of the buffer, as many as there are and as the
+// buffer has room for.
 fn copy_part(all: &[u8], at: u64, buf: &mut [u8]) -> usize
     ensures whole { IsWholePart all.now at result buf.old buf.new }
     ensures bound { result ≤ length buf.new }
@@ -80,7 +81,7 @@ fn copy_part(all: &[u8], at: u64, buf: &mut [u8]) -> usize
     count
 }
 
-// Counts a call, and says whether it is one of those that are to fail.
+// Counts a call, and says whether it has to fail.
 fn count_call(fails: &[u64], calls: &mut u64) -> bool
     ensures listed { result ≡ is_next_listed fails.now calls.old }
     ensures counted { calls.new ≡ raised calls.old 1 }
@@ -89,9 +90,10 @@ fn count_call(fails: &[u64], calls: &mut u64) -> bool
     fails.contains(calls)
 }
 
-/// Files in memory, each with room for so many bytes. Reads and puts are numbered together, from 1
-/// up to 2^64 - 1. One fails exactly where its number is listed, where nothing is held under its
-/// name, or where it puts more than there is room for; it then counts, and changes no contents.
+/// Files in memory, each with a limit of bytes, its room. Reads and puts are numbered together,
+/// from 1 up to 2^64 - 1. A call fails exactly if its number is listed, if nothing is held under
+/// its name, or if it puts more bytes than there is room for. A failure is counted and changes no
+/// contents.
 #[derive(Drop)]
 pub struct MemFiles {
     alloc: Global,
@@ -131,8 +133,8 @@ impl MemFiles {
         self.held.contains_key(name)
     }
 
-    /// Holds a file under a new name, with room for contents of so many bytes. It is no call that
-    /// is numbered. Where memory is wanting nothing changes.
+    /// Holds a file under a new name, with room for contents of `room` bytes. This call has no
+    /// number. If memory runs out, nothing changes.
     pub fn hold(&mut self, name: &str, bytes: &[u8], room: usize) -> Result<(), AllocError>
         requires new { contents_by self.old name.now ≡ None }
         requires fits { length bytes.now ≤ room }
@@ -163,9 +165,16 @@ impl MemFiles {
 impl Files for MemFiles {
     ghost use Rattle.outside_io.specs.Memory.{contents_by, rooms_of, tally_of, tally_after_read, tally_after_put, fails_read, fails_put};
 
-    ghost seen = { λ m. record { contents = contents_under m.held; read_faults = m.read_faults; put_faults = m.put_faults; given = m.given; last_failing = option_map (λ n. (n.len, take n.shown n.front)) m.last } };
+    ghost seen = { λ m. record {
+      contents = contents_under m.held;
+      read_faults = m.read_faults;
+      put_faults = m.put_faults;
+      given = m.given;
+      last_failing = option_map
+          (λ n. (n.len, take n.shown n.front)) m.last;
+    } };
 
-    /// Gives all bytes from the place on that the buffer has room for.
+    /// Gives all bytes from the position on that the buffer has room for.
     fn read(&mut self, name: &str, at: u64, buf: &mut [u8]) -> Result<usize, Failed>
         ensures bytes { Reads (contents_by self.old name.now) at buf.new result }
         ensures count { Gives (tally_of self.old).given (tally_of self.new).given result }
@@ -196,7 +205,7 @@ impl Files for MemFiles {
         Err(Failed)
     }
 
-    /// Puts the bytes in the place of the whole contents; the room stays.
+    /// Replaces the whole contents by these bytes; the room stays.
     fn put(&mut self, name: &str, bytes: &[u8]) -> Result<(), Failed>
         ensures bytes { Puts (contents_by self.old name.now) (contents_by self.new name.now)
             bytes.now result }
@@ -225,9 +234,9 @@ impl Files for MemFiles {
     }
 }
 
-/// Text in memory, with room for so many bytes. Pushes are numbered from 1 up to 2^64 - 1. One
-/// fails exactly where its number is listed, or where the text would be longer than the room; it
-/// then counts, and appends nothing.
+/// Text in memory, with a limit of bytes, its room. Pushes are numbered from 1 up to 2^64 - 1. A
+/// push fails exactly if its number is listed, or if the text would be longer than the room. A
+/// failure is counted and appends nothing.
 #[derive(Drop)]
 pub struct MemSink {
     bytes: Vec<u8>,
@@ -292,7 +301,7 @@ impl Sink for MemSink {
         }
     }
 
-    /// Nothing is held back.
+    /// Does nothing: no bytes are buffered.
     fn flush(&mut self) -> Result<(), Failed>
         ensures done { IsOk result }
         ensures same { self.new ≡ self.old }

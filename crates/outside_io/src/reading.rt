@@ -33,7 +33,7 @@ impl From<Failed> for ReadAll {
     }
 }
 
-/// The contents under a name, of at most `limit` bytes. Each turn of its loop takes at least one
+/// The contents under a name, of at most `limit` bytes. Each pass of its loop reads at least one
 /// byte.
 pub fn read_all<F: Files>(
     alloc: Global,
@@ -57,7 +57,7 @@ pub fn read_all<F: Files>(
     ensures long_seen { IsErrOf result TooLong →
         WhereSeen ((F.seen files.old).contents name.now) (λ all. limit < length all) }
 
-    // More than `limit` bytes are refused as too long, unless a read fails or memory is wanting.
+    // More than `limit` bytes are refused as too long, unless a read fails or memory runs out.
     ensures refused { WhereSeen ((F.seen files.old).contents name.now)
         (λ all. limit < length all → ¬ Rose (F.seen files.old).read_faults
         (F.seen files.new).read_faults → IsErrOf result TooLong ⊎ IsErrOf result Memory) }

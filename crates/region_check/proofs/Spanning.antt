@@ -1,4 +1,4 @@
--- What one region gives to a range, it gives to each of its bytes.
+-- If one region grants the right to a range, it grants it to each byte of the range.
 use Rattle.std.proofs.Common.{◌≡◌, ◌+◌, ◌<◌, ◌≤◌, ℕ, suc, Bool, true, false, ◌&&◌, ◌||◌, List, [], ◌∷◌, None, not, ap, refl, arith, leb}
 use Rattle.std.proofs.lemmas.Bool.{false≢true, le-leb, leb-true, and_parts, and_from}
 use Rattle.region_check.specs.declared.Region.{Region}

@@ -18,12 +18,12 @@ use Rattle.run_cover.proofs.Numbered.{numbered}
 pub executed_append : (a b : List (ℕ × Note)) (at : ℕ) → executed (a ++ b) at ≡ executed a at + executed b at
 executed_append a b at = sum_by-append (λ (n : ℕ × Note). cond (is_at at n.1) 1 0) a b
 
-begun_append : (o : Option Begun) (a b : List (ℕ × Note)) → begun_at_end o (a ++ b) ≡ begun_at_end (begun_at_end o a) b
+pub begun_append : (o : Option Begun) (a b : List (ℕ × Note)) → begun_at_end o (a ++ b) ≡ begun_at_end (begun_at_end o a) b
 unfolding begun_at_end
 begun_append o [] b = refl
 begun_append o (n ∷ a) b = begun_append (begun_after o n.1) a b
 
-times_append : (p : Note → Option Begun → Bool) (o : Option Begun) (a b : List (ℕ × Note)) → times p o (a ++ b) ≡ times p o a + times p (begun_at_end o a) b
+pub times_append : (p : Note → Option Begun → Bool) (o : Option Begun) (a b : List (ℕ × Note)) → times p o (a ++ b) ≡ times p o a + times p (begun_at_end o a) b
 unfolding times begun_at_end
 times_append p o [] b = omega arith
 times_append p o (n ∷ a) b =

@@ -9,3 +9,4 @@ pub mod Marking
 pub mod Numbered
 pub mod Resting
 pub mod Sections
+pub mod Taking

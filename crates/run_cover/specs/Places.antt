@@ -1,5 +1,6 @@
--- Where an instruction may stand: the even addresses of the flash, of at most 2^20 bytes from 0x08000000 on, and of the RAM, of at
--- most 2^18 from 0x20000000 on. Each has a number, by which a table is read; those of the flash come first.
+-- Places: where an instruction may stand. These are the even addresses of the flash (at most 2^20 bytes from
+-- 0x08000000 on) and of the RAM (at most 2^18 bytes from 0x20000000 on). Each place has a number, its index
+-- in a table; the places of the flash come first.
 use Rattle.std.specs.Prelude.{ℕ, ◌+◌, ◌-◌, ◌*◌, ◌/◌, ◌%◌, ◌==◌, ◌&&◌, Bool, nat_le, nat_lt, if◌then◌else◌, Option, Some, None, is_some}
 
 abbrev pub is_in_flash : ℕ → Bool

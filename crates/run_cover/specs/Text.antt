@@ -20,15 +20,15 @@ use Rattle.run_cover.specs.Ways.{half_at, insn_code, is_conditional, stands_at}
 
 -- ## a known instruction
 
--- a stroke where it was never executed
+-- `-` if it was never executed
 abbrev pub count_text : ℕ → List ℕ
 count_text n = if n == 0 then codes "-" else decimal n
 
--- `; taken <k>` of a conditional branch that was executed
+-- `; taken <k>` for a conditional branch that was executed
 abbrev pub taken_text : Bool → Count → List ℕ
 taken_text conditional c = if conditional && nat_lt 0 c.executed then codes "; taken " ++ decimal c.taken else []
 
--- `; faulted <k>` where the task faulted at it
+-- `; faulted <k>` if a task faulted at it
 abbrev pub faulted_text : ℕ → List ℕ
 faulted_text n = if n == 0 then [] else codes "; faulted " ++ decimal n
 
@@ -49,13 +49,13 @@ label_at a l = if l.1 == a then label_line l else []
 unfoldable pub labels_text : Names → ℕ → List ℕ
 labels_text ls a = flat_map (label_at a) ls
 
--- ## what belongs to none
+-- ## halfwords that belong to no known instruction
 
--- the halfword at an address belongs to a known instruction: it is its first or its second
+-- the halfword at an address is the first or the second one of a known instruction
 abbrev pub is_taken_up : Covered → ℕ → Bool
 is_taken_up v a = v.known a || (v.known (a - 2) && is_wide (half_at v.memory (a - 2)))
 
--- how many of n halfwords from an address on belong to none in a row
+-- how many halfwords in a row, from an address on and at most n, belong to no known instruction
 unfoldable pub rest_len : Covered → ℕ → ℕ → ℕ
 rest_len v a n = position_or_len (λ i. is_taken_up v (a + 2 * i)) (range_with_len 0 n)
 
@@ -63,13 +63,14 @@ rest_len v a n = position_or_len (λ i. is_taken_up v (a + 2 * i)) (range_with_l
 unfoldable pub rest_line : ℕ → ℕ → List ℕ
 rest_line a n = codes "rest " ++ hex a ++ codes " " ++ decimal n ++ codes "\n"
 
--- there begin some: the halfword is the first of the region, or the one before belongs to an instruction
+-- such a row begins at an address: the halfword there is the first one of the region, or the one before it
+-- belongs to an instruction
 abbrev pub begins_rest : Covered → ℕ → ℕ → Bool
 begins_rest v a j = not (is_taken_up v a) && (j == 0 || is_taken_up v (a - 2))
 
 -- ## a region
 
--- a known instruction, behind the labels at its address
+-- the labels at the address of a known instruction, and then its line
 abbrev pub known_text : Covered → Names → ℕ → List ℕ
 known_text v ls a = labels_text ls a ++ insn_line v.memory (v.counts a) a
 
@@ -91,7 +92,7 @@ code_line r = codes "code " ++ hex r.base ++ codes " " ++ decimal r.size ++ code
 unfoldable pub totals_text : Totals → List ℕ
 totals_text t = decimal t.executed ++ codes " of " ++ decimal t.known ++ codes " instructions, " ++ decimal t.gone ++ codes " of " ++ decimal t.ways ++ codes " ways\n"
 
--- its places: no region of code is longer than the flash, which has at most 2^20 bytes
+-- the number of places in a region; no region of code is longer than the flash, which has at most 2^20 bytes
 abbrev pub place_count : Region → ℕ
 place_count r = min r.size 1048576 / 2
 
@@ -106,11 +107,12 @@ region_text v ls r = code_line r ++ (rows_text v ls r.base (place_count r) ++ (c
 abbrev pub is_code_at : ℕ → Region → Bool
 is_code_at base r = r.base == base && r.rights.execute
 
--- the region of code that begins at an address: where several tasks have it, it is one region
+-- the region of code that begins at an address; if several tasks have it, it counts as one region
 unfoldable pub code_at : Setup → ℕ → Option Region
 code_at g base = find (is_code_at base) (regions_of g)
 
--- where a region may begin: at a multiple of 256 bytes, 4096 of the flash and then 1024 of the RAM
+-- the addresses where a region may begin: the multiples of 256 bytes, 4096 in the flash and then 1024 in the
+-- RAM
 unfoldable pub base_of : ℕ → ℕ
 base_of i = if nat_lt i 4096 then 0x08000000 + 256 * i else 0x20000000 + 256 * (i - 4096)
 
@@ -120,7 +122,7 @@ base_text g v ls i = option_map_or (region_text v ls) (code_at g (base_of i)) []
 unfoldable pub bases_text : Setup → Covered → Names → ℕ → List ℕ
 bases_text g v ls n = flat_map (base_text g v ls) (range_with_len 0 n)
 
--- of all regions; what lies in two counts twice
+-- the totals of all regions; an instruction in two regions counts twice
 abbrev pub base_totals : Setup → Covered → ℕ → Totals
 base_totals g v i = option_map_or (region_totals v) (code_at g (base_of i)) no_totals
 
@@ -130,7 +132,7 @@ all_totals g v n = fold (λ t i. added t (base_totals g v i)) no_totals (range_w
 unfoldable pub listing_text : Setup → Covered → Names → List ℕ
 listing_text g v ls = bases_text g v ls 5120 ++ (codes "in all " ++ totals_text (all_totals g v 5120))
 
--- what a run executed, where a test tells what is known of it
+-- what a listing shows of a run, with a test that says what is known
 abbrev pub covered_by : Run → (ℕ → Bool) → Covered
 covered_by r k = record { memory = r.last.memory; counts = counts r.notes; known = k }
 

@@ -15,23 +15,24 @@ added t u = record { executed = t.executed + u.executed; known = t.known + u.kno
 abbrev pub once : Bool → ℕ
 once b = if b then 1 else 0
 
--- how many of a conditional branch's two ways were gone: one where it was taken at least once, and one where it was not at least once
+-- How many of a conditional branch's two ways were used: one if it was taken at least once, and one if it was
+-- not taken at least once.
 abbrev pub ways_gone : Count → ℕ
 ways_gone c = once (nat_lt 0 c.taken) + once (nat_lt c.taken c.executed)
 
--- of a known instruction
+-- the totals of a known instruction
 abbrev pub totals_of : Bool → Count → Totals
 totals_of conditional c = record { executed = once (nat_lt 0 c.executed); known = 1; gone = (if conditional then ways_gone c else 0); ways = (if conditional then 2 else 0) }
 
--- of a place
+-- the totals of a place
 unfoldable pub totals_at : Covered → ℕ → Totals
 totals_at v a = if v.known a then totals_of (is_conditional (stands_at v.memory a)) (v.counts a) else no_totals
 
--- of n places from a base on
+-- the totals of n places from a base on
 unfoldable pub totals_in : Covered → ℕ → ℕ → Totals
 totals_in v base n = fold (λ t j. added t (totals_at v (base + 2 * j))) no_totals (range_with_len 0 n)
 
--- none of them is above a number
+-- no total is above n
 pub record AreAtMost (n : ℕ) (t : Totals) : Type 0 where
   pub executed : t.executed ≤ n
   pub known : t.known ≤ n

@@ -1,4 +1,5 @@
-//! How often each instruction was executed, taken and faulted at, as the notes of a run tell it.
+//! Counts how often each instruction was executed, was taken as a branch, and faulted, from the
+//! notes of a run.
 ghost use Rattle.std.specs.Prelude.{◌≡◌, ℕ, Bool, List, IfOk, slice_index};
 ghost use Rattle.kernel_abi.specs.declared.Note.TheVariants as note;
 ghost use Rattle.board_model.specs.Run.{at_turn};
@@ -12,9 +13,10 @@ use outside_io::Failed;
 use std::alloc::{AllocError, Global};
 use trace_text::TurnLines;
 
-/// In how many turns the instruction at a place was executed, in how many of these the task stood
-/// elsewhere than right behind it afterwards, where it is a conditional branch, and in how many the
-/// task faulted at it. A run has at most 1,000,000,000 turns.
+/// The counts of the instruction at a place. `executed` is the number of turns in which it was
+/// executed. `taken` is how many of these left the PC elsewhere than right after it, if it is a
+/// conditional branch. `faulted` is the number of turns in which the task faulted at it. A run has
+/// at most 1,000,000,000 turns.
 #[derive(Clone, Copy)]
 pub struct Count {
     pub executed: u32,
@@ -30,7 +32,7 @@ pub enum What {
     Faulted,
 }
 
-/// An instruction that a task executes in this turn: what else the turn notes tells how it ended.
+/// An instruction that a task executes in this turn. The other notes of the turn say how it ended.
 #[derive(Clone, Copy)]
 pub struct Begun {
     pub task: u16,
@@ -46,7 +48,7 @@ pub struct PlaceCounts {
 }
 
 impl Count {
-    /// Nothing was counted.
+    /// The count of nothing.
     fn none() -> Count
         ensures { result ≡ no_count }
     {
@@ -70,8 +72,8 @@ impl Count {
         count
     }
 
-    /// Whether the instruction leads anywhere: one that was executed and faulted each time does
-    /// not.
+    /// Whether the instruction leads anywhere. An instruction that was executed and faulted each
+    /// time does not.
     pub fn leads_on(&self) -> bool
         ensures { result ≡ leads_on self.now }
     {
@@ -80,8 +82,7 @@ impl Count {
 }
 
 impl Begun {
-    // Whether it is a conditional branch that was taken, where the task stands at an address
-    // afterwards.
+    // Whether the instruction is a conditional branch that was taken, if the PC is `pc` afterwards.
     fn is_taken(&self, pc: u32) -> bool
         ensures { result ≡ is_taken self.now pc }
     {
@@ -90,11 +91,11 @@ impl Begun {
 }
 
 impl PlaceCounts {
-    /// Nothing was executed yet.
+    /// A table in which nothing was counted yet.
     ///
     /// # Errors
     ///
-    /// Only want of memory.
+    /// Only if memory runs out.
     pub fn open(alloc: Global) -> Result<PlaceCounts, AllocError>
         ensures { IfOk result IsNewlyCounted }
     {
@@ -105,7 +106,7 @@ impl PlaceCounts {
         })
     }
 
-    /// What was counted at an address; nothing where there is no place.
+    /// The count at an address; zeros if the address is not a place.
     pub fn at(&self, addr: u32) -> Count
         ensures { result ≡ count_of self.now addr }
     {
@@ -121,7 +122,7 @@ impl PlaceCounts {
         }
     }
 
-    // One more at an address.
+    // Counts one more at an address.
     fn count(&mut self, at: u32, what: What)
         ensures { IsCounted self.old at what self.new }
     {
@@ -135,7 +136,7 @@ impl PlaceCounts {
         }
     }
 
-    // A task faults: at the instruction that it has begun, if it has begun one.
+    // Counts the fault of a task, at the instruction that it has begun, if it has begun one.
     fn fault(&mut self, task: u16, fault: &Fault)
         ensures { HeardNote self.old (note.Fault task fault.now) self.new }
     {
@@ -147,7 +148,7 @@ impl PlaceCounts {
         }
     }
 
-    // The turn ends with a task's PC at an address.
+    // Ends the turn with a task's PC at an address.
     fn end(&mut self, pc: u32)
         ensures { (registers : List ℕ) (n z c v : Bool) → slice_index registers 7 ≡ pc →
             HeardNote self.old (note.High registers n z c v) self.new }
@@ -160,7 +161,7 @@ impl PlaceCounts {
         }
     }
 
-    // A task begins an instruction.
+    // Begins an instruction of a task.
     fn begin(&mut self, begun: Begun)
         ensures { HeardNote self.old (note.Insn begun.task begun.at begun.code) self.new }
     {
@@ -168,7 +169,7 @@ impl PlaceCounts {
         self.count(begun.at, What::Executed);
     }
 
-    // A note was told.
+    // Counts a note.
     fn hear(&mut self, note: &Note)
         ensures { HeardNote self.old note.now self.new }
     {
@@ -184,7 +185,7 @@ impl PlaceCounts {
         }
     }
 
-    // The notes of a turn.
+    // Counts the notes of a turn.
     fn hear_all(&mut self, turn: u32, notes: &[Note])
         ensures { Heard self.old (at_turn turn notes.now) self.new }
     {

@@ -1,4 +1,4 @@
-//! A run, and how often each instruction was executed in it.
+//! Makes a run and counts how often each instruction was executed in it.
 ghost use Rattle.std.specs.Prelude.{◌≡◌, ◌≤◌, ◌-◌, ℕ, Bool, IfOk};
 ghost use Rattle.outside_io.specs.Outside.{Pushes, HasCause};
 ghost use Rattle.thumb_asm.specs.Listed.{labels_in};
@@ -21,8 +21,9 @@ use outside_io::{Failed, Sink};
 use std::alloc::{AllocError, Global};
 use thumb_asm::Label;
 
-/// What a run executed at each even address of the flash and of the RAM, twelve bytes each, 7.5 MiB
-/// together; and which of these are known to be code. All of it is made once.
+/// The counts of a run for each even address of the flash and of the RAM, and which of these
+/// addresses are known to be code. The counts take twelve bytes each, 7.5 MiB together. All of it
+/// is made once.
 #[derive(Drop)]
 pub struct Cover {
     pub counts: PlaceCounts,
@@ -30,11 +31,11 @@ pub struct Cover {
 }
 
 impl Cover {
-    /// Nothing was executed yet.
+    /// A cover in which nothing was counted yet.
     ///
     /// # Errors
     ///
-    /// Only want of memory.
+    /// Only if memory runs out.
     pub fn open(alloc: Global) -> Result<Cover, AllocError>
         ensures { IfOk result IsNew }
     {
@@ -44,7 +45,7 @@ impl Cover {
     }
 }
 
-/// Turns up to the end of the run, each of which is counted. No memory is taken in them, and
+/// Makes the turns up to the end of the run and counts what they execute. It takes no memory, and
 /// counting never fails.
 pub fn count_run(board: &mut Board, limit: u32, counts: &mut PlaceCounts) -> End
     requires stood { StandsForSome (boxed shown) board.old }
@@ -66,17 +67,17 @@ pub fn count_run(board: &mut Board, limit: u32, counts: &mut PlaceCounts) -> End
     }
 }
 
-/// Turns up to the end of the run, of which none is told, and then its cover (docs/FORMATS.md,
-/// Cover): each region of code, and what is known to be an instruction in it with how often it was
-/// executed, a line each, and before it a line for each of the labels at its address, in their
-/// order. That number is the number of turns in which a task executed it, by
-/// `each_count_is_a_number_of_turns`; what is known is what was executed, the entries of tasks, and
-/// what the direct ways of known instructions lead to, and nothing else. After a failing push
-/// nothing more is pushed; the run was made whole.
+/// Makes the turns up to the end of the run without writing a trace, and then pushes the cover of
+/// the run (docs/FORMATS.md, Cover). For each region of code it has a line for each known
+/// instruction, with how often it was executed; before that, a line for each label at its address,
+/// in their order. Each count is a number of turns, by `each_count_is_a_number_of_turns`. Exactly
+/// these instructions are known: the executed ones, the entries of tasks, and those to which known
+/// instructions lead directly. After a failing push nothing more is pushed; the run is still made
+/// to its end.
 ///
 /// # Errors
 ///
-/// Only where a push failed.
+/// Only if a push fails.
 pub fn write_cover<S: Sink>(
     board: &mut Board,
     limit: u32,
@@ -96,7 +97,7 @@ pub fn write_cover<S: Sink>(
     ensures end { (x : Scenario) (s : State) → Stands (boxed shown) x board.old s →
         IfOk result (λ e. e ≡ (run All x (limit - s.turn) s).end) }
 
-    // Where a push failed, too, the board stands at the end of the run.
+    // The board is at the end of the run, even if a push failed.
     ensures last { (x : Scenario) (s : State) → Stands (boxed shown) x board.old s →
         Stands (boxed shown) x board.new (run All x (limit - s.turn) s).last }
     ensures within { turns_of board.new ≤ limit }

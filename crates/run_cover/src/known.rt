@@ -1,5 +1,5 @@
-//! What is known to be code: what was executed, the entries of tasks, and what the direct ways of
-//! known instructions lead to.
+//! Finds what is known to be code: executed instructions, the entries of tasks, and the
+//! instructions to which known instructions lead directly.
 ghost use Rattle.std.specs.Prelude.{◌≡◌, ◌≤◌, ◌<◌, ◌+◌, ◌^◌, ◌&&◌, true, false, length, IfOk};
 ghost use Rattle.task_table.specs.model.State.{State};
 ghost use Rattle.board_model.specs.Script.{Scenario};
@@ -20,7 +20,7 @@ use board_run::{RegionTest, first_region};
 use region_check::Region;
 use std::alloc::{AllocError, Global};
 
-/// Those in which a task may execute the byte at an address.
+/// A test of regions: whether a task may execute the byte at an address in it.
 #[derive(Drop)]
 struct CodeAround {
     addr: u32,
@@ -42,7 +42,7 @@ fn is_in_code(board: &Board, addr: u32) -> bool
     first_region(board, &CodeAround { addr }).is_some()
 }
 
-// Whether the second halfword of what stands at an address may be executed too, if it has a second.
+// Whether the second halfword of the instruction at an address may be executed too, if it has one.
 fn is_whole(board: &Board, addr: u32) -> bool
     requires { addr + 2 < 2 ^ 32 }
     ensures { (x : Scenario) (s : State) → Stands (boxed shown) x board.now s →
@@ -51,7 +51,7 @@ fn is_whole(board: &Board, addr: u32) -> bool
     !is_wide(half_at(board, addr)) || is_in_code(board, addr + 2)
 }
 
-// Whether each of its halfwords may be.
+// Whether each halfword of the instruction at an address may be executed.
 fn lies_in_code(board: &Board, addr: u32) -> bool
     requires { addr + 2 < 2 ^ 32 }
     ensures { (x : Scenario) (s : State) → Stands (boxed shown) x board.now s →
@@ -60,7 +60,7 @@ fn lies_in_code(board: &Board, addr: u32) -> bool
     is_in_code(board, addr) && is_whole(board, addr)
 }
 
-// Whether an instruction stands there that is not a halfword of zeros.
+// Whether an instruction that is not a halfword of zeros stands at an address.
 fn is_insn(board: &Board, addr: u32) -> bool
     requires { addr + 3 < 2 ^ 32 }
     ensures { (x : Scenario) (s : State) → Stands (boxed shown) x board.now s →
@@ -69,7 +69,7 @@ fn is_insn(board: &Board, addr: u32) -> bool
     half_at(board, addr) != 0 && stands_at(board, addr).is_some()
 }
 
-// Whether it does so, and in regions of code.
+// Whether such an instruction stands at an address, in regions of code.
 fn is_insn_in_code(board: &Board, addr: u32) -> bool
     requires { addr + 3 < 2 ^ 32 }
     ensures { (x : Scenario) (s : State) → Stands (boxed shown) x board.now s →
@@ -78,7 +78,7 @@ fn is_insn_in_code(board: &Board, addr: u32) -> bool
     is_insn(board, addr) && lies_in_code(board, addr)
 }
 
-// Whether one stands at a place of a region of code.
+// Whether the address is a place, and such an instruction stands there in regions of code.
 fn is_code(board: &Board, addr: u32) -> bool
     ensures code { (x : Scenario) (s : State) → Stands (boxed shown) x board.now s →
         result ≡ is_code x.setup s.memory addr }
@@ -90,7 +90,7 @@ fn is_code(board: &Board, addr: u32) -> bool
     }
 }
 
-// Where a task begins at each of its births.
+// The PC at which a task begins at each of its births.
 #[tactic(auto, unfolding(crate::specs::Known::birth_pc))]
 fn birth_pc(board: &Board, task: usize) -> u32
     ensures { (x : Scenario) (s : State) → Stands (boxed shown) x board.now s →
@@ -100,8 +100,8 @@ fn birth_pc(board: &Board, task: usize) -> u32
     entry - entry % 2
 }
 
-/// Which places are known, and those of them whose ways are still to be followed. Each is put there
-/// at most once, so there is room for all of them from the start.
+/// Which places are known, and the known places whose ways are still to follow. Each place is put
+/// into `todo` at most once, so it has room for all of them from the start.
 #[derive(Drop)]
 pub struct Marks {
     pub known: Vec<bool>,
@@ -109,11 +109,11 @@ pub struct Marks {
 }
 
 impl Marks {
-    /// Nothing is known yet.
+    /// A table in which nothing is known yet.
     ///
     /// # Errors
     ///
-    /// Only want of memory.
+    /// Only if memory runs out.
     pub fn open(alloc: Global) -> Result<Marks, AllocError>
         ensures { IfOk result IsUnmarked }
     {
@@ -122,7 +122,7 @@ impl Marks {
         Ok(Marks { known, todo })
     }
 
-    /// Whether the place at an address is known; what is no place is not.
+    /// Whether the place at an address is known; false if the address is not a place.
     pub fn has(&self, addr: u32) -> bool
         ensures { result ≡ known_of self.now addr }
     {
@@ -132,7 +132,7 @@ impl Marks {
         }
     }
 
-    // A place that was not known is known from now on.
+    // Marks a place as known that was not known before.
     fn mark(&mut self, addr: u32)
         requires marks { AreMarks self.old }
         requires place { is_place addr ≡ true }
@@ -145,7 +145,7 @@ impl Marks {
         }
     }
 
-    // A place where an instruction was executed is known.
+    // Marks a place as known if an instruction was executed there.
     fn begin(&mut self, counts: &PlaceCounts, addr: u32)
         requires marks { AreMarks self.old }
         requires place { is_place addr ≡ true }
@@ -156,7 +156,7 @@ impl Marks {
         }
     }
 
-    // All such places are.
+    // Marks all places where an instruction was executed.
     fn begin_all(&mut self, counts: &PlaceCounts)
         requires { IsUnmarked self.old }
         ensures { HaveBegun (count_of counts.now) self.new }
@@ -166,7 +166,7 @@ impl Marks {
         }
     }
 
-    // A way leads to a place, which is known from now on if an instruction stands there.
+    // Marks the place to which a way leads, if an instruction stands there.
     fn lead(&mut self, board: &Board, way: Option<u32>)
         requires marks { AreMarks self.old }
         ensures marks { AreMarks self.new }
@@ -182,8 +182,8 @@ impl Marks {
         }
     }
 
-    // The entry of each task is known from now on, if an instruction stands there: whether or not
-    // it ran, the image or the supervisor may start it.
+    // Marks the entry of each task, if an instruction stands there. It does so for tasks that never
+    // ran too: the image or the supervisor may start them.
     fn enter_all(&mut self, board: &Board)
         requires marks { AreMarks self.old }
         ensures marks { AreMarks self.new }
@@ -195,7 +195,7 @@ impl Marks {
         }
     }
 
-    // The ways of a known instruction are followed.
+    // Follows the ways of a known instruction.
     fn follow(&mut self, board: &Board, counts: &PlaceCounts, addr: u32)
         requires marks { AreMarks self.old }
         requires known { known_of self.old addr ≡ true }
@@ -212,7 +212,7 @@ impl Marks {
         self.lead(board, ways.target);
     }
 
-    // A known place whose ways are still to be followed.
+    // Takes a known place whose ways are still to follow.
     fn next(&mut self) -> Option<u32>
         requires { AreMarks self.old }
         ensures { IsNext self.old result self.new }
@@ -220,7 +220,7 @@ impl Marks {
         self.todo.pop()
     }
 
-    /// What is known, once a run was counted.
+    /// Finds all that is known, after a run was counted.
     pub fn find(&mut self, board: &Board, counts: &PlaceCounts)
         requires { IsUnmarked self.old }
         ensures { (x : Scenario) (s : State) → Stands (boxed shown) x board.now s →

@@ -1,5 +1,5 @@
-//! How often each instruction of an image was executed in a run, and what of it is known to be code
-//! (docs/FORMATS.md, Cover).
+//! The cover of a run: how often each instruction of an image was executed, and which bytes are
+//! known to be code (docs/FORMATS.md, Cover).
 #![tactic(auto)]
 
 mod counts;

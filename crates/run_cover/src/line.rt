@@ -1,4 +1,4 @@
-//! Lines of a cover, each built in a buffer of 160 bytes that is empty before.
+//! The lines of a cover. Each is built in an empty buffer of 160 bytes.
 ghost use Rattle.std.specs.Prelude.{◌≡◌, ◌≤◌, ◌<◌, ◌+◌, ◌^◌, ◌++◌, [], codes};
 ghost use Rattle.arrayvec.specs.ArrayString.{array_string_len};
 ghost use Rattle.trace_text.specs.Text.{hex};
@@ -41,7 +41,7 @@ pub fn label_front(addr: u32, out: &mut Line)
     out.push_str(" ");
 }
 
-/// The line of bytes that belong to no known instruction.
+/// The line for bytes that belong to no known instruction.
 #[tactic(auto, unfolding(crate::specs::Text::rest_line))]
 pub fn rest_line(addr: u32, bytes: u32, out: &mut Line)
     requires { out.old.bytes ≡ [] }
@@ -54,7 +54,7 @@ pub fn rest_line(addr: u32, bytes: u32, out: &mut Line)
     out.push_str("\n");
 }
 
-/// How much was executed, behind so much text.
+/// Adds the totals after other text.
 #[tactic(auto, unfolding(crate::specs::Text::totals_text))]
 pub fn push_totals(totals: Totals, out: &mut Line)
     requires { array_string_len out.old ≤ 20 }
@@ -70,7 +70,7 @@ pub fn push_totals(totals: Totals, out: &mut Line)
     out.push_str(" ways\n");
 }
 
-// A count, or a stroke where there was none.
+// Adds a count, or `-` if it is 0.
 fn push_count(count: u32, out: &mut Line)
     requires { array_string_len out.old + 20 ≤ 160 }
     ensures bytes { out.new.bytes ≡ out.old.bytes ++ count_text count }
@@ -83,7 +83,7 @@ fn push_count(count: u32, out: &mut Line)
     }
 }
 
-// How often a conditional branch that was executed was taken.
+// Adds how often an executed conditional branch was taken.
 fn push_taken(conditional: bool, count: Count, out: &mut Line)
     requires { array_string_len out.old + 28 ≤ 160 }
     ensures bytes { out.new.bytes ≡ out.old.bytes ++ taken_text conditional count }
@@ -95,7 +95,7 @@ fn push_taken(conditional: bool, count: Count, out: &mut Line)
     }
 }
 
-// How often the task faulted, if it did.
+// Adds how often a task faulted, if it did.
 fn push_faulted(count: u32, out: &mut Line)
     requires { array_string_len out.old + 30 ≤ 160 }
     ensures bytes { out.new.bytes ≡ out.old.bytes ++ faulted_text count }
@@ -107,8 +107,8 @@ fn push_faulted(count: u32, out: &mut Line)
     }
 }
 
-/// The line of a known instruction: how often it was executed, its address, what stands there, and
-/// how often a conditional branch was taken, or the task faulted.
+/// The line of a known instruction: how often it was executed, its address and its text, then how
+/// often a conditional branch was taken and how often a task faulted.
 #[tactic(auto, unfolding(crate::specs::Text::insn_line))]
 pub fn insn_line(board: &Board, count: Count, addr: u32, out: &mut Line)
     requires inside { addr + 3 < 2 ^ 32 }

@@ -1,4 +1,4 @@
-//! The regions of code, line by line.
+//! Pushes the regions of code, line by line.
 ghost use Rattle.std.specs.Prelude.{◌≡◌, ◌≤◌, ◌<◌, ◌+◌, ◌*◌, ◌-◌, ◌^◌, ◌++◌, codes, IfSome};
 ghost use Rattle.outside_io.specs.Outside.{Pushes, HasCause};
 ghost use Rattle.thumb_asm.specs.Listed.{label_of, labels_in};
@@ -23,7 +23,7 @@ use outside_io::{Failed, Sink};
 use region_check::Region;
 use thumb_asm::Label;
 
-/// Those with code that begin at an address.
+/// A test of regions: whether it has code and begins at an address.
 #[derive(Drop)]
 struct CodeAt {
     base: u32,
@@ -37,7 +37,7 @@ impl RegionTest for CodeAt {
     }
 }
 
-// The region of code that begins at an address, of whatever task.
+// The region of code that begins at an address, of any task.
 #[tactic(auto, unfolding(crate::specs::Text::code_at))]
 fn code_at(board: &Board, base: u32) -> Option<Region>
     ensures base { IfSome result (λ r. r.base ≡ base) }
@@ -57,7 +57,8 @@ fn is_taken_up(board: &Board, cover: &Cover, addr: u32) -> bool
     cover.marks.has(addr) || (cover.marks.has(addr - 2) && is_wide(half_at(board, addr - 2)))
 }
 
-// How many of so many halfwords from an address on belong to none in a row.
+// How many halfwords in a row, from an address on and at most `most`, belong to no known
+// instruction.
 fn rest_len(board: &Board, cover: &Cover, addr: u32, most: u32) -> u32
     requires above { 2 ≤ addr }
     requires inside { addr + 2 * most + 3 < 2 ^ 32 }
@@ -73,7 +74,7 @@ fn rest_len(board: &Board, cover: &Cover, addr: u32, most: u32) -> u32
     most
 }
 
-// Whether some begin at an address, which is that of a region's first halfword, or not.
+// Whether such a row begins at an address. The address is that of the j-th place of a region.
 fn begins_rest(board: &Board, cover: &Cover, addr: u32, j: u32) -> bool
     requires above { 4 ≤ addr }
     requires inside { addr + 3 < 2 ^ 32 }
@@ -117,7 +118,7 @@ fn push_label_line<S: Sink>(label: &Label, out: &mut S) -> Result<(), Failed>
     out.push(b"\n")
 }
 
-// The line of a label, where it stands at an address.
+// Pushes the line of a label, if the label is at the address.
 fn push_label<S: Sink>(label: &Label, addr: u32, out: &mut S) -> Result<(), Failed>
     ensures bytes { Pushes (S.seen out.old).written (S.seen out.new).written
         (label_at addr (label_of label.now)) result }
@@ -129,7 +130,7 @@ fn push_label<S: Sink>(label: &Label, addr: u32, out: &mut S) -> Result<(), Fail
     Ok(())
 }
 
-// The lines of the labels at an address.
+// Pushes the lines of the labels at an address.
 fn push_labels<S: Sink>(labels: &[Label], addr: u32, out: &mut S) -> Result<(), Failed>
     ensures bytes { Pushes (S.seen out.old).written (S.seen out.new).written
         (labels_text (labels_in labels.now) addr) result }
@@ -141,7 +142,7 @@ fn push_labels<S: Sink>(labels: &[Label], addr: u32, out: &mut S) -> Result<(), 
     Ok(())
 }
 
-// A known instruction, behind the labels at its address.
+// Pushes the labels at the address of a known instruction, and then its line.
 fn push_known<S: Sink>(
     board: &Board,
     cover: &Cover,
@@ -159,7 +160,7 @@ fn push_known<S: Sink>(
     push_insn(board, cover, addr, out)
 }
 
-// The lines of the j-th of so many places, if it has some.
+// Pushes the lines of the j-th place, if it has any.
 fn push_place<S: Sink>(
     board: &Board,
     cover: &Cover,
@@ -186,7 +187,7 @@ fn push_place<S: Sink>(
     Ok(())
 }
 
-// So many places from a base on.
+// Pushes the lines of the places from a base on.
 fn push_rows<S: Sink>(
     board: &Board,
     cover: &Cover,
@@ -257,7 +258,7 @@ fn region_totals(board: &Board, cover: &Cover, region: &Region) -> Totals
     totals_in(board, cover, region.base, place_count(region))
 }
 
-// The lines of a region.
+// Pushes the lines of a region.
 fn push_region<S: Sink>(
     board: &Board,
     cover: &Cover,
@@ -277,10 +278,10 @@ fn push_region<S: Sink>(
     push_covered(region_totals(board, cover, region), out)
 }
 
-/// So many multiples of 256 bytes the flash has.
+/// The number of multiples of 256 bytes in the flash.
 const FLASH_BASES: u32 = 4096;
 
-/// So many both banks have.
+/// The number of multiples of 256 bytes in the flash and the RAM.
 const BASES: u32 = 5120;
 
 // The i-th address where a region may begin.
@@ -298,7 +299,7 @@ fn base_of(i: u32) -> u32
     }
 }
 
-// The lines of the region that begins there, if one does.
+// Pushes the lines of the region that begins at the i-th address, if one does.
 fn push_base<S: Sink>(
     board: &Board,
     cover: &Cover,
@@ -318,7 +319,7 @@ fn push_base<S: Sink>(
     }
 }
 
-// What of it was executed.
+// The totals of the region that begins at the i-th address; none if no region begins there.
 fn base_totals(board: &Board, cover: &Cover, i: u32) -> Totals
     requires inside { i < 5120 }
     ensures is { (x : Scenario) (s : State) → Stands (boxed shown) x board.now s →
@@ -360,15 +361,15 @@ fn all_totals(board: &Board, cover: &Cover) -> Totals
     totals
 }
 
-/// Each different region of code by ascending base: a line `code <base> <size>`, a line for each
-/// known instruction, with a line for each of the labels at its address before it, and for bytes of
-/// none, and a line that says how much was executed; and then a line that says so of all
-/// (docs/FORMATS.md, Cover). A line is one push, that of a label three. After a failing push
-/// nothing more is pushed.
+/// Pushes each different region of code by ascending base (docs/FORMATS.md, Cover). A region has a
+/// line `code <base> <size>`; a line for each known instruction, after a line for each label at its
+/// address; a line for each row of bytes that belong to no known instruction; and a line with its
+/// totals. At the end comes a line with the totals of all regions. A line is one push, that of a
+/// label three. After a failing push nothing more is pushed.
 ///
 /// # Errors
 ///
-/// Only where a push failed.
+/// Only if a push fails.
 pub fn push_listing<S: Sink>(
     board: &Board,
     cover: &Cover,

@@ -1,17 +1,17 @@
-//! Where an instruction may stand: the even addresses of the flash and of the RAM, and their
-//! numbers in a table.
+//! Places: the even addresses of the flash and of the RAM, where an instruction may stand, and
+//! their numbers in a table.
 ghost use Rattle.std.specs.Prelude.{◌≡◌, ◌<◌};
 ghost use Rattle.run_cover.specs.Places.{address_of, place_of};
 
 use mem_banks::{FLASH, RAM};
 
-/// So many places the flash has, of 2^20 bytes at most.
+/// The number of places in the flash, which has at most 2^20 bytes.
 const FLASH_PLACES: usize = 524_288;
 
-/// So many both banks have together: the RAM has 2^18 bytes at most.
+/// The number of places in the flash and the RAM. The RAM has at most 2^18 bytes.
 pub const PLACES: usize = 655_360;
 
-/// The number of the place at an address, where there is one: those of the flash come first.
+/// The number of the place at an address, if there is one. The places of the flash come first.
 pub fn place_of(addr: u32) -> Option<usize>
     ensures { result ≡ place_of addr }
 {

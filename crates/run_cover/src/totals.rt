@@ -13,7 +13,7 @@ use crate::ways::{is_conditional, stands_at};
 use board_core::Board;
 
 /// How many known instructions were executed, and how many there are; how many ways of conditional
-/// branches were gone, and how many there are.
+/// branches were used, and how many there are.
 #[derive(Clone, Copy)]
 pub struct Totals {
     pub executed: u64,
@@ -29,7 +29,7 @@ fn once(is: bool) -> u64
 }
 
 impl Totals {
-    /// Those of nothing.
+    /// The totals of nothing.
     pub fn none() -> Totals
         ensures is { result ≡ no_totals }
         ensures few { AreAtMost 0 result }
@@ -42,7 +42,7 @@ impl Totals {
         }
     }
 
-    /// Those of both; the counts are of instructions, of which no cover has 2^62.
+    /// The sum of both. No cover counts 2^62 instructions.
     pub fn added(self, other: Totals) -> Totals
         requires mine { AreAtMost (2 ^ 62) self }
         requires theirs { AreAtMost (2 ^ 62) other }
@@ -57,7 +57,7 @@ impl Totals {
     }
 }
 
-/// Those of an instruction.
+/// The totals of an instruction.
 pub fn totals_of(conditional: bool, count: Count) -> Totals
     ensures is { result ≡ totals_of conditional count }
     ensures few { AreAtMost 2 result }
@@ -80,7 +80,7 @@ pub fn totals_of(conditional: bool, count: Count) -> Totals
     }
 }
 
-// Those of a place.
+// The totals of a place.
 #[tactic(auto, unfolding(crate::specs::Totals::totals_at))]
 fn totals_at(board: &Board, cover: &Cover, addr: u32) -> Totals
     requires { addr + 3 < 2 ^ 32 }
@@ -97,7 +97,7 @@ fn totals_at(board: &Board, cover: &Cover, addr: u32) -> Totals
     )
 }
 
-/// Those of so many places from a base on.
+/// The totals of `count` places from a base on.
 #[tactic(auto, unfolding(crate::specs::Totals::totals_in))]
 pub fn totals_in(board: &Board, cover: &Cover, base: u32, count: u32) -> Totals
     requires inside { base + 2 * count + 3 < 2 ^ 32 }

@@ -1,4 +1,4 @@
-//! lcov's tracefile of a run.
+//! Makes lcov's tracefile of a run.
 ghost use Rattle.std.specs.Prelude.{◌≡◌, ◌≤◌, ◌<◌, ◌-◌, ◌*◌, ◌++◌, IfOk, OnOk, map, string_bytes};
 ghost use Rattle.std.specs.List.{flat_map};
 ghost use Rattle.task_table.specs.model.State.{State};
@@ -19,7 +19,7 @@ use board_core::{Board, End};
 use std::alloc::{AllocError, Global};
 use thumb_asm::InsnLine;
 
-/// A source: the name of its file, and its lines that are instructions.
+/// A source: the name of its file, and the lines that are instructions.
 #[derive(Clone, Copy)]
 pub struct Source<'a> {
     pub name: &'a str,
@@ -47,7 +47,7 @@ fn times_text(alloc: Global, executed: u32, times: u32) -> Result<String, AllocE
     Ok(text)
 }
 
-// How often a way of a branch was gone.
+// The line that says how often a way of a branch was used.
 fn way_line(
     alloc: Global,
     number: usize,
@@ -62,7 +62,7 @@ fn way_line(
     Ok(line)
 }
 
-// How often a branch was taken, and how often not.
+// Pushes how often a branch was taken, and how often it was not.
 fn push_ways(alloc: Global, number: usize, count: Count, out: &mut String) -> Result<(), AllocError>
     ensures { OnOk result (string_bytes out.new ≡ string_bytes out.old ++ ways_lines number count) }
 {
@@ -74,7 +74,7 @@ fn push_ways(alloc: Global, number: usize, count: Count, out: &mut String) -> Re
     Ok(())
 }
 
-// The same of a line, where it is a branch.
+// Pushes the same for a line, if it is a branch.
 fn push_branch(
     alloc: Global,
     board: &Board,
@@ -109,7 +109,7 @@ fn push_branches(
     Ok(())
 }
 
-// How often a line was executed.
+// The line that says how often a source line was executed.
 fn data_line(alloc: Global, counts: &PlaceCounts, line: &InsnLine) -> Result<String, AllocError>
     ensures { IfOk result (λ text. string_bytes text ≡ data_line (count_of counts.now) line.now) }
 {
@@ -173,7 +173,7 @@ fn lines_found(alloc: Global, totals: Totals) -> Result<String, AllocError>
     Ok(text)
 }
 
-// The section of a source.
+// Pushes the section of a source.
 fn push_source(
     alloc: Global,
     board: &Board,
@@ -211,14 +211,14 @@ fn tracefile_text(
     Ok(text)
 }
 
-/// Turns up to the end of the run, of which none is told, and then lcov's tracefile of it
-/// (docs/FORMATS.md, Tracefile): a section for each source, with how often each of its lines was
-/// executed, and how often each of its conditional branches was taken and not taken. What stands at
-/// a line's address at the end of the run tells whether it is one.
+/// Makes the turns up to the end of the run without writing a trace, and then makes lcov's
+/// tracefile of the run (docs/FORMATS.md, Tracefile). It has a section for each source, with how
+/// often each line was executed, and how often each conditional branch was taken and not taken. A
+/// line counts as a conditional branch if one stands at its address at the end of the run.
 ///
 /// # Errors
 ///
-/// Only want of memory. The run was made whole.
+/// Only if memory runs out. The run is still made to its end.
 pub fn write_tracefile(
     alloc: Global,
     board: &mut Board,

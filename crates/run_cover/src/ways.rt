@@ -1,4 +1,4 @@
-//! What stands at an address, and where an instruction leads directly.
+//! Which instruction stands at an address, and where it leads directly.
 ghost use Rattle.std.specs.Prelude.{◌≡◌, ◌≤◌, ◌<◌, ◌+◌, ◌^◌};
 ghost use Rattle.thumb_insn.specs.Table.{is_wide};
 ghost use Rattle.thumb_insn.specs.Text.{branch_target};
@@ -13,7 +13,7 @@ use board_run::byte_at;
 use thumb_insn::{Decoded, Insn};
 use trace_text::code_decoded;
 
-/// Where an instruction leads directly: to the place right behind it, and to the target of a
+/// Where an instruction leads directly: to the address right after it, and to the target of a
 /// branch.
 #[derive(Clone, Copy)]
 pub struct Ways {
@@ -30,15 +30,14 @@ pub fn half_at(board: &Board, addr: u32) -> u16
     u16::from(byte_at(board, addr)) + 256 * u16::from(byte_at(board, addr + 1))
 }
 
-/// Whether a halfword is the first of two.
+/// Whether a halfword is the first one of a two-halfword instruction.
 pub fn is_wide(first: u16) -> bool
     ensures { result ≡ is_wide first }
 {
     first / 2048 >= 29
 }
 
-/// The code of what stands at an address: of one halfword, or of two with the first in the high
-/// half.
+/// The code at an address: one halfword, or two with the first one in the high half.
 pub fn insn_code(board: &Board, addr: u32) -> u32
     requires { addr + 3 < 2 ^ 32 }
     ensures { (x : Scenario) (s : State) → Stands (boxed shown) x board.now s →
@@ -64,7 +63,7 @@ fn insn_of(decoded: Decoded) -> Option<Insn>
     }
 }
 
-/// The instruction that a code is, if it is one.
+/// The instruction of a code, if the code is an instruction.
 #[tactic(auto, unfolding(crate::specs::Ways::decoded))]
 pub fn decoded(code: u32) -> Option<Insn>
     ensures { result ≡ decoded code }
@@ -81,7 +80,7 @@ pub fn stands_at(board: &Board, addr: u32) -> Option<Insn>
     decoded(insn_code(board, addr))
 }
 
-/// Whether it is a conditional branch.
+/// Whether an instruction is a conditional branch.
 pub fn is_conditional(insn: Option<Insn>) -> bool
     ensures { result ≡ is_conditional insn }
 {
@@ -91,7 +90,7 @@ pub fn is_conditional(insn: Option<Insn>) -> bool
     }
 }
 
-// Whether it goes on to the place right behind it.
+// Whether an instruction goes on to the address right after it.
 fn goes_on(insn: Insn) -> bool
     ensures { result ≡ goes_on insn }
 {
@@ -113,7 +112,7 @@ fn branch_target(at: u32, offset: i32) -> u32
     at.wrapping_add(4).wrapping_add(offset.cast_unsigned())
 }
 
-// Where a branch at an address goes to.
+// The target of a branch at an address.
 fn target_of(at: u32, insn: Insn) -> Option<u32>
     ensures { result ≡ target_of at insn }
 {
@@ -125,7 +124,7 @@ fn target_of(at: u32, insn: Insn) -> Option<u32>
     }
 }
 
-// The length in bytes of what stands at an address.
+// The length in bytes of the code at an address.
 fn size_at(board: &Board, addr: u32) -> u32
     requires { addr + 3 < 2 ^ 32 }
     ensures size { (x : Scenario) (s : State) → Stands (boxed shown) x board.now s →
@@ -160,7 +159,7 @@ fn ways_of(addr: u32, size: u32, insn: Option<Insn>) -> Ways
     }
 }
 
-/// Where what stands at an address leads directly.
+/// Where the instruction at an address leads directly.
 #[tactic(auto, unfolding(crate::specs::Ways::ways_at))]
 pub fn ways_at(board: &Board, addr: u32) -> Ways
     requires { addr + 4 < 2 ^ 32 }

@@ -1,4 +1,4 @@
--- The first task that has a call open, place by place.
+-- The first task that has a call open, found index by index.
 use Rattle.std.proofs.Common.{◌≡◌, ◌<◌, ◌≤◌, ℕ, ◌+◌, Bool, true, false, List, ◌∷◌, refl, sym, ◌∙◌, length, get_or, drop, drop-cons, add-one, if◌then◌else◌, None, ap}
 use Rattle.std.proofs.lemmas.List.{drop_all}
 use Rattle.lane_picture.specs.declared.parts.TaskCalls.{TaskCalls}

@@ -1,4 +1,4 @@
--- A stretch of cells that changes, cell by cell and once more.
+-- Some cells in a row that are changed, one cell after another.
 use Rattle.std.proofs.Common.{◌≡◌, ◌≢◌, ◌<◌, ◌≤◌, ℕ, ◌+◌, ◌*◌, ◌||◌, Bool, true, false, List, [], ◌∷◌, length, get_or, set, take, refl, sym, ap, ◌∙◌, below_more, arith}
 use Rattle.std.specs.List.{list_any}
 use Rattle.std.proofs.lemmas.List.{get_or-set_same, get_or-set_other, get_or_default, length-set}
@@ -51,13 +51,13 @@ or_none false = refl
 
 marked_more : (notes : List Note) (n : ℕ) (d : Note) (i : ℕ) (x : Cell) → n < length notes → marked (take (n + 1) notes) i x ≡ marked (get_or notes n d ∷ []) i (marked (take n notes) i x)
 marked_more notes n d i x lt =
-    ap (λ (b : Bool). record { words = x.words; faulted = x.faulted || b; born = x.born || list_any (is_birth_of i) (take (n + 1) notes) }) (list_any_more (is_fault_of i) notes n d lt)
-    ∙ ap (λ (b : Bool). record { words = x.words; faulted = b; born = x.born || list_any (is_birth_of i) (take (n + 1) notes) }) (or_more x.faulted (list_any (is_fault_of i) (take n notes)) (is_fault_of i (get_or notes n d)))
-    ∙ ap (λ (b : Bool). record { words = x.words; faulted = (x.faulted || list_any (is_fault_of i) (take n notes)) || (is_fault_of i (get_or notes n d) || false); born = x.born || b }) (list_any_more (is_birth_of i) notes n d lt)
-    ∙ ap (λ (b : Bool). record { words = x.words; faulted = (x.faulted || list_any (is_fault_of i) (take n notes)) || (is_fault_of i (get_or notes n d) || false); born = b }) (or_more x.born (list_any (is_birth_of i) (take n notes)) (is_birth_of i (get_or notes n d)))
+    ap (λ (b : Bool). record { turns = x.turns; faulted = x.faulted || b; born = x.born || list_any (is_birth_of i) (take (n + 1) notes) }) (list_any_more (is_fault_of i) notes n d lt)
+    ∙ ap (λ (b : Bool). record { turns = x.turns; faulted = b; born = x.born || list_any (is_birth_of i) (take (n + 1) notes) }) (or_more x.faulted (list_any (is_fault_of i) (take n notes)) (is_fault_of i (get_or notes n d)))
+    ∙ ap (λ (b : Bool). record { turns = x.turns; faulted = (x.faulted || list_any (is_fault_of i) (take n notes)) || (is_fault_of i (get_or notes n d) || false); born = x.born || b }) (list_any_more (is_birth_of i) notes n d lt)
+    ∙ ap (λ (b : Bool). record { turns = x.turns; faulted = (x.faulted || list_any (is_fault_of i) (take n notes)) || (is_fault_of i (get_or notes n d) || false); born = b }) (or_more x.born (list_any (is_birth_of i) (take n notes)) (is_birth_of i (get_or notes n d)))
 
 marked_none : (i : ℕ) (x : Cell) → marked [] i x ≡ x
-marked_none i x = ap (λ (b : Bool). record { words = x.words; faulted = b; born = x.born || false }) (or_none x.faulted) ∙ ap (λ (b : Bool). record { words = x.words; faulted = x.faulted; born = b }) (or_none x.born)
+marked_none i x = ap (λ (b : Bool). record { turns = x.turns; faulted = b; born = x.born || false }) (or_none x.faulted) ∙ ap (λ (b : Bool). record { turns = x.turns; faulted = x.faulted; born = b }) (or_none x.born)
 
 -- no note changes nothing
 pub marks_none : (cells : List Cell) (at many : ℕ) → Changed cells cells at many (marked [])
@@ -69,7 +69,7 @@ marks_more a b c at many notes n d lt p q =
 
 -- what reading a slice of cells gives behind its end
 abbrev pub blank : Cell
-blank = record { words = []; faulted = false; born = false }
+blank = record { turns = []; faulted = false; born = false }
 
 -- a cell that is as it was, made of itself
 pub changed_here : (g : Cell → Cell) (f : ℕ → Cell → Cell) (old now : List Cell) (at i : ℕ) (c : Cell) → at + i < length old → Changed old now at i f → c ≡ g (get_or now (at + i) blank) → ((x : Cell) → g x ≡ f i x) → Changed old (set now (at + i) c) at (i + 1) f

@@ -8,7 +8,7 @@ use Rattle.lane_picture.specs.declared.parts.Arrow.{Arrow}
 use Rattle.lane_picture.specs.declared.parts.TaskCalls.{TaskCalls}
 use Rattle.run_lanes.specs.First.{IsFirst}
 use Rattle.run_lanes.specs.Told.{TurnNote, all_arrows, all_events, arrows_of, arrows_of_notes, calls_after, calls_at_end, calls_at_end_of, events_of, is_event}
-use Rattle.run_lanes.specs.Words.{TurnSight}
+use Rattle.run_lanes.specs.Activities.{TurnSight}
 
 -- ## one note more
 
@@ -21,17 +21,17 @@ calls_suc turn cs (n ∷ notes) (suc i) d lt = calls_suc turn (calls_after turn 
 calls_more : (turn : ℕ) (cs : List TaskCalls) (notes : List Note) (i : ℕ) (d : Note) → i < length notes → calls_at_end_of turn cs (take (i + 1) notes) ≡ calls_after turn (calls_at_end_of turn cs (take i notes)) (get_or notes i d)
 calls_more turn cs notes i d lt = rw add-one (calls_suc turn cs notes i d lt)
 
-arrows_suc : (turn : ℕ) (cs : List TaskCalls) (notes : List Note) (i : ℕ) (d : Note) → i < length notes →
-    arrows_of_notes turn cs (take (suc i) notes) ≡ arrows_of_notes turn cs (take i notes) ++ arrows_of turn (calls_at_end_of turn cs (take i notes)) (get_or notes i d)
+arrows_suc : (turn : ℕ) (all : List Note) (cs : List TaskCalls) (notes : List Note) (i : ℕ) (d : Note) → i < length notes →
+    arrows_of_notes turn all cs (take (suc i) notes) ≡ arrows_of_notes turn all cs (take i notes) ++ arrows_of turn all (calls_at_end_of turn cs (take i notes)) (get_or notes i d)
 unfolding arrows_of_notes calls_at_end_of
-arrows_suc turn cs [] i d lt = absurd (omega arith)
-arrows_suc turn cs (n ∷ notes) zero d lt = append-nil (arrows_of turn cs n)
-arrows_suc turn cs (n ∷ notes) (suc i) d lt =
-    ap (λ (l : List Arrow). arrows_of turn cs n ++ l) (arrows_suc turn (calls_after turn cs n) notes i d (omega arith)) ∙ sym (append_assoc (arrows_of turn cs n) _ _)
+arrows_suc turn all cs [] i d lt = absurd (omega arith)
+arrows_suc turn all cs (n ∷ notes) zero d lt = append-nil (arrows_of turn all cs n)
+arrows_suc turn all cs (n ∷ notes) (suc i) d lt =
+    ap (λ (l : List Arrow). arrows_of turn all cs n ++ l) (arrows_suc turn all (calls_after turn cs n) notes i d (omega arith)) ∙ sym (append_assoc (arrows_of turn all cs n) _ _)
 
-arrows_more : (turn : ℕ) (cs : List TaskCalls) (notes : List Note) (i : ℕ) (d : Note) → i < length notes →
-    arrows_of_notes turn cs (take (i + 1) notes) ≡ arrows_of_notes turn cs (take i notes) ++ arrows_of turn (calls_at_end_of turn cs (take i notes)) (get_or notes i d)
-arrows_more turn cs notes i d lt = rw add-one (arrows_suc turn cs notes i d lt)
+arrows_more : (turn : ℕ) (all : List Note) (cs : List TaskCalls) (notes : List Note) (i : ℕ) (d : Note) → i < length notes →
+    arrows_of_notes turn all cs (take (i + 1) notes) ≡ arrows_of_notes turn all cs (take i notes) ++ arrows_of turn all (calls_at_end_of turn cs (take i notes)) (get_or notes i d)
+arrows_more turn all cs notes i d lt = rw add-one (arrows_suc turn all cs notes i d lt)
 
 picked_by : {X Y : Type 0} (b : Bool) (f : X → Y) (x : X) (xs ys : List X) (cs : List Y) → map f xs ≡ map f ys ++ cs → map f (cond b (x ∷ xs) xs) ≡ map f (cond b (x ∷ ys) ys) ++ cs
 picked_by true f x xs ys cs is = ap (λ (l : List _). f x ∷ l) is
@@ -56,11 +56,11 @@ first_moved most kept capacity all xs ys is h = let P : List _ → Type 0 = λ l
 first_step : {T : Type 0} (most : ℕ) (kept : List T) (capacity all : ℕ) (xs front one more : List T) → more ≡ front ++ one → IsFirst most kept capacity all ((xs ++ front) ++ one) → IsFirst most kept capacity all (xs ++ more)
 first_step most kept capacity all xs front one more is h = first_moved most kept capacity all ((xs ++ front) ++ one) (xs ++ more) (append_assoc xs front one ∙ ap (λ (l : List _). xs ++ l) (sym is)) h
 
-pub arrows_step : (most : ℕ) (kept : List Arrow) (capacity all : ℕ) (xs : List Arrow) (turn : ℕ) (cs now : List TaskCalls) (notes : List Note) (i : ℕ) (d : Note) → i < length notes → now ≡ calls_at_end_of turn cs (take i notes) →
-    IsFirst most kept capacity all ((xs ++ arrows_of_notes turn cs (take i notes)) ++ arrows_of turn now (get_or notes i d)) → IsFirst most kept capacity all (xs ++ arrows_of_notes turn cs (take (i + 1) notes))
-arrows_step most kept capacity all xs turn cs now notes i d lt so_far h =
-    first_step most kept capacity all xs (arrows_of_notes turn cs (take i notes)) (arrows_of turn now (get_or notes i d)) (arrows_of_notes turn cs (take (i + 1) notes))
-    (arrows_more turn cs notes i d lt ∙ ap (λ (l : List TaskCalls). arrows_of_notes turn cs (take i notes) ++ arrows_of turn l (get_or notes i d)) (sym so_far)) h
+pub arrows_step : (most : ℕ) (kept : List Arrow) (capacity all : ℕ) (xs : List Arrow) (turn : ℕ) (all_notes : List Note) (cs now : List TaskCalls) (notes : List Note) (i : ℕ) (d : Note) → i < length notes → now ≡ calls_at_end_of turn cs (take i notes) →
+    IsFirst most kept capacity all ((xs ++ arrows_of_notes turn all_notes cs (take i notes)) ++ arrows_of turn all_notes now (get_or notes i d)) → IsFirst most kept capacity all (xs ++ arrows_of_notes turn all_notes cs (take (i + 1) notes))
+arrows_step most kept capacity all xs turn all_notes cs now notes i d lt so_far h =
+    first_step most kept capacity all xs (arrows_of_notes turn all_notes cs (take i notes)) (arrows_of turn all_notes now (get_or notes i d)) (arrows_of_notes turn all_notes cs (take (i + 1) notes))
+    (arrows_more turn all_notes cs notes i d lt ∙ ap (λ (l : List TaskCalls). arrows_of_notes turn all_notes cs (take i notes) ++ arrows_of turn all_notes l (get_or notes i d)) (sym so_far)) h
 
 abbrev told_of : ℕ → List Note → List TurnNote
 told_of turn notes = map (λ n. (turn, n)) (filter is_event notes)
@@ -81,8 +81,8 @@ unfolding calls_at_end
 calls_turn cs [] t = refl
 calls_turn cs (u ∷ turns) t = calls_turn (calls_at_end_of u.turn cs u.notes) turns t
 
-pub arrows_turn : (cs : List TaskCalls) (turns : List TurnSight) (t : TurnSight) → all_arrows cs (turns ++ (t ∷ [])) ≡ all_arrows cs turns ++ arrows_of_notes t.turn (calls_at_end cs turns) t.notes
+pub arrows_turn : (cs : List TaskCalls) (turns : List TurnSight) (t : TurnSight) → all_arrows cs (turns ++ (t ∷ [])) ≡ all_arrows cs turns ++ arrows_of_notes t.turn t.notes (calls_at_end cs turns) t.notes
 unfolding all_arrows calls_at_end
-arrows_turn cs [] t = append-nil (arrows_of_notes t.turn cs t.notes)
+arrows_turn cs [] t = append-nil (arrows_of_notes t.turn t.notes cs t.notes)
 arrows_turn cs (u ∷ turns) t =
-    ap (λ (l : List Arrow). arrows_of_notes u.turn cs u.notes ++ l) (arrows_turn (calls_at_end_of u.turn cs u.notes) turns t) ∙ sym (append_assoc (arrows_of_notes u.turn cs u.notes) _ _)
+    ap (λ (l : List Arrow). arrows_of_notes u.turn u.notes cs u.notes ++ l) (arrows_turn (calls_at_end_of u.turn cs u.notes) turns t) ∙ sym (append_assoc (arrows_of_notes u.turn u.notes cs u.notes) _ _)

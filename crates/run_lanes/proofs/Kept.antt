@@ -1,4 +1,4 @@
--- Columns keep the turns: a turn more, and where neighbours become one.
+-- The columns keep all turns: when a turn is added, and when two neighbouring columns become one.
 use Rattle.std.proofs.Common.{◌≡◌, ◌<◌, ◌≤◌, ◌⊎◌, inl, inr, ℕ, zero, suc, ◌+◌, ◌-◌, ◌*◌, ◌^◌, Bool, true, false, List, [], ◌∷◌, ◌++◌, length, map, get_or, set, take, drop, refl, sym, ap, subst, ◌∙◌, if◌then◌else◌, length-append, length-drop, arith}
 use Rattle.std.specs.Prelude.{count_by, min, replicate}
 use Rattle.std.specs.List.{flat_map, list_any, range_with_len}
@@ -12,7 +12,7 @@ use Rattle.lane_picture.specs.Sizes.{no_cell}
 use Rattle.run_lanes.specs.declared.activity.Activity.{Activity}
 use Rattle.run_lanes.specs.Columns.{cell_of, column_turns, is_outside}
 use Rattle.run_lanes.specs.Counted.{CellsOf, Changed, OutsideOf, both, column_by, comes_from_outside, joined, turned}
-use Rattle.run_lanes.specs.Words.{TurnSight}
+use Rattle.run_lanes.specs.Activities.{TurnSight}
 use Rattle.run_lanes.proofs.Celled.{cell_joined, cell_turned, count_both, count_push}
 use Rattle.run_lanes.proofs.Tiled.{column_before, column_halves, column_here, column_none, flat_more, next_row, rows_below, take_plus}
 use Rattle.run_lanes.proofs.Widths.{width_doubles, width_stays}
@@ -21,7 +21,7 @@ few_in_column : (w : ℕ) (turns : List TurnSight) (k : ℕ) → length (column_
 few_in_column w turns k = omega (arith, length-take w (drop (k * w) turns), length-drop (k * w) turns)
 
 abbrev sight_of : ℕ → List Activity → List Note → TurnSight
-sight_of turn words notes = record { turn = turn; words = words; notes = notes }
+sight_of turn activities notes = record { turn = turn; activities = activities; notes = notes }
 
 -- ## a turn more
 
@@ -33,11 +33,11 @@ none_behind w turns t k c inside at less past =
     column_none w turns k c past (omega arith) ∙ sym (column_none w (turns ++ (t ∷ [])) k c past (omega (arith, one_longer turns t)))
 
 cell_by : (w c inside tasks : ℕ) (turns : List TurnSight) (t : TurnSight) (old new : List Cell) → length turns ≡ c * w + inside → inside < w → length turns < 1000000000 →
-    CellsOf w tasks turns old → Changed old new (c * tasks) tasks (turned t.words t.notes) → (k i : ℕ) (d : Cell) → k < 1200 → i < tasks → (k ≡ c) ⊎ ((k < c) ⊎ (c < k)) → get_or new (k * tasks + i) d ≡ cell_of (column_by w (turns ++ (t ∷ [])) k) i
+    CellsOf w tasks turns old → Changed old new (c * tasks) tasks (turned t.activities t.notes) → (k i : ℕ) (d : Cell) → k < 1200 → i < tasks → (k ≡ c) ⊎ ((k < c) ⊎ (c < k)) → get_or new (k * tasks + i) d ≡ cell_of (column_by w (turns ++ (t ∷ [])) k) i
 cell_by w c inside tasks turns t old new at less few was h k i d within lt (inl here) =
     let P : ℕ → Type 0 = λ j. get_or new (j * tasks + i) d ≡ cell_of (column_by w (turns ++ (t ∷ [])) j) i in
     let there : get_or old (c * tasks + i) d ≡ cell_of (column_by w turns c) i = was c i d (omega arith) lt in
-    let is : P c = h.made i d lt ∙ ap (λ (x : Cell). turned t.words t.notes i x) there
+    let is : P c = h.made i d lt ∙ ap (λ (x : Cell). turned t.activities t.notes i x) there
     ∙ sym (cell_turned (column_by w turns c) t i (omega (arith, few_in_column w turns c))) ∙ ap (λ (l : List TurnSight). cell_of l i) (sym (column_here w turns t c inside at less)) in
     subst P (sym here) is
 cell_by w c inside tasks turns t old new at less few was h k i d within lt (inr (inl before)) =
@@ -47,7 +47,7 @@ cell_by w c inside tasks turns t old new at less few was h k i d within lt (inr 
     h.behind (k * tasks + i) d (omega (arith, rows_below c k tasks past)) ∙ was k i d within lt ∙ ap (λ (l : List TurnSight). cell_of l i) (none_behind w turns t k c inside at less past)
 
 pub cells_more : (w c inside tasks : ℕ) (turns : List TurnSight) (t : TurnSight) (old new : List Cell) → length turns ≡ c * w + inside → inside < w → length turns < 1000000000 →
-    CellsOf w tasks turns old → Changed old new (c * tasks) tasks (turned t.words t.notes) → CellsOf w tasks (turns ++ (t ∷ [])) new
+    CellsOf w tasks turns old → Changed old new (c * tasks) tasks (turned t.activities t.notes) → CellsOf w tasks (turns ++ (t ∷ [])) new
 cells_more w c inside tasks turns t old new at less few was h = λ k i d within lt. cell_by w c inside tasks turns t old new at less few was h k i d within lt (cases_order k c)
 
 -- the count of the column, where it rises and where not

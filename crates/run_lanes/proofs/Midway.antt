@@ -14,7 +14,7 @@ use Rattle.board_model.specs.Run.{Run, run, ending}
 use Rattle.board_model.proofs.Counts.{turn_more}
 use Rattle.board_run.proofs.Going.{goes_on, run_ends, run_goes}
 use Rattle.run_lanes.specs.declared.activity.Activity.{Activity}
-use Rattle.run_lanes.specs.Words.{TurnSight, sight, sights, unless, words_in}
+use Rattle.run_lanes.specs.Activities.{TurnSight, activities_in, sight, sights, unless}
 use Rattle.run_lanes.specs.Seen.{BreaksSeeing, HasWatched}
 
 -- ## the turns by the first one
@@ -42,15 +42,15 @@ seen_start shown saw x w s b none st = record {
 }
 
 abbrev pub seen_turn : ℕ → List Activity → List Note → TurnSight
-seen_turn t ws ns = record { turn = t; words = ws; notes = ns }
+seen_turn t ws ns = record { turn = t; activities = ws; notes = ns }
 
-same_sight : (x : Scenario) (s : State) (t : ℕ) (ws : List Activity) (ns : List Note) → t ≡ s.turn → ws ≡ words_in x s → ns ≡ (turn Calls x s).notes → seen_turn t ws ns ≡ sight x s
+same_sight : (x : Scenario) (s : State) (t : ℕ) (ws : List Activity) (ns : List Note) → t ≡ s.turn → ws ≡ activities_in x s → ns ≡ (turn Calls x s).notes → seen_turn t ws ns ≡ sight x s
 same_sight x s t ws ns t_is ws_is ns_is =
-    ap (λ (k : ℕ). seen_turn k ws ns) t_is ∙ ap (λ (l : List Activity). seen_turn s.turn l ns) ws_is ∙ ap (λ (l : List Note). seen_turn s.turn (words_in x s) l) ns_is
+    ap (λ (k : ℕ). seen_turn k ws ns) t_is ∙ ap (λ (l : List Activity). seen_turn s.turn l ns) ws_is ∙ ap (λ (l : List Note). seen_turn s.turn (activities_in x s) l) ns_is
 
 pub seen_more : {W : Type 0} {X : Type 0} {H : X → Type 0} (shown : Shows X H) (saw : W → List TurnSight → W → Type 0) (x : Scenario) (w w' w'' : W) (s : State) (b b' : Board X H) (t : ℕ) (ws : List Activity) (ns : List Note) →
     ((u v z : W) (a c : List TurnSight) → saw u a v → saw v c z → saw u (a ++ c) z) → (m : HasWatched shown saw x w w' s b) → Stands shown x b' (turn Calls x m.here).state → ending x 1 m.here ≡ None →
-    t ≡ m.here.turn → ws ≡ words_in x m.here → ns ≡ (turn Calls x m.here).notes → saw w' (seen_turn t ws ns ∷ []) w'' → HasWatched shown saw x w w'' s b'
+    t ≡ m.here.turn → ws ≡ activities_in x m.here → ns ≡ (turn Calls x m.here).notes → saw w' (seen_turn t ws ns ∷ []) w'' → HasWatched shown saw x w w'' s b'
 seen_more shown saw x w w' w'' s b b' t ws ns parts m st goes t_is ws_is ns_is saw_it =
     let here = m.here in
     let next = (turn Calls x here).state in
@@ -79,7 +79,7 @@ seen_more shown saw x w w' w'' s b b' t ws ns parts m st goes t_is ws_is ns_is s
 -- the seeing of the next turn failed
 pub seen_breaks : {W : Type 0} {X : Type 0} {H : X → Type 0} (shown : Shows X H) (saw broke : W → List TurnSight → W → Type 0) (x : Scenario) (w w' w'' : W) (s : State) (b : Board X H) (limit t : ℕ) (ws : List Activity) (ns : List Note) →
     ((u v z : W) (a c : List TurnSight) → saw u a v → broke v c z → broke u (a ++ c) z) → (m : HasWatched shown saw x w w' s b) → ending x 1 m.here ≡ None → m.here.turn < limit →
-    t ≡ m.here.turn → ws ≡ words_in x m.here → ns ≡ (turn Calls x m.here).notes → broke w' (seen_turn t ws ns ∷ []) w'' → BreaksSeeing broke x (limit - s.turn) s w w''
+    t ≡ m.here.turn → ws ≡ activities_in x m.here → ns ≡ (turn Calls x m.here).notes → broke w' (seen_turn t ws ns ∷ []) w'' → BreaksSeeing broke x (limit - s.turn) s w w''
 seen_breaks shown saw broke x w w' w'' s b limit t ws ns fails m goes under t_is ws_is ns_is broke_it =
     let here = m.here in
     let left : ℕ = limit - here.turn - 1 in

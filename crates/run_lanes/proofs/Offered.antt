@@ -1,4 +1,4 @@
--- The first task that offered a call last, place by place.
+-- The first task whose last offer was a call, found index by index.
 use Rattle.std.proofs.Common.{◌≡◌, ◌<◌, ◌≤◌, ℕ, ◌+◌, Bool, true, false, List, ◌∷◌, refl, sym, ◌∙◌, length, get_or, drop, drop-cons, add-one, if◌then◌else◌, Option, ap}
 use Rattle.std.proofs.lemmas.List.{drop_all}
 use Rattle.run_lanes.specs.declared.lanes.Offer.{Offer}

@@ -1,4 +1,4 @@
--- A canvas after all turns, and what is drawn of it.
+-- A canvas after all turns, and the picture that is drawn from it.
 use Rattle.std.proofs.Common.{◌≡◌, ◌≤◌, ℕ, List, [], length, map, take, ap, subst, ◌∙◌, arith}
 use Rattle.std.proofs.lemmas.List.{length-map, length-take}
 use Rattle.board_model.specs.Run.{Run}
@@ -12,7 +12,7 @@ use Rattle.run_lanes.specs.Columns.{cells, outside}
 use Rattle.run_lanes.specs.Painted.{Painted, Paints}
 use Rattle.run_lanes.specs.Pictured.{drawn}
 use Rattle.run_lanes.specs.Told.{TurnNote, all_arrows, all_events, event_text}
-use Rattle.run_lanes.specs.Words.{TurnSight}
+use Rattle.run_lanes.specs.Activities.{TurnSight}
 
 pub after_all : (tasks n : ℕ) (c d : Canvas) (seen : List TurnSight) → Painted n c [] → n ≡ tasks → length seen ≤ 1000000000 → Paints c seen d → Painted tasks d seen
 after_all tasks n c d seen start same few paints = let P : ℕ → Type 0 = λ m. Painted m c [] in paints tasks [] (omega arith) (subst P same start)

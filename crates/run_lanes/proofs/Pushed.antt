@@ -9,24 +9,24 @@ use Rattle.outside_io.specs.Outside.{AppendsFront, Pushes}
 use Rattle.board_run.proofs.Appending.{range_fails, range_pushed}
 use Rattle.run_lanes.specs.declared.lanes.LaneStretch.{LaneStretch}
 use Rattle.run_lanes.specs.declared.activity.Activity.{Activity}
-use Rattle.run_lanes.specs.Timeline.{ended_text, name_text, nothing_yet, over_text, stretch_at, word_at}
+use Rattle.run_lanes.specs.Timeline.{activity_at, ended_text, name_text, nothing_yet, over_text, stretch_at}
 
-over_is : (turn i : ℕ) (ss : List LaneStretch) (ws : List Activity) (d : LaneStretch) (w : Activity) → i < length ss → w ≡ word_at ws i → over_text turn i (get_or ss i d) w ≡ over_text turn i (stretch_at ss i) (word_at ws i)
+over_is : (turn i : ℕ) (ss : List LaneStretch) (ws : List Activity) (d : LaneStretch) (w : Activity) → i < length ss → w ≡ activity_at ws i → over_text turn i (get_or ss i d) w ≡ over_text turn i (stretch_at ss i) (activity_at ws i)
 over_is turn i ss ws d w lt is = ap (λ (s : LaneStretch). over_text turn i s w) (get_or_default ss i d (nothing_yet 0) lt) ∙ ap (λ (v : Activity). over_text turn i (stretch_at ss i) v) is
 
-pub over_more : (a b c : Option (List ℕ)) (turn i : ℕ) (ss : List LaneStretch) (ws : List Activity) (d : LaneStretch) (w : Activity) → i < length ss → w ≡ word_at ws i →
-    Appends a b (flat_map (λ i. over_text turn i (stretch_at ss i) (word_at ws i)) (range_with_len 0 i)) → Appends b c (over_text turn i (get_or ss i d) w) →
-    Appends a c (flat_map (λ i. over_text turn i (stretch_at ss i) (word_at ws i)) (range_with_len 0 (i + 1)))
+pub over_more : (a b c : Option (List ℕ)) (turn i : ℕ) (ss : List LaneStretch) (ws : List Activity) (d : LaneStretch) (w : Activity) → i < length ss → w ≡ activity_at ws i →
+    Appends a b (flat_map (λ i. over_text turn i (stretch_at ss i) (activity_at ws i)) (range_with_len 0 i)) → Appends b c (over_text turn i (get_or ss i d) w) →
+    Appends a c (flat_map (λ i. over_text turn i (stretch_at ss i) (activity_at ws i)) (range_with_len 0 (i + 1)))
 over_more a b c turn i ss ws d w lt is p q =
     let P : List ℕ → Type 0 = λ t. Appends b c t in
-    range_pushed a b c (λ i. over_text turn i (stretch_at ss i) (word_at ws i)) i p (subst P (over_is turn i ss ws d w lt is) q)
+    range_pushed a b c (λ i. over_text turn i (stretch_at ss i) (activity_at ws i)) i p (subst P (over_is turn i ss ws d w lt is) q)
 
-pub over_fails : {T E : Type 0} (a b c : Option (List ℕ)) (turn i : ℕ) (ss : List LaneStretch) (ws : List Activity) (d : LaneStretch) (w : Activity) (r : Result T E) (x : E) → r ≡ Err x → i < length ss → w ≡ word_at ws i →
-    Appends a b (flat_map (λ i. over_text turn i (stretch_at ss i) (word_at ws i)) (range_with_len 0 i)) → AppendsFront b c (over_text turn i (get_or ss i d) w) →
-    Pushes a c (flat_map (λ i. over_text turn i (stretch_at ss i) (word_at ws i)) (range_with_len 0 (length ss))) r
+pub over_fails : {T E : Type 0} (a b c : Option (List ℕ)) (turn i : ℕ) (ss : List LaneStretch) (ws : List Activity) (d : LaneStretch) (w : Activity) (r : Result T E) (x : E) → r ≡ Err x → i < length ss → w ≡ activity_at ws i →
+    Appends a b (flat_map (λ i. over_text turn i (stretch_at ss i) (activity_at ws i)) (range_with_len 0 i)) → AppendsFront b c (over_text turn i (get_or ss i d) w) →
+    Pushes a c (flat_map (λ i. over_text turn i (stretch_at ss i) (activity_at ws i)) (range_with_len 0 (length ss))) r
 over_fails a b c turn i ss ws d w r x failed lt is p q =
     let P : List ℕ → Type 0 = λ t. AppendsFront b c t in
-    range_fails a b c (λ i. over_text turn i (stretch_at ss i) (word_at ws i)) i (length ss) r x failed lt p (subst P (over_is turn i ss ws d w lt is) q)
+    range_fails a b c (λ i. over_text turn i (stretch_at ss i) (activity_at ws i)) i (length ss) r x failed lt p (subst P (over_is turn i ss ws d w lt is) q)
 
 pub rest_more : (a b c : Option (List ℕ)) (turn i : ℕ) (ss : List LaneStretch) (d : LaneStretch) → i < length ss →
     Appends a b (flat_map (λ i. ended_text turn i (stretch_at ss i)) (range_with_len 0 i)) → Appends b c (ended_text turn i (get_or ss i d)) →

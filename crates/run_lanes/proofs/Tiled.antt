@@ -1,4 +1,4 @@
--- The turns of columns, as a turn comes and as neighbours become one.
+-- The turns of the columns, when a turn is added and when two neighbouring columns become one.
 use Rattle.std.proofs.Common.{◌≡◌, ◌<◌, ◌≤◌, ◌⊎◌, inl, inr, ℕ, zero, suc, ◌+◌, ◌-◌, ◌*◌, ◌/◌, List, [], ◌∷◌, ◌++◌, length, take, drop, sym, ap, ◌∙◌, length-append, length-drop, append_assoc, arith}
 use Rattle.std.specs.Prelude.{min}
 use Rattle.std.proofs.lemmas.Bool.{cases_lt}
@@ -7,7 +7,7 @@ use Rattle.std.proofs.Math.Nat.{lt-div-mul-add, mul-le-mul_right}
 use Rattle.std.proofs.lemmas.Nat.{div-mul-add, row_below_turned}
 use Rattle.std.proofs.lemmas.List.{append-nil, drop-append-le, drop-drop, drop-take, drop_all, take-append-drop, take-append-le, take-take, take_all}
 use Rattle.run_lanes.specs.Counted.{column_by}
-use Rattle.run_lanes.specs.Words.{TurnSight}
+use Rattle.run_lanes.specs.Activities.{TurnSight}
 
 pub next_row : (k n : ℕ) → (k + 1) * n ≡ k * n + n
 next_row k n = omega arith

@@ -1,4 +1,4 @@
--- What is told of turns, in parts.
+-- The text of some turns, put together from parts.
 use Rattle.std.proofs.Common.{◌≡◌, ◌≤◌, ℕ, ◌+◌, List, [], ◌∷◌, ◌++◌, length, map, take, drop, Option, refl, sym, ap, subst, ◌∙◌, append_assoc, arith}
 use Rattle.std.proofs.lemmas.List.{append-nil}
 use Rattle.std.specs.Io.KnownBytes.{Appends}
@@ -15,7 +15,7 @@ use Rattle.run_lanes.specs.Timeline.{Kept, all_renewed, drawn_text, head_text, k
 use Rattle.run_lanes.proofs.Pushed.{lines_text}
 use Rattle.task_table.specs.model.State.{State}
 use Rattle.board_model.specs.Script.{Scenario}
-use Rattle.run_lanes.specs.Words.{TurnSight, sights}
+use Rattle.run_lanes.specs.Activities.{TurnSight, sights}
 
 kept_parts : (k : Kept) (a b : List TurnSight) → kept_at_end k (a ++ b) ≡ kept_at_end (kept_at_end k a) b
 unfolding kept_at_end
@@ -63,22 +63,22 @@ unfolding turns_text
 one_text k t = append-nil (turn_text k t)
 
 -- a stretch was not pushed
-pub seen_breaks : (k : Kept) (o p : SinkSeen) (t : TurnSight) (ss : List LaneStretch) → ss ≡ k.stretches → AppendsFront o.written p.written (overs_text t.turn ss t.words) → o.faults ≤ p.faults → Rose o.faults p.faults → BreaksText k o (t ∷ []) p
+pub seen_breaks : (k : Kept) (o p : SinkSeen) (t : TurnSight) (ss : List LaneStretch) → ss ≡ k.stretches → AppendsFront o.written p.written (overs_text t.turn ss t.activities) → o.faults ≤ p.faults → Rose o.faults p.faults → BreaksText k o (t ∷ []) p
 seen_breaks k o p t ss is front later rose =
     let P : List ℕ → Type 0 = λ w. AppendsFront o.written p.written w in
-    let Q : List LaneStretch → Type 0 = λ l. P (overs_text t.turn l t.words) in
+    let Q : List LaneStretch → Type 0 = λ l. P (overs_text t.turn l t.activities) in
     record {
-      pushed = subst P (sym (one_text k t)) (front_wider _ _ (overs_text t.turn k.stretches t.words) (notes_text k.offers t.turn t.notes) (subst Q is front));
+      pushed = subst P (sym (one_text k t)) (front_wider _ _ (overs_text t.turn k.stretches t.activities) (notes_text k.offers t.turn t.notes) (subst Q is front));
       later = later;
       rose = rose;
     }
 
 -- they were, and not all of the notes
-pub seen_fails : (k : Kept) (o p q : SinkSeen) (t : TurnSight) (ss : List LaneStretch) (os : List (Option Offer)) → ss ≡ k.stretches → os ≡ k.offers → Appends o.written p.written (overs_text t.turn ss t.words) → o.faults ≤ p.faults →
+pub seen_fails : (k : Kept) (o p q : SinkSeen) (t : TurnSight) (ss : List LaneStretch) (os : List (Option Offer)) → ss ≡ k.stretches → os ≡ k.offers → Appends o.written p.written (overs_text t.turn ss t.activities) → o.faults ≤ p.faults →
     AppendsFront p.written q.written (notes_text os t.turn t.notes) → p.faults ≤ q.faults → Rose p.faults q.faults → BreaksText k o (t ∷ []) q
 seen_fails k o p q t ss os same at first later then more rose =
     let P : List ℕ → Type 0 = λ w. AppendsFront o.written q.written w in
-    let Q : List LaneStretch → Type 0 = λ l. Appends o.written p.written (overs_text t.turn l t.words) in
+    let Q : List LaneStretch → Type 0 = λ l. Appends o.written p.written (overs_text t.turn l t.activities) in
     let R : List (Option Offer) → Type 0 = λ l. AppendsFront p.written q.written (notes_text l t.turn t.notes) in
     record {
       pushed = subst P (sym (one_text k t)) (front_more _ _ _ _ _ (subst Q same first) (subst R at then));
@@ -87,16 +87,16 @@ seen_fails k o p q t ss os same at first later then more rose =
     }
 
 -- they were, and the notes
-pub seen_whole : (k k' : Kept) (o p q : SinkSeen) (t : TurnSight) (ss rs : List LaneStretch) (os : List (Option Offer)) → ss ≡ k.stretches → rs ≡ k.stretches → os ≡ k.offers → Appends o.written p.written (overs_text t.turn ss t.words) → o.faults ≤ p.faults →
-    Appends p.written q.written (notes_text os t.turn t.notes) → p.faults ≤ q.faults → k'.stretches ≡ all_renewed t.turn rs t.words → k'.offers ≡ offers_at_end os t.notes → SeesText k o (t ∷ []) k' q
+pub seen_whole : (k k' : Kept) (o p q : SinkSeen) (t : TurnSight) (ss rs : List LaneStretch) (os : List (Option Offer)) → ss ≡ k.stretches → rs ≡ k.stretches → os ≡ k.offers → Appends o.written p.written (overs_text t.turn ss t.activities) → o.faults ≤ p.faults →
+    Appends p.written q.written (notes_text os t.turn t.notes) → p.faults ≤ q.faults → k'.stretches ≡ all_renewed t.turn rs t.activities → k'.offers ≡ offers_at_end os t.notes → SeesText k o (t ∷ []) k' q
 unfolding kept_at_end
 seen_whole k k' o p q t ss rs os is same at first later then more renewed heard =
     let P : List ℕ → Type 0 = λ w. Appends o.written q.written w in
-    let Q : List LaneStretch → Type 0 = λ l. Appends o.written p.written (overs_text t.turn l t.words) in
+    let Q : List LaneStretch → Type 0 = λ l. Appends o.written p.written (overs_text t.turn l t.activities) in
     let R : List (Option Offer) → Type 0 = λ l. Appends p.written q.written (notes_text l t.turn t.notes) in
     record {
-      kept = ap (λ (l : List LaneStretch). record { stretches = l; offers = k'.offers }) (renewed ∙ ap (λ (l : List LaneStretch). all_renewed t.turn l t.words) same)
-          ∙ ap (λ (l : List (Option Offer)). record { stretches = all_renewed t.turn k.stretches t.words; offers = l }) (heard ∙ ap (λ (l : List (Option Offer)). offers_at_end l t.notes) at);
+      kept = ap (λ (l : List LaneStretch). record { stretches = l; offers = k'.offers }) (renewed ∙ ap (λ (l : List LaneStretch). all_renewed t.turn l t.activities) same)
+          ∙ ap (λ (l : List (Option Offer)). record { stretches = all_renewed t.turn k.stretches t.activities; offers = l }) (heard ∙ ap (λ (l : List (Option Offer)). offers_at_end l t.notes) at);
       pushed = subst P (sym (one_text k t)) (appends_more _ _ _ _ _ (subst Q is first) (subst R at then));
       later = omega (arith, later, more);
     }

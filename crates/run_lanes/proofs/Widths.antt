@@ -1,4 +1,4 @@
--- How many turns a column has, as turns come.
+-- How many turns a column has, while turns are added.
 use Rattle.std.proofs.Common.{◌≡◌, ◌<◌, ◌≤◌, ◌⊎◌, ℕ, zero, suc, ◌+◌, ◌*◌, Bool, true, false, refl, ap, ◌∙◌, if◌then◌else◌, inl, inr, arith}
 use Rattle.std.proofs.lemmas.Bool.{lt-leb, le-leb, leb-true, leb-false}
 use Rattle.std.specs.Prelude.{nat_le}

@@ -6,9 +6,9 @@ use Rattle.kernel_abi.specs.declared.Note.{Note}
 use Rattle.kernel_abi.specs.declared.Note.TheVariants as note
 use Rattle.lane_picture.specs.declared.parts.Cell.{Cell}
 use Rattle.run_lanes.specs.declared.activity.Activity.{Activity}
-use Rattle.run_lanes.specs.declared.activity.Activity.TheVariants as word
-use Rattle.run_lanes.specs.Timeline.{word_at}
-use Rattle.run_lanes.specs.Words.{TurnSight, is_same}
+use Rattle.run_lanes.specs.declared.activity.Activity.TheVariants as activity
+use Rattle.run_lanes.specs.Timeline.{activity_at}
+use Rattle.run_lanes.specs.Activities.{TurnSight, is_same}
 
 -- the most columns
 abbrev pub most_columns : ℕ
@@ -32,12 +32,12 @@ abbrev pub column : List TurnSight → ℕ → List TurnSight
 column turns k = take (column_turns (length turns)) (drop (k * column_turns (length turns)) turns)
 
 -- the activities in their order
-abbrev pub words : List Activity
-words = word.Runs ∷ word.Ready ∷ word.Offers ∷ word.Awaits ∷ word.Listens ∷ word.Faulted ∷ word.Stopped ∷ []
+abbrev pub activities : List Activity
+activities = activity.Runs ∷ activity.Ready ∷ activity.Offers ∷ activity.Awaits ∷ activity.Listens ∷ activity.Faulted ∷ activity.Stopped ∷ []
 
 -- in how many of these turns a task has this activity
 abbrev pub turns_with : ℕ → List TurnSight → Activity → ℕ
-turns_with i turns w = count_by (λ t. is_same (word_at t.words i) w) turns
+turns_with i turns w = count_by (λ t. is_same (activity_at t.activities i) w) turns
 
 -- one of these turns has a note like this
 abbrev pub is_noted : (Note → Bool) → List TurnSight → Bool
@@ -53,7 +53,7 @@ is_birth_of i _ = false
 
 -- the cell of a task for these turns: what it does in them, and what happens to it
 abbrev pub cell_of : List TurnSight → ℕ → Cell
-cell_of turns i = record { words = map (turns_with i turns) words; faulted = is_noted (is_fault_of i) turns; born = is_noted (is_birth_of i) turns }
+cell_of turns i = record { turns = map (turns_with i turns) activities; faulted = is_noted (is_fault_of i) turns; born = is_noted (is_birth_of i) turns }
 
 -- the cells of this many tasks, column after column
 abbrev pub cells : ℕ → List TurnSight → List Cell

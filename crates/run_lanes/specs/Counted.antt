@@ -5,8 +5,8 @@ use Rattle.kernel_abi.specs.declared.Note.{Note}
 use Rattle.lane_picture.specs.declared.parts.Cell.{Cell}
 use Rattle.run_lanes.specs.declared.activity.Activity.{Activity}
 use Rattle.run_lanes.specs.Columns.{cell_of, is_birth_of, is_fault_of, is_outside, most_columns}
-use Rattle.run_lanes.specs.Timeline.{word_at}
-use Rattle.run_lanes.specs.Words.{TurnSight, word_number}
+use Rattle.run_lanes.specs.Timeline.{activity_at}
+use Rattle.run_lanes.specs.Activities.{TurnSight, activity_number}
 
 -- the turns of the k-th column, if each column has this many
 abbrev pub column_by : ℕ → List TurnSight → ℕ → List TurnSight
@@ -19,22 +19,22 @@ both a b = min (a + b) (2 ^ 32 - 1)
 -- the cell of two columns, one after the other
 abbrev pub joined : Cell → Cell → Cell
 joined a b = record {
-  words = map (λ w. both (slice_index_or a.words w 0) (slice_index_or b.words w 0)) (range_with_len 0 7);
+  turns = map (λ w. both (slice_index_or a.turns w 0) (slice_index_or b.turns w 0)) (range_with_len 0 7);
   faulted = a.faulted || b.faulted;
   born = a.born || b.born;
 }
 
 -- the cell with one more turn, in which the task does this
 abbrev pub counted : Cell → Activity → Cell
-counted c w = record { words = slice_set c.words (word_number w) (both (slice_index_or c.words (word_number w) 0) 1); faulted = c.faulted; born = c.born }
+counted c w = record { turns = slice_set c.turns (activity_number w) (both (slice_index_or c.turns (activity_number w) 0) 1); faulted = c.faulted; born = c.born }
 
 -- the cell with these notes
 abbrev pub marked : List Note → ℕ → Cell → Cell
-marked notes i c = record { words = c.words; faulted = c.faulted || list_any (is_fault_of i) notes; born = c.born || list_any (is_birth_of i) notes }
+marked notes i c = record { turns = c.turns; faulted = c.faulted || list_any (is_fault_of i) notes; born = c.born || list_any (is_birth_of i) notes }
 
 -- the cell of the i-th task with one more turn
 abbrev pub turned : List Activity → List Note → ℕ → Cell → Cell
-turned words notes i c = marked notes i (counted c (word_at words i))
+turned activities notes i c = marked notes i (counted c (activity_at activities i))
 
 -- `many` cells, from `at` on, are made from what they were, and the others stay
 pub record Changed (old new : List Cell) (at many : ℕ) (f : ℕ → Cell → Cell) : Type 0 where

@@ -5,7 +5,7 @@ use Rattle.outside_io.specs.Outside.{AppendsFront, Rose}
 use Rattle.outside_io.specs.Seen.{SinkSeen}
 use Rattle.run_lanes.specs.declared.lanes.Lanes.{Lanes}
 use Rattle.run_lanes.specs.Timeline.{Kept, kept_at_end, turns_text}
-use Rattle.run_lanes.specs.Words.{TurnSight}
+use Rattle.run_lanes.specs.Activities.{TurnSight}
 
 abbrev pub kept_of : Lanes → Kept
 kept_of l = record { stretches = l.stretches.items; offers = l.offers.items }

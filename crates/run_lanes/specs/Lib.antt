@@ -1,3 +1,4 @@
+pub mod Activities
 pub mod Columned
 pub mod Columns
 pub mod Counted
@@ -10,4 +11,3 @@ pub mod Seen
 pub mod Stretches
 pub mod Timeline
 pub mod Told
-pub mod Words

@@ -6,7 +6,7 @@ use Rattle.run_lanes.specs.Columned.{Columned}
 use Rattle.run_lanes.specs.First.{IsFirst}
 use Rattle.run_lanes.specs.Pictured.{most_events}
 use Rattle.run_lanes.specs.Told.{all_arrows, all_events, calls_at_end, no_calls_of}
-use Rattle.run_lanes.specs.Words.{TurnSight}
+use Rattle.run_lanes.specs.Activities.{TurnSight}
 
 -- the turns so far, of this many tasks
 pub record Painted (tasks : ℕ) (c : Canvas) (turns : List TurnSight) : Type 0 where

@@ -9,7 +9,7 @@ use Rattle.lane_picture.specs.Sizes.{Drawn}
 use Rattle.run_lanes.specs.Columns.{cells, column_turns, outside}
 use Rattle.run_lanes.specs.First.{counted}
 use Rattle.run_lanes.specs.Told.{all_arrows, all_events, calls_at_end, event_text, no_calls_of}
-use Rattle.run_lanes.specs.Words.{TurnSight, sights}
+use Rattle.run_lanes.specs.Activities.{TurnSight, sights}
 use Rattle.task_table.specs.model.State.{State}
 
 -- what happened to tasks is written for the first ten faults and births

@@ -8,7 +8,7 @@ use Rattle.board_core.specs.Stands.{Stands}
 use Rattle.board_model.specs.declared.outcomes.Level.TheVariants.{Calls}
 use Rattle.board_model.specs.Script.{Scenario}
 use Rattle.board_model.specs.Run.{Run, run}
-use Rattle.run_lanes.specs.Words.{TurnSight, sights}
+use Rattle.run_lanes.specs.Activities.{TurnSight, sights}
 
 -- what is said of a watcher and its output, said of the pair
 abbrev pub Paired : {W O : Type 0} → (W → O → List TurnSight → W → O → Type 0) → W × O → List TurnSight → W × O → Type 0

@@ -4,12 +4,12 @@ use Rattle.std.specs.Prelude.{◌≡◌, ℕ, ◌+◌, ◌-◌, ◌==◌, false,
 use Rattle.std.specs.List.{flat_map}
 use Rattle.run_lanes.specs.declared.activity.Activity.{Activity}
 use Rattle.run_lanes.specs.declared.lanes.LaneStretch.{LaneStretch}
-use Rattle.run_lanes.specs.Timeline.{renewed, word_at}
-use Rattle.run_lanes.specs.Words.{TurnSight, is_same}
+use Rattle.run_lanes.specs.Timeline.{activity_at, renewed}
+use Rattle.run_lanes.specs.Activities.{TurnSight, is_same}
 
 -- what task i does, turn by turn
-abbrev pub words_of : ℕ → List TurnSight → List Activity
-words_of i turns = map (λ t. word_at t.words i) turns
+abbrev pub activities_of : ℕ → List TurnSight → List Activity
+activities_of i turns = map (λ t. activity_at t.activities i) turns
 
 -- one more turn before these stretches
 abbrev pub joined : Activity → List (Activity × ℕ) → List (Activity × ℕ)
@@ -19,7 +19,7 @@ joined w (s ∷ stretches) = if is_same w s.0 then (s.0, s.1 + 1) ∷ stretches 
 -- the stretches, each with its activity and the number of its turns
 unfoldable pub stretches : List Activity → List (Activity × ℕ)
 stretches [] = []
-stretches (w ∷ words) = joined w (stretches words)
+stretches (w ∷ activities) = joined w (stretches activities)
 
 -- no two neighbours have the same activity
 abbrev pub Alternate : List (Activity × ℕ) → Type 0
@@ -40,10 +40,10 @@ turns_in (s ∷ stretches) = s.1 + turns_in stretches
 
 -- the stretch that ends before a turn; none if it would have no turn (Timeline's `ended_text`)
 abbrev pub ended : ℕ → LaneStretch → List (Activity × ℕ)
-ended turn s = if s.since == turn then [] else (s.word, turn - s.since) ∷ []
+ended turn s = if s.since == turn then [] else (s.activity, turn - s.since) ∷ []
 
 -- The stretches of a task that is in a stretch at a turn and has these activities from then on (Timeline's
 -- `over_text`, `renewed` and, at the end, `ended_text`).
 unfoldable pub told : ℕ → LaneStretch → List Activity → List (Activity × ℕ)
 told turn s [] = ended turn s
-told turn s (w ∷ words) = (if is_same s.word w then [] else ended turn s) ++ told (turn + 1) (renewed turn s w) words
+told turn s (w ∷ activities) = (if is_same s.activity w then [] else ended turn s) ++ told (turn + 1) (renewed turn s w) activities

@@ -1,5 +1,5 @@
--- A run as a timeline: events in the Trace Event Format, one a line (docs/FORMATS.md, Timeline). Thread 0 is what comes from outside,
--- thread i + 1 is task i.
+-- A run as a timeline: events in the Trace Event Format, one on each line (docs/FORMATS.md, Timeline). Thread
+-- 0 has what comes from outside, thread i + 1 is task i.
 use Rattle.std.specs.Prelude.{ℕ, ◌+◌, ◌-◌, ◌==◌, Bool, false, if◌then◌else◌, List, [], ◌∷◌, ◌++◌, length, codes, decimal, slice_index_or, slice_set, map, replicate, Option, Some, None}
 use Rattle.std.specs.List.{flat_map, range_with_len}
 use Rattle.serde_json.specs.Data.{Data, unsigned, string, object, member, no_members}
@@ -15,9 +15,9 @@ use Rattle.board_model.specs.Script.{Scenario}
 use Rattle.run_lanes.specs.declared.lanes.Offer.{Offer}
 use Rattle.run_lanes.specs.declared.lanes.LaneStretch.{LaneStretch}
 use Rattle.run_lanes.specs.declared.activity.Activity.{Activity}
-use Rattle.run_lanes.specs.declared.activity.Activity.TheVariants as word
+use Rattle.run_lanes.specs.declared.activity.Activity.TheVariants as activity
 use Rattle.run_lanes.specs.Names.{fault_name, syscall_name}
-use Rattle.run_lanes.specs.Words.{TurnSight, is_same, sights}
+use Rattle.run_lanes.specs.Activities.{TurnSight, is_same, sights}
 
 -- ## events, each after the `,` and the LF that end the line before it
 
@@ -25,19 +25,19 @@ use Rattle.run_lanes.specs.Words.{TurnSight, is_same, sights}
 unfoldable pub place_text : ℕ → ℕ → List ℕ
 place_text thread turn = codes ",\"tid\":" ++ decimal thread ++ codes ",\"ts\":" ++ decimal turn ++ codes "}"
 
-abbrev pub word_name : Activity → List ℕ
-word_name word.Runs = codes "runs"
-word_name word.Ready = codes "ready"
-word_name word.Offers = codes "offers"
-word_name word.Awaits = codes "awaits"
-word_name word.Listens = codes "listens"
-word_name word.Faulted = codes "faulted"
-word_name word.Stopped = codes "stopped"
+abbrev pub activity_name : Activity → List ℕ
+activity_name activity.Runs = codes "runs"
+activity_name activity.Ready = codes "ready"
+activity_name activity.Offers = codes "offers"
+activity_name activity.Awaits = codes "awaits"
+activity_name activity.Listens = codes "listens"
+activity_name activity.Faulted = codes "faulted"
+activity_name activity.Stopped = codes "stopped"
 
 -- what a task does for this many turns, from a turn on
 unfoldable pub stretch_text : ℕ → Activity → ℕ → ℕ → List ℕ
 stretch_text thread w turns from =
-    codes ",\n{\"dur\":" ++ decimal turns ++ codes ",\"name\":\"" ++ word_name w ++ codes "\",\"ph\":\"X\",\"pid\":0" ++ place_text thread from
+    codes ",\n{\"dur\":" ++ decimal turns ++ codes ",\"name\":\"" ++ activity_name w ++ codes "\",\"ph\":\"X\",\"pid\":0" ++ place_text thread from
 
 -- what happens at one moment
 unfoldable pub instant_text : List ℕ → ℕ → ℕ → List ℕ
@@ -131,31 +131,31 @@ offers_at_end offers (n ∷ notes) = offers_at_end (offers_after offers n) notes
 -- ## stretches: what each task has been doing, and since when
 
 abbrev pub nothing_yet : ℕ → LaneStretch
-nothing_yet turn = record { word = word.Ready; since = turn }
+nothing_yet turn = record { activity = activity.Ready; since = turn }
 
 abbrev pub stretch_at : List LaneStretch → ℕ → LaneStretch
 stretch_at stretches i = slice_index_or stretches i (nothing_yet 0)
 
-abbrev pub word_at : List Activity → ℕ → Activity
-word_at words i = slice_index_or words i word.Ready
+abbrev pub activity_at : List Activity → ℕ → Activity
+activity_at activities i = slice_index_or activities i activity.Ready
 
 -- what is written of a stretch that ends before a turn: nothing if it has no turn
 abbrev pub ended_text : ℕ → ℕ → LaneStretch → List ℕ
-ended_text turn i s = if s.since == turn then [] else stretch_text (thread_of i) s.word (turn - s.since) s.since
+ended_text turn i s = if s.since == turn then [] else stretch_text (thread_of i) s.activity (turn - s.since) s.since
 
 -- a stretch ends when the task does something else
 abbrev pub over_text : ℕ → ℕ → LaneStretch → Activity → List ℕ
-over_text turn i s w = if is_same s.word w then [] else ended_text turn i s
+over_text turn i s w = if is_same s.activity w then [] else ended_text turn i s
 
 -- and another stretch begins there
 abbrev pub renewed : ℕ → LaneStretch → Activity → LaneStretch
-renewed turn s w = if is_same s.word w then s else record { word = w; since = turn }
+renewed turn s w = if is_same s.activity w then s else record { activity = w; since = turn }
 
 unfoldable pub overs_text : ℕ → List LaneStretch → List Activity → List ℕ
-overs_text turn stretches words = flat_map (λ i. over_text turn i (stretch_at stretches i) (word_at words i)) (range_with_len 0 (length stretches))
+overs_text turn stretches activities = flat_map (λ i. over_text turn i (stretch_at stretches i) (activity_at activities i)) (range_with_len 0 (length stretches))
 
 unfoldable pub all_renewed : ℕ → List LaneStretch → List Activity → List LaneStretch
-all_renewed turn stretches words = map (λ i. renewed turn (stretch_at stretches i) (word_at words i)) (range_with_len 0 (length stretches))
+all_renewed turn stretches activities = map (λ i. renewed turn (stretch_at stretches i) (activity_at activities i)) (range_with_len 0 (length stretches))
 
 unfoldable pub rests_text : ℕ → List LaneStretch → List ℕ
 rests_text turn stretches = flat_map (λ i. ended_text turn i (stretch_at stretches i)) (range_with_len 0 (length stretches))
@@ -173,11 +173,11 @@ abbrev pub kept_none : ℕ → ℕ → Kept
 kept_none tasks turn = record { stretches = replicate tasks (nothing_yet turn); offers = replicate tasks None }
 
 abbrev pub kept_after : Kept → TurnSight → Kept
-kept_after k t = record { stretches = all_renewed t.turn k.stretches t.words; offers = offers_at_end k.offers t.notes }
+kept_after k t = record { stretches = all_renewed t.turn k.stretches t.activities; offers = offers_at_end k.offers t.notes }
 
 -- the stretches that end here, and then the notes
 abbrev pub turn_text : Kept → TurnSight → List ℕ
-turn_text k t = overs_text t.turn k.stretches t.words ++ notes_text k.offers t.turn t.notes
+turn_text k t = overs_text t.turn k.stretches t.activities ++ notes_text k.offers t.turn t.notes
 
 unfoldable pub turns_text : Kept → List TurnSight → List ℕ
 turns_text k [] = []

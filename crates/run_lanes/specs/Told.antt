@@ -1,7 +1,7 @@
 -- What a picture says of a run beside its columns (docs/FORMATS.md, Picture; this project's own): the calls
 -- of each task, the arrows between lanes, and in words what happened to tasks.
 use Rattle.std.specs.Prelude.{ℕ, ◌+◌, ◌-◌, ◌==◌, Bool, true, false, nat_lt, filter, if◌then◌else◌, List, [], ◌∷◌, ◌++◌, map, replicate, slice_index_or, slice_set, codes, decimal, Option, Some, None}
-use Rattle.std.specs.List.{flat_map}
+use Rattle.std.specs.List.{flat_map, list_any}
 use Rattle.kernel_abi.specs.declared.Ending.{Ending}
 use Rattle.kernel_abi.specs.declared.Ending.TheVariants as ending
 use Rattle.kernel_abi.specs.declared.Note.{Note}
@@ -14,8 +14,9 @@ use Rattle.lane_picture.specs.declared.parts.ArrowKind.{ArrowKind}
 use Rattle.lane_picture.specs.declared.parts.ArrowKind.TheVariants as way
 use Rattle.lane_picture.specs.Drawing.{no_calls}
 use Rattle.outside_io.specs.Outside.{raised}
+use Rattle.run_lanes.specs.Columns.{is_birth_of}
 use Rattle.run_lanes.specs.Names.{fault_name}
-use Rattle.run_lanes.specs.Words.{TurnSight}
+use Rattle.run_lanes.specs.Activities.{TurnSight}
 
 -- ## the calls of tasks
 
@@ -76,21 +77,23 @@ taken_by turn (Some c) = record { way = way.Call; from = c.0; at = c.1.since; to
 abbrev pub back : ℕ → ArrowKind → AskedBy → List Arrow
 back turn w c = record { way = w; from = c.1.server; at = turn; to = c.0; until = turn } ∷ []
 
--- the arrow of a call that is closed, from its server back to its client; none if the client ended it
-abbrev pub closed_arrow : ℕ → Ending → AskedBy → List Arrow
-closed_arrow turn ending.Reply c = back turn way.Answer c
-closed_arrow turn ending.ReplyFault c = back turn way.Break c
-closed_arrow turn ending.Client c = []
-closed_arrow turn ending.Restart c = back turn way.Break c
+-- The arrow of a call that is closed, from its server back to its client. There is none if the client ended
+-- the call, or is itself born again in this turn, of which these are the notes.
+abbrev pub closed_arrow : ℕ → List Note → Ending → AskedBy → List Arrow
+closed_arrow turn notes ending.Reply c = back turn way.Answer c
+closed_arrow turn notes ending.ReplyFault c = back turn way.Break c
+closed_arrow turn notes ending.Client c = []
+closed_arrow turn notes ending.Restart c = if list_any (is_birth_of c.0) notes then [] else back turn way.Break c
 
-abbrev pub ended_by : ℕ → Ending → Option AskedBy → List Arrow
-ended_by turn how None = []
-ended_by turn how (Some c) = closed_arrow turn how c
+abbrev pub ended_by : ℕ → List Note → Ending → Option AskedBy → List Arrow
+ended_by turn notes how None = []
+ended_by turn notes how (Some c) = closed_arrow turn notes how c
 
-abbrev pub arrows_of : ℕ → List TaskCalls → Note → List Arrow
-arrows_of turn calls (note.Take call copied) = taken_by turn (client_of call 0 calls)
-arrows_of turn calls (note.Close call how) = ended_by turn how (client_of call 0 calls)
-arrows_of turn calls _ = []
+-- the arrow of a note of a turn that has these notes
+abbrev pub arrows_of : ℕ → List Note → List TaskCalls → Note → List Arrow
+arrows_of turn notes calls (note.Take call copied) = taken_by turn (client_of call 0 calls)
+arrows_of turn notes calls (note.Close call how) = ended_by turn notes how (client_of call 0 calls)
+arrows_of turn notes calls _ = []
 
 -- ## what happened to tasks: faults and births
 
@@ -117,9 +120,10 @@ unfoldable pub calls_at_end_of : ℕ → List TaskCalls → List Note → List T
 calls_at_end_of turn calls [] = calls
 calls_at_end_of turn calls (n ∷ notes) = calls_at_end_of turn (calls_after turn calls n) notes
 
-unfoldable pub arrows_of_notes : ℕ → List TaskCalls → List Note → List Arrow
-arrows_of_notes turn calls [] = []
-arrows_of_notes turn calls (n ∷ notes) = arrows_of turn calls n ++ arrows_of_notes turn (calls_after turn calls n) notes
+-- the arrows of some notes, one after another, of a turn that has all these notes
+unfoldable pub arrows_of_notes : ℕ → List Note → List TaskCalls → List Note → List Arrow
+arrows_of_notes turn all calls [] = []
+arrows_of_notes turn all calls (n ∷ notes) = arrows_of turn all calls n ++ arrows_of_notes turn all (calls_after turn calls n) notes
 
 unfoldable pub calls_at_end : List TaskCalls → List TurnSight → List TaskCalls
 calls_at_end calls [] = calls
@@ -127,7 +131,7 @@ calls_at_end calls (t ∷ turns) = calls_at_end (calls_at_end_of t.turn calls t.
 
 unfoldable pub all_arrows : List TaskCalls → List TurnSight → List Arrow
 all_arrows calls [] = []
-all_arrows calls (t ∷ turns) = arrows_of_notes t.turn calls t.notes ++ all_arrows (calls_at_end_of t.turn calls t.notes) turns
+all_arrows calls (t ∷ turns) = arrows_of_notes t.turn t.notes calls t.notes ++ all_arrows (calls_at_end_of t.turn calls t.notes) turns
 
 abbrev pub events_of : TurnSight → List TurnNote
 events_of t = map (λ n. (t.turn, n)) (filter is_event t.notes)

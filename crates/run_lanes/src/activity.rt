@@ -1,7 +1,7 @@
 //! What a task does in a turn, as one of seven activities.
 ghost use Rattle.std.specs.Prelude.{◌≡◌, ◌≤◌, length};
-ghost use Rattle.run_lanes.specs.Timeline.{word_name};
-ghost use Rattle.run_lanes.specs.Words.{is_same, word_number, word_of};
+ghost use Rattle.run_lanes.specs.Timeline.{activity_name};
+ghost use Rattle.run_lanes.specs.Activities.{activity_number, activity_of, is_same};
 
 use kernel_abi::Health;
 use task_table::{Phase, Wait};
@@ -26,7 +26,7 @@ pub enum Activity {
 impl Activity {
     /// Its number in the order of the activities, from 0 on.
     pub fn number(&self) -> u8
-        ensures { result ≡ word_number self.now }
+        ensures { result ≡ activity_number self.now }
     {
         match self {
             Activity::Runs => 0,
@@ -47,7 +47,7 @@ impl Activity {
 
     /// Its name.
     pub fn name(&self) -> &'static str
-        ensures name { result.now ≡ word_name self.now }
+        ensures name { result.now ≡ activity_name self.now }
         ensures short { length result.now ≤ 7 }
     {
         match self {
@@ -63,8 +63,8 @@ impl Activity {
 }
 
 /// The activity of a task with this health that waits for this.
-pub fn word_of(health: Health, wait: Wait) -> Activity
-    ensures { result ≡ word_of health wait }
+pub fn activity_of(health: Health, wait: Wait) -> Activity
+    ensures { result ≡ activity_of health wait }
 {
     match health {
         Health::Faulted(_) => Activity::Faulted,

@@ -1,5 +1,7 @@
 //! The calls of tasks, and the arrows between lanes (docs/FORMATS.md, Picture).
 ghost use Rattle.std.specs.Prelude.{◌≡◌, ◌≤◌, length, option_to_list};
+ghost use Rattle.std.specs.List.{list_any};
+ghost use Rattle.run_lanes.specs.Columns.{is_birth_of};
 ghost use Rattle.run_lanes.specs.Told.{arrows_of, by, calls_after, client_of, closed, closed_arrow, has_asked, longer, offered};
 
 use kernel_abi::{Ending, Note};
@@ -121,15 +123,44 @@ pub fn renew(turn: u32, note: &Note, calls: &mut [TaskCalls])
     }
 }
 
-// The arrow of a call that is closed, from its server back to its client; none if the client ended
-// it.
-fn closed_arrow(turn: u32, ending: Ending, client: u16, asked: &AskedCall) -> Option<Arrow>
-    ensures { option_to_list result ≡ closed_arrow turn ending (client, asked.now) }
+// Whether a note says that the task is born again.
+fn is_birth_of(task: u16, note: &Note) -> bool
+    ensures { result ≡ is_birth_of task note.now }
+{
+    match note {
+        Note::Restart { task: born, .. } => *born == task,
+        _ => false,
+    }
+}
+
+// Whether the task is born again in a turn with these notes.
+fn is_born(task: u16, notes: &[Note]) -> bool
+    ensures { result ≡ list_any (is_birth_of task) notes.now }
+{
+    notes.iter().any(|note| is_birth_of(task, note))
+}
+
+// The arrow of a call that is closed, from its server back to its client. There is none if the
+// client ended the call, or is itself born again in this turn, of which these are the notes.
+fn closed_arrow(
+    turn: u32,
+    notes: &[Note],
+    ending: Ending,
+    client: u16,
+    asked: &AskedCall,
+) -> Option<Arrow>
+    ensures { option_to_list result ≡ closed_arrow turn notes.now ending (client, asked.now) }
 {
     let way = match ending {
         Ending::Reply => ArrowKind::Answer,
-        Ending::ReplyFault | Ending::Restart => ArrowKind::Break,
+        Ending::ReplyFault => ArrowKind::Break,
         Ending::Client => return None,
+        Ending::Restart => {
+            if is_born(client, notes) {
+                return None;
+            }
+            ArrowKind::Break
+        }
     };
     Some(Arrow {
         way,
@@ -141,10 +172,10 @@ fn closed_arrow(turn: u32, ending: Ending, client: u16, asked: &AskedCall) -> Op
 }
 
 /// The arrow of a note of a turn, if it has one: that of a call that is taken, which starts in the
-/// turn of its offer, or that of a call that is closed.
-pub fn arrow_of(turn: u32, calls: &[TaskCalls], note: &Note) -> Option<Arrow>
+/// turn of its offer, or that of a call that is closed. The turn has these notes.
+pub fn arrow_of(turn: u32, notes: &[Note], calls: &[TaskCalls], note: &Note) -> Option<Arrow>
     requires few { length calls.now ≤ 65536 }
-    ensures { option_to_list result ≡ arrows_of turn calls.now note.now }
+    ensures { option_to_list result ≡ arrows_of turn notes.now calls.now note.now }
 {
     match note {
         Note::Take { call, .. } => match client_of(calls, *call) {
@@ -158,7 +189,7 @@ pub fn arrow_of(turn: u32, calls: &[TaskCalls], note: &Note) -> Option<Arrow>
             None => None,
         },
         Note::Close { call, ending } => match client_of(calls, *call) {
-            Some((client, asked)) => closed_arrow(turn, *ending, client, &asked),
+            Some((client, asked)) => closed_arrow(turn, notes, *ending, client, &asked),
             None => None,
         },
         _ => None,

@@ -55,11 +55,11 @@ impl Watcher<()> for Canvas {
     fn see(
         &mut self,
         turn: u32,
-        words: &[Activity],
+        activities: &[Activity],
         notes: &[Note],
         _out: &mut (),
     ) -> Result<(), Failed> {
-        self.columns.add(words, notes);
+        self.columns.add(activities, notes);
         self.exchange.add(turn, notes);
         add_events(turn, notes, &mut self.events);
         Ok(())

@@ -6,10 +6,10 @@ ghost use Rattle.lane_picture.specs.declared.parts.Cell.{Cell as ACell};
 ghost use Rattle.lane_picture.specs.Sizes.{no_cell};
 ghost use Rattle.run_lanes.specs.Columns.{is_outside, most_columns};
 ghost use Rattle.run_lanes.specs.Counted.{Changed, both, counted, joined, marked, turned};
-ghost use Rattle.run_lanes.specs.Timeline.{word_at};
+ghost use Rattle.run_lanes.specs.Timeline.{activity_at};
 
 use crate::activity::Activity;
-use crate::lanes::word_at;
+use crate::lanes::activity_at;
 use kernel_abi::Note;
 use lane_picture::Cell;
 
@@ -18,7 +18,7 @@ pub const MOST_COLUMNS: usize = 1200;
 
 /// The cell of a column without turns.
 pub const NO_CELL: Cell = Cell {
-    words: [0; 7],
+    turns: [0; 7],
     faulted: false,
     born: false,
 };
@@ -38,30 +38,31 @@ fn add_counts(counts: &mut [u32], more: &[u32])
 fn joined(first: &Cell, second: &Cell) -> Cell
     ensures { result ≡ joined first.now second.now }
 {
-    let mut words = first.words;
-    add_counts(&mut words, &second.words);
+    let mut turns = first.turns;
+    add_counts(&mut turns, &second.turns);
     Cell {
-        words,
+        turns,
         faulted: first.faulted | second.faulted,
         born: first.born | second.born,
     }
 }
 
 // Counts one more turn, in which the task does this.
-fn count(cell: &mut Cell, word: Activity)
-    ensures { cell.new ≡ counted cell.old word }
+fn count(cell: &mut Cell, activity: Activity)
+    ensures { cell.new ≡ counted cell.old activity }
 {
-    let w = usize::from(word.number());
-    cell.words[w] = cell.words[w].saturating_add(1);
+    let w = usize::from(activity.number());
+    cell.turns[w] = cell.turns[w].saturating_add(1);
 }
 
 // Counts what each task does in one more turn of the column that begins at a cell.
-fn count_words(cells: &mut [Cell], at: usize, tasks: usize, words: &[Activity])
+fn count_activities(cells: &mut [Cell], at: usize, tasks: usize, activities: &[Activity])
     requires room { at + tasks ≤ length cells.old }
-    ensures { Changed cells.old cells.new at tasks (λ i c. counted c (word_at words.now i)) }
+    ensures { Changed cells.old cells.new at tasks
+        (λ i c. counted c (activity_at activities.now i)) }
 {
     for i in 0..tasks {
-        count(&mut cells[at + i], word_at(words, i));
+        count(&mut cells[at + i], activity_at(activities, i));
     }
 }
 
@@ -98,11 +99,17 @@ fn mark_all(cells: &mut [Cell], at: usize, tasks: usize, notes: &[Note])
 }
 
 /// Adds a turn to the column that begins at a cell, with what each task does in it and its notes.
-pub fn add_turn(cells: &mut [Cell], at: usize, tasks: usize, words: &[Activity], notes: &[Note])
+pub fn add_turn(
+    cells: &mut [Cell],
+    at: usize,
+    tasks: usize,
+    activities: &[Activity],
+    notes: &[Note],
+)
     requires room { at + tasks ≤ length cells.old }
-    ensures { Changed cells.old cells.new at tasks (turned words.now notes.now) }
+    ensures { Changed cells.old cells.new at tasks (turned activities.now notes.now) }
 {
-    count_words(cells, at, tasks, words);
+    count_activities(cells, at, tasks, activities);
     mark_all(cells, at, tasks, notes);
 }
 

@@ -32,7 +32,7 @@ impl Columns {
     ghost use Rattle.run_lanes.specs.Columned.{Columned};
     ghost use Rattle.run_lanes.specs.Columns.{cells, columns, is_outside, outside};
     ghost use Rattle.run_lanes.specs.Counted.{Changed, both, turned};
-    ghost use Rattle.run_lanes.specs.Words.{TurnSight};
+    ghost use Rattle.run_lanes.specs.Activities.{TurnSight};
 
     /// The columns before the first turn, for this many tasks.
     ///
@@ -73,21 +73,21 @@ impl Columns {
     }
 
     // Adds a turn to the cells.
-    fn add_cells(&mut self, words: &[Activity], notes: &[Note])
+    fn add_cells(&mut self, activities: &[Activity], notes: &[Note])
         requires free { self.old.column < 1200 }
         ensures tasks { self.new.tasks ≡ self.old.tasks }
         ensures width { self.new.width ≡ self.old.width }
         ensures column { self.new.column ≡ self.old.column }
         ensures inside { self.new.inside ≡ self.old.inside }
         ensures cells { Changed self.old.cells.items self.new.cells.items
-            (self.old.column * self.old.tasks) self.old.tasks (turned words.now notes.now) }
+            (self.old.column * self.old.tasks) self.old.tasks (turned activities.now notes.now) }
         ensures outside { self.new.outside.items ≡ self.old.outside.items }
     {
         add_turn(
             &mut self.cells,
             self.column * self.tasks,
             self.tasks,
-            words,
+            activities,
             notes,
         );
     }
@@ -131,18 +131,18 @@ impl Columns {
     }
 
     /// Adds a turn, with what each task does in it and its notes.
-    pub fn add(&mut self, words: &[Activity], notes: &[Note])
+    pub fn add(&mut self, activities: &[Activity], notes: &[Note])
         ensures tasks { self.new.tasks ≡ self.old.tasks }
         ensures added { (turn : ℕ) (turns : List TurnSight) → length turns < 1000000000 →
             Columned self.old (length turns) turns →
             Columned self.new (length turns + 1) (turns ++ (record {
               turn = turn;
-              words = words.now;
+              activities = activities.now;
               notes = notes.now;
             } ∷ [])) }
     {
         self.make_room();
-        self.add_cells(words, notes);
+        self.add_cells(activities, notes);
         self.add_outside(notes);
         self.advance();
     }

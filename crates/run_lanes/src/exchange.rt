@@ -42,16 +42,16 @@ impl Exchange {
         Ok(Exchange { calls, arrows })
     }
 
-    // Takes in a note of a turn.
-    fn hear(&mut self, turn: u32, note: &Note)
+    // Takes in a note of a turn that has these notes.
+    fn hear(&mut self, turn: u32, notes: &[Note], note: &Note)
         ensures calls { self.new.calls.items ≡ calls_after turn self.old.calls.items note.now }
         ensures arrows { (most : ℕ) (xs : List AnArrow) →
             IsFirst most self.old.arrows.kept.items (vec_capacity self.old.arrows.kept)
             self.old.arrows.all xs →
             IsFirst most self.new.arrows.kept.items (vec_capacity self.new.arrows.kept)
-            self.new.arrows.all (xs ++ arrows_of turn self.old.calls.items note.now) }
+            self.new.arrows.all (xs ++ arrows_of turn notes.now self.old.calls.items note.now) }
     {
-        let arrow = arrow_of(turn, &self.calls, note);
+        let arrow = arrow_of(turn, notes, &self.calls, note);
         self.arrows.push_some(arrow);
         renew(turn, note, &mut self.calls);
     }
@@ -63,10 +63,11 @@ impl Exchange {
             IsFirst most self.old.arrows.kept.items (vec_capacity self.old.arrows.kept)
             self.old.arrows.all xs →
             IsFirst most self.new.arrows.kept.items (vec_capacity self.new.arrows.kept)
-            self.new.arrows.all (xs ++ arrows_of_notes turn self.old.calls.items notes.now) }
+            self.new.arrows.all
+            (xs ++ arrows_of_notes turn notes.now self.old.calls.items notes.now) }
     {
         for note in notes {
-            self.hear(turn, note);
+            self.hear(turn, notes, note);
         }
     }
 }

@@ -1,7 +1,7 @@
 //! What is kept of the turns so far: for each task, what it has been doing and since when, and the
 //! call that it offered last.
 ghost use Rattle.std.specs.Prelude.{◌≡◌, IfOk};
-ghost use Rattle.run_lanes.specs.Timeline.{all_renewed, client_from, kept_none, is_of_call, offers_after, renewed, server_in, server_thread_of, word_at};
+ghost use Rattle.run_lanes.specs.Timeline.{all_renewed, client_from, kept_none, is_of_call, offers_after, renewed, server_in, server_thread_of, activity_at};
 
 use crate::activity::Activity;
 use kernel_abi::Note;
@@ -10,7 +10,7 @@ use std::alloc::{AllocError, Global};
 /// What a task has been doing since a turn.
 #[derive(Clone, Copy)]
 pub struct LaneStretch {
-    pub word: Activity,
+    pub activity: Activity,
     pub since: u32,
 }
 
@@ -40,7 +40,7 @@ impl Lanes {
         ensures { IfOk result (λ l. kept_of l ≡ kept_none tasks turn) }
     {
         let nothing_yet = LaneStretch {
-            word: Activity::Ready,
+            activity: Activity::Ready,
             since: turn,
         };
         let stretches = Vec::from_elem(alloc, nothing_yet, tasks)?;
@@ -51,34 +51,37 @@ impl Lanes {
 
 impl LaneStretch {
     /// What a task has been doing, after a turn in which it did this.
-    pub fn renewed(&self, turn: u32, word: Activity) -> LaneStretch
-        ensures { result ≡ renewed turn self.now word }
+    pub fn renewed(&self, turn: u32, activity: Activity) -> LaneStretch
+        ensures { result ≡ renewed turn self.now activity }
     {
-        if self.word.is_same(word) {
+        if self.activity.is_same(activity) {
             *self
         } else {
-            LaneStretch { word, since: turn }
+            LaneStretch {
+                activity,
+                since: turn,
+            }
         }
     }
 }
 
 /// What a task does, if these are the activities of all tasks; past their end it is ready.
-pub fn word_at(words: &[Activity], i: usize) -> Activity
-    ensures { result ≡ word_at words.now i }
+pub fn activity_at(activities: &[Activity], i: usize) -> Activity
+    ensures { result ≡ activity_at activities.now i }
 {
-    if i < words.len() {
-        words[i]
+    if i < activities.len() {
+        activities[i]
     } else {
         Activity::Ready
     }
 }
 
 /// Brings what the tasks have been doing up to date with a turn in which they did this.
-pub fn renew_all(turn: u32, words: &[Activity], stretches: &mut [LaneStretch])
-    ensures { stretches.new ≡ all_renewed turn stretches.old words.now }
+pub fn renew_all(turn: u32, activities: &[Activity], stretches: &mut [LaneStretch])
+    ensures { stretches.new ≡ all_renewed turn stretches.old activities.now }
 {
     for i in 0..stretches.len() {
-        stretches[i] = stretches[i].renewed(turn, word_at(words, i));
+        stretches[i] = stretches[i].renewed(turn, activity_at(activities, i));
     }
 }
 

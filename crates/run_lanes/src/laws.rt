@@ -2,21 +2,22 @@
 ghost use Rattle.std.specs.Prelude.{◌≡◌, ◌≤◌, ◌<◌, ◌⊎◌, ◌*◌, ℕ, List, length, sum};
 ghost use Rattle.std.specs.List.{flat_map, range_with_len};
 ghost use Rattle.run_lanes.specs.Columns.{cell_of, column, column_turns, columns, most_columns};
-ghost use Rattle.run_lanes.specs.Stretches.{Alternate, laid_out, stretches, told, turns_in, words_of};
+ghost use Rattle.run_lanes.specs.Stretches.{Alternate, activities_of, laid_out, stretches, told, turns_in};
 ghost use Rattle.run_lanes.specs.Timeline.{nothing_yet};
-ghost use Rattle.run_lanes.specs.Words.{TurnSight};
+ghost use Rattle.run_lanes.specs.Activities.{TurnSight};
 
 /// The stretches of a task tile the turns. One after another they are what the task does, turn by
 /// turn. So they have as many turns, and two neighbours have different activities. A timeline has
 /// exactly these stretches of it. (docs/FORMATS.md, Timeline.)
 pub fn stretches_tile_the_turns()
     ensures tile { (i : ℕ) (turns : List TurnSight) →
-        laid_out (stretches (words_of i turns)) ≡ words_of i turns }
+        laid_out (stretches (activities_of i turns)) ≡ activities_of i turns }
     ensures turns { (i : ℕ) (turns : List TurnSight) →
-        turns_in (stretches (words_of i turns)) ≡ length turns }
-    ensures differ { (i : ℕ) (turns : List TurnSight) → Alternate (stretches (words_of i turns)) }
+        turns_in (stretches (activities_of i turns)) ≡ length turns }
+    ensures differ { (i : ℕ) (turns : List TurnSight) →
+        Alternate (stretches (activities_of i turns)) }
     ensures told { (i turn : ℕ) (turns : List TurnSight) →
-        told turn (nothing_yet turn) (words_of i turns) ≡ stretches (words_of i turns) }
+        told turn (nothing_yet turn) (activities_of i turns) ≡ stretches (activities_of i turns) }
 {}
 
 /// The columns of a picture tile the turns. One after another they are the turns, and there are at
@@ -29,5 +30,6 @@ pub fn columns_tile_the_turns()
     ensures most { (n : ℕ) → n ≤ 1000000000 → columns n ≤ most_columns }
     ensures least { (n : ℕ) → (column_turns n ≡ 1)
         ⊎ ((half : ℕ) × (column_turns n ≡ 2 * half) × (most_columns * half < n)) }
-    ensures words { (i : ℕ) (turns : List TurnSight) → sum (cell_of turns i).words ≡ length turns }
+    ensures activities { (i : ℕ) (turns : List TurnSight) →
+        sum (cell_of turns i).turns ≡ length turns }
 {}

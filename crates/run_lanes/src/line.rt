@@ -30,14 +30,14 @@ fn push_place(thread: u64, turn: u32, out: &mut Line)
 
 /// A task does the same for this many turns, from a turn on.
 #[tactic(auto, unfolding(crate::specs::Timeline::stretch_text))]
-pub fn stretch_line(thread: u64, word: Activity, turns: u32, from: u32, out: &mut Line)
+pub fn stretch_line(thread: u64, activity: Activity, turns: u32, from: u32, out: &mut Line)
     requires { out.old.bytes ≡ [] }
-    ensures { out.new.bytes ≡ stretch_text thread word turns from }
+    ensures { out.new.bytes ≡ stretch_text thread activity turns from }
 {
     out.push_str(",\n{\"dur\":");
     push_decimal(out, u64::from(turns));
     out.push_str(",\"name\":\"");
-    out.push_str(word.name());
+    out.push_str(activity.name());
     out.push_str("\",\"ph\":\"X\",\"pid\":0");
     push_place(thread, from, out);
 }

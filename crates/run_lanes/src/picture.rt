@@ -9,7 +9,7 @@ ghost use Rattle.board_core.specs.Stands.{Stands, StandsForSome, count_of, turns
 ghost use Rattle.lane_picture.specs.Drawing.{drawing_text};
 ghost use Rattle.run_lanes.specs.Painted.{Painted, Paints};
 ghost use Rattle.run_lanes.specs.Pictured.{drawn, picture_text};
-ghost use Rattle.run_lanes.specs.Words.{TurnSight, sights};
+ghost use Rattle.run_lanes.specs.Activities.{TurnSight, sights};
 
 use crate::activity::Activity;
 use crate::canvas::Canvas;
@@ -21,12 +21,12 @@ use lane_picture::{LanePicture, draw};
 use std::alloc::{AllocError, Global};
 
 // Makes the turns up to the end of the run, and shows them to a canvas.
-fn watch_all(board: &mut Board, limit: u32, words: &mut [Activity], canvas: &mut Canvas) -> End
+fn watch_all(board: &mut Board, limit: u32, activities: &mut [Activity], canvas: &mut Canvas) -> End
     requires stood { StandsForSome (boxed shown) board.old }
     requires from { turns_of board.old ≤ limit }
     requires few { limit ≤ 1000000000 }
     requires one_each { (x : Scenario) (s : State) → Stands (boxed shown) x board.old s →
-        length words.old ≡ length x.setup.tasks }
+        length activities.old ≡ length x.setup.tasks }
     ensures paints { (x : Scenario) (s : State) → Stands (boxed shown) x board.old s →
         Paints canvas.old (sights x (limit - s.turn) s) canvas.new }
     ensures end { (x : Scenario) (s : State) → Stands (boxed shown) x board.old s →
@@ -37,7 +37,7 @@ fn watch_all(board: &mut Board, limit: u32, words: &mut [Activity], canvas: &mut
         turns_of board.new ≡ s.turn + length (sights x (limit - s.turn) s) }
     ensures within { turns_of board.new ≤ limit }
 {
-    match watch(board, limit, words, canvas, &mut ()) {
+    match watch(board, limit, activities, canvas, &mut ()) {
         Ok(end) => end,
         Err(_) => unreachable!(),
     }
@@ -109,9 +109,9 @@ pub fn draw_run(
 {
     let tasks = board.task_count();
     let from = board.turns();
-    let mut words = Vec::from_elem(alloc, Activity::Ready, tasks)?;
+    let mut activities = Vec::from_elem(alloc, Activity::Ready, tasks)?;
     let mut canvas = Canvas::open(alloc, tasks)?;
-    let end = watch_all(board, limit, &mut words, &mut canvas);
+    let end = watch_all(board, limit, &mut activities, &mut canvas);
     let turns = board.turns() - from;
     let bytes = paint(alloc, title, names, &canvas, turns, board.now(), end)?;
     Ok((bytes, end))

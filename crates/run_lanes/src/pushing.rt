@@ -5,7 +5,7 @@ ghost use Rattle.outside_io.specs.Outside.{HasCause, Pushes};
 ghost use Rattle.run_lanes.specs.Timeline.{ended_text, note_text, notes_text, offers_at_end, order_text, orders_text, outside_text, over_text, overs_text, rests_text, tail_text};
 
 use crate::activity::Activity;
-use crate::lanes::{LaneStretch, Offer, hear, word_at};
+use crate::lanes::{LaneStretch, Offer, activity_at, hear};
 use crate::line::{Line, note_line, order_line, stretch_line};
 use kernel_abi::Note;
 use outside_io::{Failed, Sink};
@@ -22,7 +22,13 @@ fn push_ended<S: Sink>(turn: u32, i: usize, stretch: LaneStretch, out: &mut S) -
     }
     let mut line = Line::new();
     let turns = turn.saturating_sub(stretch.since);
-    stretch_line(i as u64 + 1, stretch.word, turns, stretch.since, &mut line);
+    stretch_line(
+        i as u64 + 1,
+        stretch.activity,
+        turns,
+        stretch.since,
+        &mut line,
+    );
     out.push(line.as_str().as_bytes())
 }
 
@@ -31,15 +37,15 @@ fn push_if_over<S: Sink>(
     turn: u32,
     i: usize,
     stretch: LaneStretch,
-    word: Activity,
+    activity: Activity,
     out: &mut S,
 ) -> Result<(), Failed>
     requires few { i + 1 < 2 ^ 64 }
     ensures bytes { Pushes (S.seen out.old).written (S.seen out.new).written
-        (over_text turn i stretch word) result }
+        (over_text turn i stretch activity) result }
     ensures cause { HasCause (S.seen out.old).faults (S.seen out.new).faults result }
 {
-    if stretch.word.is_same(word) {
+    if stretch.activity.is_same(activity) {
         return Ok(());
     }
     push_ended(turn, i, stretch, out)
@@ -49,15 +55,15 @@ fn push_if_over<S: Sink>(
 pub fn push_overs<S: Sink>(
     turn: u32,
     stretches: &[LaneStretch],
-    words: &[Activity],
+    activities: &[Activity],
     out: &mut S,
 ) -> Result<(), Failed>
     ensures bytes { Pushes (S.seen out.old).written (S.seen out.new).written
-        (overs_text turn stretches.now words.now) result }
+        (overs_text turn stretches.now activities.now) result }
     ensures cause { HasCause (S.seen out.old).faults (S.seen out.new).faults result }
 {
     for i in 0..stretches.len() {
-        push_if_over(turn, i, stretches[i], word_at(words, i), out)?;
+        push_if_over(turn, i, stretches[i], activity_at(activities, i), out)?;
     }
     Ok(())
 }

@@ -11,7 +11,7 @@ ghost use Rattle.board_core.specs.Data.{boxed};
 ghost use Rattle.run_lanes.specs.declared.timeline.TimelineFault.TheVariants as fault;
 ghost use Rattle.run_lanes.specs.Kept.{BreaksText, SeesText, kept_of};
 ghost use Rattle.run_lanes.specs.Timeline.{drawn_text, orders_text, outside_text, rests_text, tail_text, timeline_text};
-ghost use Rattle.run_lanes.specs.Words.{sights};
+ghost use Rattle.run_lanes.specs.Activities.{sights};
 
 use crate::activity::Activity;
 use crate::lanes::{Lanes, renew_all};
@@ -57,12 +57,12 @@ impl<S: Sink> Watcher<S> for Lanes {
     fn see(
         &mut self,
         turn: u32,
-        words: &[Activity],
+        activities: &[Activity],
         notes: &[Note],
         out: &mut S,
     ) -> Result<(), Failed> {
-        push_overs(turn, &self.stretches, words, out)?;
-        renew_all(turn, words, &mut self.stretches);
+        push_overs(turn, &self.stretches, activities, out)?;
+        renew_all(turn, activities, &mut self.stretches);
         push_notes(turn, notes, &mut self.offers, out)?;
         Ok(())
     }
@@ -84,7 +84,7 @@ fn push_end<S: Sink>(turn: u32, lanes: &Lanes, out: &mut S) -> Result<(), Failed
 fn draw<S: Sink>(
     board: &mut Board,
     limit: u32,
-    words: &mut [Activity],
+    activities: &mut [Activity],
     lanes: &mut Lanes,
     out: &mut S,
 ) -> Result<End, Failed>
@@ -92,7 +92,7 @@ fn draw<S: Sink>(
     requires from { turns_of board.old ≤ limit }
     requires few { limit ≤ 1000000000 }
     requires one_each { (x : Scenario) (s : State) → Stands (boxed shown) x board.old s →
-        length words.old ≡ length x.setup.tasks }
+        length activities.old ≡ length x.setup.tasks }
     ensures text { (x : Scenario) (s : State) → Stands (boxed shown) x board.old s →
         Pushes (S.seen out.old).written (S.seen out.new).written
         (drawn_text (kept_of lanes.old) s.turn (sights x (limit - s.turn) s)) result }
@@ -103,7 +103,7 @@ fn draw<S: Sink>(
     ensures within { turns_of board.new ≤ limit }
     ensures cause { HasCause (S.seen out.old).faults (S.seen out.new).faults result }
 {
-    let end = watch(board, limit, words, lanes, out)?;
+    let end = watch(board, limit, activities, lanes, out)?;
     push_end(board.turns(), lanes, out)?;
     Ok(end)
 }
@@ -113,7 +113,7 @@ fn draw_whole<S: Sink>(
     board: &mut Board,
     limit: u32,
     lines: &[String],
-    words: &mut [Activity],
+    activities: &mut [Activity],
     lanes: &mut Lanes,
     out: &mut S,
 ) -> Result<End, Failed>
@@ -121,7 +121,7 @@ fn draw_whole<S: Sink>(
     requires from { turns_of board.old ≤ limit }
     requires few { limit ≤ 1000000000 }
     requires one_each { (x : Scenario) (s : State) → Stands (boxed shown) x board.old s →
-        length words.old ≡ length x.setup.tasks }
+        length activities.old ≡ length x.setup.tasks }
     ensures text { (x : Scenario) (s : State) → Stands (boxed shown) x board.old s →
         Pushes (S.seen out.old).written (S.seen out.new).written
         ((outside_text ++ flat_map string_bytes lines.now ++ orders_text (length lines.now + 1))
@@ -134,7 +134,7 @@ fn draw_whole<S: Sink>(
     ensures cause { HasCause (S.seen out.old).faults (S.seen out.new).faults result }
 {
     push_head(lines, out)?;
-    draw(board, limit, words, lanes, out)
+    draw(board, limit, activities, lanes, out)
 }
 
 /// Makes the turns up to the end of the run, and pushes its timeline (docs/FORMATS.md, Timeline),
@@ -175,8 +175,8 @@ pub fn write_timeline<S: Sink>(
 {
     let tasks = board.task_count();
     let lines = name_lines(alloc, names)?;
-    let mut words = Vec::from_elem(alloc, Activity::Ready, tasks)?;
+    let mut activities = Vec::from_elem(alloc, Activity::Ready, tasks)?;
     let mut lanes = Lanes::open(alloc, tasks, board.turns())?;
-    let end = draw_whole(board, limit, &lines, &mut words, &mut lanes, out)?;
+    let end = draw_whole(board, limit, &lines, &mut activities, &mut lanes, out)?;
     Ok(end)
 }

@@ -11,9 +11,9 @@ ghost use Rattle.board_core.specs.Views.{IsTask};
 ghost use Rattle.run_lanes.specs.declared.activity.Activity.{Activity as Said};
 ghost use Rattle.run_lanes.specs.declared.activity.Activity.TheVariants as said;
 ghost use Rattle.run_lanes.specs.Seen.{BreaksSeeing, Paired};
-ghost use Rattle.run_lanes.specs.Words.{TurnSight, is_of, sights, waiting};
+ghost use Rattle.run_lanes.specs.Activities.{TurnSight, is_of, sights, waiting};
 
-use crate::activity::{Activity, word_of};
+use crate::activity::{Activity, activity_of};
 use board_core::{Board, End, Level, TaskView, Turned};
 use board_run::ending;
 use kernel_abi::Note;
@@ -35,16 +35,21 @@ pub trait Watcher<O> {
     fn see(
         &mut self,
         turn: u32,
-        words: &[Activity],
+        activities: &[Activity],
         notes: &[Note],
         out: &mut O,
     ) -> Result<(), Failed>
         ensures { MatchResult result
-            (λ _. saw self.old out.old (record { turn = turn; words = words.now; notes = notes.now }
+            (λ _. saw self.old out.old (record {
+              turn = turn;
+              activities = activities.now;
+              notes =
+                  notes.now;
+            }
             ∷ []) self.new out.new)
             (λ _. broke self.old out.old (record {
               turn = turn;
-              words = words.now;
+              activities = activities.now;
               notes = notes.now;
             } ∷ []) self.new out.new) };
 
@@ -62,11 +67,11 @@ pub trait Watcher<O> {
 fn waiting(task: &TaskView) -> Activity
     ensures { (s : State) (i : ℕ) → IsTask s i task.now → result ≡ waiting s i }
 {
-    word_of(task.health, task.wait)
+    activity_of(task.health, task.wait)
 }
 
 // What a task does between turns, by its index.
-fn word_at(board: &Board, i: usize) -> Activity
+fn activity_at(board: &Board, i: usize) -> Activity
     ensures { (x : Scenario) (s : State) → Stands (boxed shown) x board.now s → i < length s.tasks →
         result ≡ waiting s i }
 {
@@ -77,30 +82,30 @@ fn word_at(board: &Board, i: usize) -> Activity
 }
 
 // Writes what each task does between turns over a list of the same length.
-fn look(board: &Board, words: &mut [Activity])
-    ensures len { length words.new ≡ length words.old }
-    ensures words { (x : Scenario) (s : State) → Stands (boxed shown) x board.now s →
-        length words.old ≡ length s.tasks →
-        words.new ≡ map (waiting s) (range_with_len 0 (length s.tasks)) }
+fn look(board: &Board, activities: &mut [Activity])
+    ensures len { length activities.new ≡ length activities.old }
+    ensures activities { (x : Scenario) (s : State) → Stands (boxed shown) x board.now s →
+        length activities.old ≡ length s.tasks →
+        activities.new ≡ map (waiting s) (range_with_len 0 (length s.tasks)) }
 {
-    for i in 0..words.len() {
-        words[i] = word_at(board, i);
+    for i in 0..activities.len() {
+        activities[i] = activity_at(board, i);
     }
 }
 
 // Marks the task whose turn it was.
-fn mark(turned: Turned, words: &mut [Activity])
-    ensures len { length words.new ≡ length words.old }
-    ensures marked { (k : ℕ) (d : Said) → k < length words.old →
-        slice_index_or words.new k d ≡ (if is_of turned k then said.Runs else slice_index_or
-        words.old k d) }
+fn mark(turned: Turned, activities: &mut [Activity])
+    ensures len { length activities.new ≡ length activities.old }
+    ensures marked { (k : ℕ) (d : Said) → k < length activities.old →
+        slice_index_or activities.new k d ≡ (if is_of turned k then said.Runs else slice_index_or
+        activities.old k d) }
 {
     match turned {
         Turned::Idle => {}
         Turned::Ran { task, .. } => {
             let i = usize::from(task);
-            if i < words.len() {
-                words[i] = Activity::Runs;
+            if i < activities.len() {
+                activities[i] = Activity::Runs;
             }
         }
     }
@@ -115,7 +120,7 @@ fn mark(turned: Turned, words: &mut [Activity])
 pub fn watch<O, W: Watcher<O>>(
     board: &mut Board,
     limit: u32,
-    words: &mut [Activity],
+    activities: &mut [Activity],
     watcher: &mut W,
     out: &mut O,
 ) -> Result<End, Failed>
@@ -123,7 +128,7 @@ pub fn watch<O, W: Watcher<O>>(
     requires from { turns_of board.old ≤ limit }
     requires few { limit ≤ 1000000000 }
     requires one_each { (x : Scenario) (s : State) → Stands (boxed shown) x board.old s →
-        length words.old ≡ length x.setup.tasks }
+        length activities.old ≡ length x.setup.tasks }
     ensures told { (x : Scenario) (s : State) → Stands (boxed shown) x board.old s →
         OnOk result (W.saw watcher.old out.old (sights x (limit - s.turn) s) watcher.new out.new) }
     ensures end { (x : Scenario) (s : State) → Stands (boxed shown) x board.old s →
@@ -145,9 +150,9 @@ pub fn watch<O, W: Watcher<O>>(
             Some(end) => return Ok(end),
             None => {}
         }
-        look(board, words);
+        look(board, activities);
         let turned = board.turn_at(Level::Calls);
-        mark(turned, words);
-        watcher.see(board.turns() - 1, words, board.notes(), out)?;
+        mark(turned, activities);
+        watcher.see(board.turns() - 1, activities, board.notes(), out)?;
     }
 }

@@ -1,4 +1,4 @@
--- One event more among those of a script, behind those of its turn.
+-- One more event among those of a script, after those of its turn.
 use Rattle.std.proofs.Common.{◌≡◌, ◌∙◌, ℕ, zero, suc, ◌+◌, ◌≤◌, ◌<◌, Bool, true, false, List, [], ◌∷◌, ◌++◌, length, length-drop, take, drop, get_or, refl, sym, ap, subst, append_assoc, arith, if◌then◌else◌, ◌==◌, ◌||◌, nat_le}
 use Rattle.std.specs.Prelude.{filter, map, is_some, nat_lt, slice_get}
 use Rattle.std.specs.List.{All, count_by, insert, list_any}

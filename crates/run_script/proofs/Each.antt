@@ -1,4 +1,4 @@
--- What is known of each turn.
+-- The facts that are true of each turn.
 use Rattle.std.proofs.Common.{◌≡◌, ℕ, suc, zero, ◌≤◌, ◌<◌, ◌%◌, List, [], ◌∷◌, length, get_or, filter, slice_get, Option, Some, None, refl, sym, arith, subst, Bool, true, false, nat_lt, ◌==◌, ◌&&◌, if◌then◌else◌, length-append, IfSome, OnSome}
 use Rattle.std.specs.List.{All, count_by}
 use Rattle.std.proofs.lemmas.List.{length-map}

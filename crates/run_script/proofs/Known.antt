@@ -1,4 +1,4 @@
--- What is known of a script before its first line, and with a period.
+-- The facts that are true of a script before its first line, and with a period.
 use Rattle.std.proofs.Common.{◌≡◌, ℕ, ◌<◌, arith, subst, Some}
 use Rattle.run_script.specs.declared.events.Event.TheVariants.{Tick, Irq, Feed}
 use Rattle.run_script.specs.Facts.{Facts, HasDevice, HasLine, IsPeriod}

@@ -13,7 +13,7 @@ use Rattle.run_script.specs.Words.{is_blank}
 use Rattle.run_script.specs.Statements.{Said, Nothing, Every, Lists, Refused}
 use Rattle.run_script.specs.Scripts.{Reading}
 
--- a text ends here: by a quote, and blanks
+-- a text ends here: a quote and then only blanks
 abbrev pub closes : List ℕ → Bool
 closes [] = false
 closes (c ∷ cs) = (c == 34) && list_all is_blank cs
@@ -26,7 +26,7 @@ said (code.Repeats first step times event) = Lists first step (replicate times e
 said (code.Bytes first step device bytes) = Lists first step (map (λ byte. Feed device byte) bytes.items)
 said (code.Refused cause) = Refused cause
 
--- so many turns, the first and each further one so many turns later, are turns of a run
+-- all of these turns are turns of a run: `times` turns, the first one and each further one `step` turns later
 pub record AreTurns (first step times : ℕ) : Type 0 where
   pub most : step ≤ 1000000000
   pub each : (k : ℕ) → k < times → first + k * step < 1000000000
@@ -42,7 +42,7 @@ IsKnown (code.Refused cause) = Unit {0}
 abbrev pub drafted : Draft → Reading
 drafted d = record { script = script_data d.script; from = d.from }
 
--- the fault is the cause with the line, or want of memory
+-- the fault is the cause with the line, or memory ran out
 abbrev pub Refuses : {A : Type 0} → ScriptFault → ℕ → Result A ℕ → Type 0
 Refuses (fault.Refused cause place) line answer = (place ≡ line) × (answer ≡ Err cause)
 Refuses fault.Memory line answer = Unit {0}

@@ -1,4 +1,4 @@
--- What is known of each script that is read.
+-- The facts that are true of each script that is read.
 use Rattle.std.specs.Prelude.{ℕ, ◌≡◌, ◌≤◌, ◌<◌, List, Some, length}
 use Rattle.std.specs.List.{All, count_by}
 use Rattle.std.specs.List.Sorted.{IsNonDecreasingBy}
@@ -14,7 +14,7 @@ pub record IsPeriod (period : ℕ) : Type 0 where
 abbrev pub HasLine : Event → Type 0
 HasLine event = (line : ℕ) → event ≡ Irq line → line < 64
 
--- a byte is one, and comes for one of the devices that there may be
+-- the byte is below 256, and the device's index is below 8
 abbrev pub HasDevice : Event → Type 0
 HasDevice event = (device byte : ℕ) → event ≡ Feed device byte → (device < 8) × (byte < 256)
 

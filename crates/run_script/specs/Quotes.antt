@@ -3,19 +3,20 @@ use Rattle.std.specs.Prelude.{ℕ, Bool, true, false, ◌==◌, ◌&&◌, ◌||�
 use Rattle.std.specs.List.{list_all}
 use Rattle.run_script.specs.Words.{is_blank}
 
--- what stands before the first word that begins with a quote (34); may a word begin here?
+-- the bytes before the first word that begins with a quote (34); the first argument says whether a word may
+-- begin here
 unfoldable pub before_text : Bool → List ℕ → List ℕ
 before_text begins [] = []
 before_text begins (c ∷ cs) = if begins && (c == 34) then [] else c ∷ before_text (is_blank c) cs
 
--- that word and all that follows it; nothing where there is none
+-- that word and all that follows it; nothing if there is no such word
 unfoldable pub text_from : Bool → List ℕ → List ℕ
 text_from begins [] = []
 text_from begins (c ∷ cs) = if begins && (c == 34) then c ∷ cs else text_from (is_blank c) cs
 
 -- ---- the bytes of a text
 
--- what a byte stands for behind a `\` (92): itself, LF, CR, tab or 0
+-- what a byte after a `\` (92) stands for: itself, LF, CR, tab or 0
 abbrev pub unescaped : ℕ → Option ℕ
 unescaped c =
     if (c == 34) || (c == 92) then Some c
@@ -30,7 +31,8 @@ with_byte None bytes = None
 with_byte (Some byte) None = None
 with_byte (Some byte) (Some bytes) = Some (byte ∷ bytes)
 
--- the bytes up to the other quote, behind which are blanks alone; does a `\` stand before?
+-- the bytes up to the closing quote, after which only blanks may come; the first argument says whether a `\`
+-- came just before
 unfoldable pub bytes_to_quote : Bool → List ℕ → Option (List ℕ)
 bytes_to_quote escaped [] = None
 bytes_to_quote true (c ∷ cs) = with_byte (unescaped c) (bytes_to_quote false cs)

@@ -1,5 +1,5 @@
--- A script: what happens from outside, turn by turn, and the script that a text is.
--- docs/FORMATS.md, Script, has the grammar and the table of causes.
+-- A script: what happens from outside, turn by turn, and the script that a text spells. docs/FORMATS.md,
+-- Script, has the grammar and the table of causes.
 use Rattle.std.specs.Prelude.{ℕ, ◌≡◌, ◌≢◌, ◌≤◌, ◌<◌, Bool, true, false, ◌+◌, ◌%◌, ◌==◌, ◌&&◌, ◌||◌, nat_lt, nat_le, if◌then◌else◌, List, [], ◌∷◌, ◌++◌, length, map, filter, slice_index_or, Option, Some, None, is_some, Result, Ok, Err}
 use Rattle.std.specs.List.{count_by, list_any}
 use Rattle.text_lines.specs.Text.{lines_of}
@@ -11,14 +11,14 @@ use Rattle.run_script.specs.Statements.{Said, Nothing, Every, Lists, Refused, st
 abbrev pub Listed : Type 0
 Listed = ℕ × Event
 
--- a tick every so many turns, and the listed events in order
+-- the period of ticks, if there is one, and the listed events in order
 pub record ScriptData : Type 0 where
   pub every : Option ℕ
   pub events : List Listed
 
 -- ---- turn by turn
 
--- is the listed event of this turn?
+-- whether the listed event is of this turn
 abbrev pub is_of : ℕ → Listed → Bool
 is_of turn listed = listed.0 == turn
 
@@ -27,7 +27,7 @@ abbrev pub ticks_of : Option ℕ → ℕ → List Event
 ticks_of None turn = []
 ticks_of (Some period) turn = if nat_lt 0 turn && (turn % period == 0) then Tick ∷ [] else []
 
--- what is listed of a turn, in the order of the script
+-- the listed events of a turn, in the order of the script
 abbrev pub listed_of : ℕ → List Listed → List Event
 listed_of turn events = map (λ listed. listed.1) (filter (is_of turn) events)
 
@@ -35,11 +35,12 @@ listed_of turn events = map (λ listed. listed.1) (filter (is_of turn) events)
 abbrev pub events_of : ScriptData → ℕ → List Event
 events_of script turn = ticks_of script.every turn ++ listed_of turn script.events
 
--- an event at its place, behind those of its turn and of the turns before
+-- the list with an event inserted after those of its turn and of the turns before
 abbrev pub inserted : ℕ → Event → List Listed → List Listed
 inserted turn event events = filter (λ d. nat_le d.0 turn) events ++ (turn, event) ∷ filter (λ d. nat_lt turn d.0) events
 
--- where the first listed event of this turn or a later one stands, or how many there are
+-- the index of the first listed event of this turn or a later one, or the number of listed events if there is
+-- none
 pub record IsFirstListed (script : ScriptData) (turn at : ℕ) : Type 0 where
   pub within : at ≤ length script.events
   pub before : (k : ℕ) (d : Listed) → k < at → nat_lt (slice_index_or script.events k d).0 turn ≡ true
@@ -56,7 +57,7 @@ IsNext script from (Some next) = (from ≤ next) × (next < 1000000000) × (even
 
 -- ---- reading
 
--- what is read before the first line
+-- the script before the first line is read
 abbrev pub no_script : ScriptData
 no_script = record { every = None; events = [] }
 
@@ -73,7 +74,7 @@ abbrev pub if_ok : {A B : Type 0} → Result A ℕ → (A → Result B ℕ) → 
 if_ok (Ok x) rest = rest x
 if_ok (Err cause) rest = Err cause
 
--- events, the first on a turn and each further one so many turns later
+-- the script with these events, the first one in a given turn and each further one `step` turns later
 unfoldable pub with_series : ScriptData → (turn step : ℕ) → List Event → Result ScriptData ℕ
 with_series script turn step [] = Ok script
 with_series script turn step (event ∷ events) =
@@ -84,7 +85,7 @@ with_period script period =
     if is_some script.every || nat_lt 0 (length script.events) then Err 4
     else Ok (record { every = Some period; events = script.events })
 
--- what is read so far: the script, and the first turn of the last line that lists events; 0 where none does
+-- the lines read so far: the script, and the first turn of the last line that lists events; 0 if no line does
 pub record Reading : Type 0 where
   pub script : ScriptData
   pub from : ℕ
@@ -92,7 +93,7 @@ pub record Reading : Type 0 where
 abbrev pub reading : ℕ → ScriptData → Reading
 reading from script = record { script = script; from = from }
 
--- with what one more line says, or the cause by which that is refused
+-- the reading with the statement of one more line, or the cause why the statement is refused
 abbrev pub with_statement : Reading → Said → Result Reading ℕ
 with_statement r Nothing = Ok r
 with_statement r (Every period) = if_ok (with_period r.script period) (λ script. Ok (reading r.from script))
@@ -115,6 +116,6 @@ with_lines r number [] = Ok r.script
 with_lines r number (line ∷ lines) =
     go_on number (with_statement r (statement_of line)) (λ next. with_lines next (number + 1) lines)
 
--- the script that the bytes say, or the first cause with its line, from 1
+-- the script that the bytes spell, or the first cause with its line, from 1
 abbrev pub script_or_fault : List ℕ → Result ScriptData Refusal
 script_or_fault bytes = with_lines (reading 0 no_script) 1 (lines_of bytes)

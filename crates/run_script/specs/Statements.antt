@@ -7,7 +7,8 @@ use Rattle.run_script.specs.declared.events.Event.TheVariants.{Tick, Irq, Feed}
 use Rattle.run_script.specs.Quotes.{before_text, bytes_of, text_from}
 use Rattle.run_script.specs.Words.{is_allowed, words}
 
--- what a line says: nothing, a period, or events, the first on a turn and each further one so many turns later
+-- what a line says: nothing, a period, or events, the first one in a given turn and each further one a number
+-- of turns later
 pub data Said : Type 0 where
   Nothing : Said
   Every : ℕ → Said
@@ -40,7 +41,7 @@ device_in word = number_within 0 7 word
 abbrev pub byte_in : List ℕ → Option ℕ
 byte_in word = number_within 0 255 word
 
--- ---- an event, or the cause: 2 where the words name none, 3 where a number is none or out of range
+-- ---- an event, or the cause: 2 if the words name none, 3 if a number is malformed or out of range
 
 abbrev pub irq_on : Option ℕ → Result Event ℕ
 irq_on None = Err 3
@@ -59,7 +60,7 @@ event_named (kind ∷ device ∷ byte ∷ []) =
     if bytes_eq kind (codes "in") then feed_of (device_in device) (byte_in byte) else Err 2
 event_named _ = Err 2
 
--- ---- the forms, with cause 3 where a number is none or out of range
+-- ---- the forms, with cause 3 if a number is malformed or out of range
 
 abbrev pub period_said : Option ℕ → Said
 period_said None = Refused 3
@@ -128,7 +129,7 @@ abbrev pub starts_by_hash : List ℕ → Bool
 starts_by_hash [] = false
 starts_by_hash (c ∷ cs) = nat_eq c 35
 
--- nothing where there is no word, or the first begins with `#`
+-- nothing if there is no word, or if the first one begins with `#`
 abbrev pub words_said : List (List ℕ) → Said
 words_said [] = Nothing
 words_said (word ∷ rest) =

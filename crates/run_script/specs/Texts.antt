@@ -14,7 +14,7 @@ event_text (Feed device byte) = codes "in " ++ decimal device ++ codes " " ++ de
 unfoldable pub event_line : Listed → List ℕ
 event_line listed = codes "at " ++ decimal listed.0 ++ codes " " ++ event_text listed.1 ++ codes "\n"
 
--- the line of a period, where there is one
+-- the line of a period, if there is one
 abbrev pub period_line : Option ℕ → List ℕ
 period_line None = []
 period_line (Some period) = codes "every " ++ decimal period ++ codes " tick\n"

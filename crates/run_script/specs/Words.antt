@@ -23,7 +23,7 @@ words (c ∷ cs) =
     else if ends_word cs then (c ∷ []) ∷ words cs
     else with_first c (words cs)
 
--- ---- as one reads them: blanks are skipped, and a word goes on to a blank or the end
+-- ---- how words are read: blanks are skipped, and a word goes on to a blank or to the end
 
 abbrev pub BlanksAreSkipped : Type 0
 BlanksAreSkipped = (c : ℕ) (text : List ℕ) → is_blank c ≡ true → words (c ∷ text) ≡ words text

@@ -13,16 +13,16 @@ use crate::statement::Statement;
 use crate::turns::{first_of, listed_at};
 use std::alloc::Global;
 
-/// The most events that a script lists, and the most of one turn.
+/// The largest number of events that a script may list, and that one turn may have.
 pub(crate) const MOST: usize = 65536;
 
 pub(crate) const MOST_OF_TURN: u8 = 8;
 
-/// What is read so far.
+/// A script and what else is known after the lines that have been read.
 #[derive(Drop)]
 pub(crate) struct Draft {
     pub(crate) script: Script,
-    /// The first turn of the last line that lists events; 0 where none does.
+    /// The first turn of the last line that lists events; 0 if no line does.
     pub(crate) from: u32,
 }
 
@@ -51,7 +51,7 @@ fn add_period(script: &mut Script, period: u32, line: usize) -> Result<(), Scrip
     Ok(())
 }
 
-/// Lists an event behind those of its turn and of the turns before.
+/// Lists an event after those of its turn and of the turns before.
 fn add_event(script: &mut Script, turn: u32, event: Event, line: usize) -> Result<(), ScriptFault>
     requires { IsListed (turn, event) }
     ensures ok { OnOk result (with_listed (script_data script.old) turn event ≡ Ok
@@ -79,7 +79,7 @@ fn add_event(script: &mut Script, turn: u32, event: Event, line: usize) -> Resul
     }
 }
 
-/// Lists an event so many times, the first on a turn and each further one `step` turns later.
+/// Lists an event `times` times, first in turn `first` and then every `step` turns.
 fn add_repeats(
     script: &mut Script,
     first: u32,
@@ -106,7 +106,8 @@ fn add_repeats(
     Ok(())
 }
 
-/// Lists bytes for a device, the first on a turn and each further one `step` turns later.
+/// Lists bytes for a device, the first byte in a given turn and each further one `step` turns
+/// later.
 fn add_bytes(
     script: &mut Script,
     first: u32,
@@ -136,7 +137,7 @@ fn add_bytes(
     Ok(())
 }
 
-/// Takes what a line says, or tells why it is refused there.
+/// Adds the statement of a line to the draft, or gives the cause why the draft refuses it.
 pub(crate) fn take(draft: &mut Draft, statement: Statement, line: usize) -> Result<(), ScriptFault>
     requires { IsKnown statement }
     ensures ok { OnOk result (with_statement (drafted draft.old) (said statement) ≡ Ok

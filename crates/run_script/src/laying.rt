@@ -1,5 +1,5 @@
-//! A script that becomes another one, and events that are added to it one by one, in room that was
-//! taken before.
+//! Copies a script into another one and adds events to it one by one, in memory that was allocated
+//! before.
 
 ghost use Rattle.std.specs.Prelude.{◌≡◌, ◌+◌, ◌==◌, ◌++◌, ◌||◌, not, ◌∷◌, [], ℕ, true, false, length, nat_le, is_some, if◌then◌else◌, IfOk, IfSome, slice_get};
 ghost use Rattle.run_script.specs.Events.{script_data};
@@ -14,12 +14,12 @@ use crate::turns::{TURNS, first_of, listed_at};
 use std::alloc::{AllocError, Global};
 
 impl Script {
-    /// A script without events that has room for so many: within it, `become_as` and `add` need no
-    /// memory.
+    /// A script without events that has room for this many. Within this room, `become_as` and `add`
+    /// allocate no memory.
     ///
     /// # Errors
     ///
-    /// Only want of memory.
+    /// Only if memory runs out.
     pub fn with_room(alloc: Global, events: usize) -> Result<Script, AllocError>
         ensures nothing { IfOk result (λ s. script_data s ≡ no_script) }
         ensures room { IfOk result (λ s. HasRoom s events) }
@@ -37,14 +37,15 @@ impl Script {
         self.events.len()
     }
 
-    /// Whether it has an `every`, a tick every so many turns (docs/FORMATS.md, Script).
+    /// Whether it has an `every`, a tick in each turn that is a multiple of a period
+    /// (docs/FORMATS.md, Script).
     pub fn has_every(&self) -> bool
         ensures { result ≡ is_some (script_data self.now).every }
     {
         self.every.is_some()
     }
 
-    /// The event that is listed at a place, from 0, with its turn; `None` past the last.
+    /// The event at an index of the list, from 0, with its turn; `None` past the last one.
     pub fn listed_event(&self, place: usize) -> Option<(u32, Event)>
         ensures event { result ≡ slice_get (script_data self.now).events place }
         ensures known { IfSome result IsListed }
@@ -52,8 +53,8 @@ impl Script {
         self.events.get(place).copied()
     }
 
-    /// Becomes a copy of another script, for whose events it has room, and keeps that room: what it
-    /// had before is gone, and no memory is needed.
+    /// Becomes a copy of another script, for whose events it needs to have room. It loses its own
+    /// events, keeps its room, and allocates no memory.
     pub fn become_as(&mut self, other: &Script)
         requires { HasRoom self.old (length (script_data other.now).events) }
         ensures same { script_data self.new ≡ script_data other.now }
@@ -67,10 +68,10 @@ impl Script {
         }
     }
 
-    /// Lists one event more, behind those of its turn and of the turns before, for which there is
-    /// room: no memory is needed. Where no script has it besides, since its turn is past the last,
-    /// or 65,536 are listed, or eight of its turn (docs/FORMATS.md, Script), the answer is `false`,
-    /// and nothing changes.
+    /// Lists one more event, after those of its turn and of the turns before. There needs to be
+    /// room for it, so no memory is allocated. If the result would not be a script, since the
+    /// event's turn is past the last one, or 65,536 events are listed, or eight of its turn
+    /// (docs/FORMATS.md, Script), the method returns `false`, and nothing changes.
     pub fn add(&mut self, turn: u32, event: Event) -> bool
         requires line { HasLine event }
         requires device { HasDevice event }

@@ -1,4 +1,4 @@
-//! A script made of its events.
+//! Makes a script from its events.
 
 ghost use Rattle.std.specs.Prelude.{◌≡◌, IfOk};
 ghost use Rattle.run_script.specs.Events.{script_data};
@@ -9,12 +9,12 @@ use crate::script::Script;
 use std::alloc::{AllocError, Global};
 
 impl Script {
-    /// The script of a tick every so many turns and of these events, each with its turn, which no
-    /// cause refuses (docs/FORMATS.md, Script).
+    /// The script with this period of ticks and with these events, each with its turn. No cause may
+    /// refuse them (docs/FORMATS.md, Script).
     ///
     /// # Errors
     ///
-    /// Only want of memory.
+    /// Only if memory runs out.
     pub fn of(
         alloc: Global,
         every: Option<u32>,

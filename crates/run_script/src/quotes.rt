@@ -15,7 +15,7 @@ fn begins_text(begins: bool, c: u8) -> bool
     begins && c == b'"'
 }
 
-/// Where the first word that begins with a quote stands, or the length.
+/// The index of the first word that begins with a quote, or the length if there is none.
 pub(crate) fn text_start(line: &[u8]) -> usize
     ensures within { result ≤ length line.now }
     ensures before { before_text true line.now ≡ take result line.now }
@@ -45,7 +45,7 @@ fn unescaped(c: u8) -> Option<u8>
     }
 }
 
-/// The byte that stands behind a `\`, and what follows.
+/// The byte that is spelled after a `\`, and the bytes that follow.
 fn escaped_byte(text: &[u8]) -> Option<(u8, &[u8])>
     ensures byte { IfSome result (λ r. bytes_to_quote true text.now ≡ with_byte (Some r.0)
         (bytes_to_quote false r.1.now)) }
@@ -61,8 +61,7 @@ fn escaped_byte(text: &[u8]) -> Option<(u8, &[u8])>
     }
 }
 
-/// The first byte of what stands before the closing quote, and what follows; `None` where there is
-/// none.
+/// The first byte of the text before its closing quote, and what follows; `None` if there is none.
 fn next_byte(text: &[u8]) -> Option<(u8, &[u8])>
     ensures byte { IfSome result (λ r. bytes_to_quote false text.now ≡ with_byte (Some r.0)
         (bytes_to_quote false r.1.now)) }
@@ -88,14 +87,14 @@ fn are_blank(text: &[u8]) -> bool
     text.iter().all(|c| is_blank(*c))
 }
 
-/// Whether a text ends here: by a quote, and blanks.
+/// Whether a text ends here: a quote and then only blanks.
 fn closes(text: &[u8]) -> bool
     ensures { result ≡ closes text.now }
 {
     !text.is_empty() && text[0] == b'"' && are_blank(&text[1..])
 }
 
-/// The bytes of a text; `None` where it is none.
+/// The bytes that a text in quotes spells; `None` if it is no such text.
 pub(crate) fn bytes_of(alloc: Global, text: &[u8]) -> Result<Option<Vec<u8>>, AllocError>
     requires { 0 < length text.now }
     ensures value { IfOk result (λ o. option_map (λ bytes. bytes.items) o ≡ bytes_of text.now) }

@@ -1,4 +1,4 @@
-//! From bytes to a script, or the first cause by which they are refused.
+//! Reads a script from bytes, or gives the first cause why they are refused.
 
 ghost use Rattle.std.specs.Prelude.{◌≡◌, IfOk, IfErr, IfSome, OnOk, Ok, Err};
 ghost use Rattle.run_script.specs.Drafts.{Refuses, drafted};
@@ -13,7 +13,7 @@ use crate::statement::statement_of;
 use std::alloc::Global;
 use text_lines::Lines;
 
-/// Takes one line more.
+/// Adds one more line to the draft.
 fn read_line(alloc: Global, draft: &mut Draft, text: &[u8], line: usize) -> Result<(), ScriptFault>
     ensures ok { OnOk result (with_statement (drafted draft.old) (statement_of text.now) ≡ Ok
         (drafted draft.new)) }
@@ -45,9 +45,9 @@ fn draft_of(alloc: Global, bytes: &[u8]) -> Result<Draft, ScriptFault>
 }
 
 impl Script {
-    /// The script that the bytes say, or the first cause by which they are refused with its line,
-    /// in the order of docs/FORMATS.md, Script; `Memory` where memory ran out. Lines are counted
-    /// from 1.
+    /// The script that the bytes spell. Otherwise the first cause why they are refused, with its
+    /// line, in the order of docs/FORMATS.md, Script, or `Memory` if memory ran out. Lines are
+    /// counted from 1.
     pub fn read(alloc: Global, bytes: &[u8]) -> Result<Script, ScriptFault>
         ensures ok { IfOk result (λ s. script_or_fault bytes.now ≡ Ok (script_data s)) }
         ensures refused { IfErr result (λ e.

@@ -4,7 +4,7 @@ ghost use Rattle.run_script.specs.Facts.{Facts};
 
 use crate::events::Event;
 
-/// A script as its text says it; `script_data` of its specs is what it says.
+/// A script, as it is read from its text. `script_data` in the specs gives its contents.
 #[derive(Drop)]
 pub struct Script {
     pub(crate) every: Option<u32>,

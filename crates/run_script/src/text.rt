@@ -69,13 +69,13 @@ fn push_lines(events: &[(u32, Event)], out: &mut Vec<u8>) -> Result<(), AllocErr
 }
 
 impl Script {
-    /// Puts the script's text behind what stands in `out`: `every P tick` where there is a period,
-    /// then each event in a line of its own, in the order of the list. Read again it is this script
+    /// Appends the script's text to `out`: `every P tick` if there is a period, then each event on
+    /// a line of its own, in the order of the list. Reading this text gives the same script
     /// (`script_text_is_read`).
     ///
     /// # Errors
     ///
-    /// Only want of memory.
+    /// Only if memory runs out.
     #[tactic(auto, unfolding(crate::specs::Texts::script_text))]
     pub fn push_text(&self, out: &mut Vec<u8>) -> Result<(), AllocError>
         ensures { OnOk result (out.new.items ≡ out.old.items ++ script_text

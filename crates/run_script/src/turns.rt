@@ -12,7 +12,8 @@ use crate::events::Event;
 use crate::script::Script;
 use std::alloc::{AllocError, Global};
 
-/// Where the first listed event of this turn or a later one stands, or how many there are.
+/// The index of the first listed event of this turn or a later one, or the number of listed events
+/// if there is none.
 pub(crate) fn first_of(script: &Script, turn: u32) -> usize
     ensures { IsFirstListed (script_data script.now) turn result }
 {
@@ -22,7 +23,7 @@ pub(crate) fn first_of(script: &Script, turn: u32) -> usize
         .partition_point(|listed| listed.0 < turn)
 }
 
-/// Whether what `first_of` tells of a turn is this.
+/// Whether `at` is what `first_of` returns for the turn.
 fn is_first(events: &[(u32, Event)], at: usize, turn: u32) -> bool
     ensures within { result ≡ true → at ≤ length events.now }
     ensures before { result ≡ true → 0 < at → (d : Listed) →
@@ -35,7 +36,8 @@ fn is_first(events: &[(u32, Event)], at: usize, turn: u32) -> bool
         && (at == events.len() || events[at].0 >= turn)
 }
 
-/// As `first_of`, by a guess that mostly is right: it is tested, so a wrong one costs time alone.
+/// The same as `first_of`, with a guess that is usually right. The guess is tested, so a wrong one
+/// only costs time.
 fn first_by(script: &Script, guess: usize, turn: u32) -> usize
     ensures { IsFirstListed (script_data script.now) turn result }
 {
@@ -46,7 +48,7 @@ fn first_by(script: &Script, guess: usize, turn: u32) -> usize
     }
 }
 
-/// The same of the next turn, by that of this one.
+/// The same for the next turn, from the index for this one.
 fn first_after(script: &Script, first: usize, turn: u32) -> usize
     requires { IsFirstListed (script_data script.now) turn first }
     ensures { IsFirstListed (script_data script.now) (turn + 1) result }
@@ -59,7 +61,7 @@ fn first_after(script: &Script, first: usize, turn: u32) -> usize
     at
 }
 
-/// The k-th listed event of a turn, by the first listed one from that turn on.
+/// The k-th listed event of a turn, from the index of the first listed event from that turn on.
 pub(crate) fn listed_at(script: &Script, first: usize, turn: u32, k: u32) -> Option<Event>
     requires { IsFirstListed (script_data script.now) turn first }
     ensures { result ≡ slice_get (listed_of turn (script_data script.now).events) k }
@@ -84,7 +86,7 @@ fn has_tick(script: &Script, turn: u32) -> bool
     }
 }
 
-/// The k-th event of a turn, by the first listed one from that turn on.
+/// The k-th event of a turn, from the index of the first listed event from that turn on.
 fn event_of(script: &Script, first: usize, turn: u32, k: u32) -> Option<Event>
     requires { IsFirstListed (script_data script.now) turn first }
     ensures { result ≡ slice_get (events_of (script_data script.now) turn) k }
@@ -136,7 +138,7 @@ fn next_tick(script: &Script, from: u32) -> Option<u32>
     }
 }
 
-/// The turn of the next listed event from turn `from` on, which is there.
+/// The turn of the listed event at an index, if there is one; it is turn `from` or later.
 fn next_listed(script: &Script, at: usize, from: u32) -> Option<u32>
     requires { IsFirstListed (script_data script.now) from at }
     ensures { IsNextBy (λ turn. listed_of turn (script_data script.now).events) from result }
@@ -149,7 +151,7 @@ fn next_listed(script: &Script, at: usize, from: u32) -> Option<u32>
     }
 }
 
-/// The turn that comes first, where there is one.
+/// The earlier of two turns, either of which may be missing.
 fn lesser(one: Option<u32>, other: Option<u32>) -> Option<u32>
     ensures { (happens too : ℕ → List Event) (from : ℕ) → IsNextBy happens from one →
         IsNextBy too from other → IsNextBy (λ turn. happens turn ++ too turn) from result }
@@ -161,8 +163,8 @@ fn lesser(one: Option<u32>, other: Option<u32>) -> Option<u32>
     }
 }
 
-/// The next turn, from turn `from` on, in which anything happens, by the first listed event from
-/// there on.
+/// The next turn, from turn `from` on, in which anything happens, from the index of the first
+/// listed event from there on.
 fn next_of(script: &Script, first: usize, from: u32) -> Option<u32>
     requires { IsFirstListed (script_data script.now) from first }
     ensures { IsNext (script_data script.now) from result }
@@ -180,21 +182,21 @@ fn lists_from(events: &[(u32, Event)], from: u32) -> bool
 }
 
 impl Script {
-    /// What is known of each script, and of each turn.
+    /// The facts that are true of each script, and of each turn.
     pub fn facts(&self)
         ensures script { Facts (script_data self.now) }
         ensures turn { (turn : ℕ) → IsTurn (events_of (script_data self.now) turn) }
     {}
 
-    /// Where the first listed event of this turn or a later one stands, or how many there are. A
-    /// guess that is right saves the search.
+    /// The index of the first listed event of this turn or a later one, or the number of listed
+    /// events if there is none. A guess that is right saves the search.
     pub fn first_listed(&self, guess: usize, turn: u32) -> usize
         ensures { IsFirstListed (script_data self.now) turn result }
     {
         first_by(self, guess, turn)
     }
 
-    /// The same of the next turn, by that of this one.
+    /// The same for the next turn, from the index for this one.
     pub fn first_listed_after(&self, first: usize, turn: u32) -> usize
         requires { IsFirstListed (script_data self.now) turn first }
         ensures { IsFirstListed (script_data self.now) (turn + 1) result }
@@ -202,8 +204,8 @@ impl Script {
         first_after(self, first, turn)
     }
 
-    /// The k-th event of a turn, from 0: the tick where there is one, then the listed events in
-    /// order; `None` past the last.
+    /// The k-th event of a turn, from 0: the tick if there is one, then the listed events in order;
+    /// `None` past the last one.
     pub fn event_at(&self, turn: u32, k: u32) -> Option<Event>
         ensures event { result ≡ slice_get (events_of (script_data self.now) turn) k }
         ensures few { OnSome result (k < 9) }
@@ -213,7 +215,7 @@ impl Script {
         self.event_from(first_of(self, turn), turn, k)
     }
 
-    /// The same, by the first listed event from that turn on: it is not searched for again.
+    /// The same, from the index of the first listed event from that turn on, which saves a search.
     pub fn event_from(&self, first: usize, turn: u32, k: u32) -> Option<Event>
         requires { IsFirstListed (script_data self.now) turn first }
         ensures event { result ≡ slice_get (events_of (script_data self.now) turn) k }
@@ -225,14 +227,14 @@ impl Script {
     }
 
     /// The next turn, from turn `from` on and below 1,000,000,000, in which anything happens;
-    /// `None` where there is none.
+    /// `None` if there is none.
     pub fn next(&self, from: u32) -> Option<u32>
         ensures { IsNext (script_data self.now) from result }
     {
         next_of(self, first_of(self, from), from)
     }
 
-    /// The same, by the first listed event from turn `from` on.
+    /// The same, from the index of the first listed event from turn `from` on.
     pub fn next_from(&self, first: usize, from: u32) -> Option<u32>
         requires { IsFirstListed (script_data self.now) from first }
         ensures { IsNext (script_data self.now) from result }
@@ -240,11 +242,11 @@ impl Script {
         next_of(self, first, from)
     }
 
-    /// The same script once more.
+    /// A copy of the script.
     ///
     /// # Errors
     ///
-    /// Only want of memory.
+    /// Only if memory runs out.
     pub fn copy(&self, alloc: Global) -> Result<Script, AllocError>
         ensures { IfOk result (λ copy. script_data copy ≡ script_data self.now) }
     {

@@ -23,7 +23,7 @@ fn is_allowed(c: u8) -> bool
     c == b'\t' || (b' ' <= c && c <= b'~')
 }
 
-/// Whether a line has no byte that none may have: all are a tab or 32 to 126.
+/// Whether each byte of a line is allowed: a tab, or 32 to 126.
 pub fn are_allowed(line: &[u8]) -> bool
     ensures { result ≡ list_all is_allowed line.now }
 {
@@ -36,7 +36,7 @@ pub(crate) fn is_word(word: &[u8], name: &[u8]) -> bool
     word == name
 }
 
-/// Without the blanks at the front.
+/// The text without the blanks at its front.
 fn without_blanks(text: &[u8]) -> &[u8]
     ensures same { words result.now ≡ words text.now }
     ensures start { 0 < length result.now → is_blank (slice_index result.now 0) ≡ false }
@@ -49,7 +49,7 @@ fn without_blanks(text: &[u8]) -> &[u8]
     &text[text.len()..]
 }
 
-/// Where the first blank stands, or the length.
+/// The index of the first blank, or the length if there is none.
 fn word_end(text: &[u8]) -> usize
     ensures within { result ≤ length text.now }
     ensures before { (k : ℕ) → k < result → is_blank (slice_index text.now k) ≡ false }
@@ -63,7 +63,7 @@ fn word_end(text: &[u8]) -> usize
     text.len()
 }
 
-/// The first word of a text, and what stands behind it; the word is empty where there is none.
+/// The first word of a text, and the bytes after it. The word is empty if there is none.
 pub fn first_word(text: &[u8]) -> (&[u8], &[u8])
     ensures word { words text.now ≡ word_then result.0.now (words result.1.now) }
     ensures none { result.0.now ≡ [] → words result.1.now ≡ [] }

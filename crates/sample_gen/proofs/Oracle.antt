@@ -1,5 +1,5 @@
--- The sample of three seeds, beside what another reading of the same rules gives: each program by a
--- number that its bytes give, each table by its fields, all events by a number.
+-- The samples of three seeds, compared with those of another implementation of the same rules: each program
+-- by a checksum of its bytes, each table by its fields, and all events by a checksum.
 use Rattle.std.proofs.Common.{◌≡◌, ℕ, zero, suc, ◌+◌, ◌*◌, ◌/◌, ◌%◌, ◌^◌, List, [], ◌∷◌, map, refl, ap, ◌∙◌, sym, arith, true, codes, Some}
 use Rattle.std.specs.Fmt.{digits}
 use Rattle.std.specs.List.{range_with_len}

@@ -10,6 +10,6 @@ unfoldable pub number : ℕ → ℕ → ℕ
 number seed zero = seed
 number seed (suc k) = next (number seed k)
 
--- what the k-th number gives, below n
+-- the draw below n that the k-th number gives
 unfoldable pub draw : ℕ → ℕ → ℕ → ℕ
 draw seed k n = number seed k / 65536 % n

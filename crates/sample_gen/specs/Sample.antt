@@ -62,7 +62,7 @@ task_with i priority = record {
   reads = [];
 }
 
--- ti, where clients have these priorities
+-- ti, if clients have these priorities
 abbrev pub task_by : (ℕ → ℕ) → ℕ → TaskData
 task_by priority i = task_with i (if i == 0 then 0 else if nat_lt i 8 then 1 else priority i)
 
@@ -101,7 +101,7 @@ sample_sources seed = map (source_of seed) (range_with_len 0 32)
 abbrev pub event : ℕ → ℕ → Listed
 event seed k = (16 * k + draw seed (126 + 2 * k) 16, Irq (draw seed (127 + 2 * k) 8))
 
--- the events from 1 on, so many
+-- this many events, from event 1 on
 unfoldable pub events_to : ℕ → ℕ → List Listed
 events_to seed n = map (event seed) (range_with_len 1 n)
 

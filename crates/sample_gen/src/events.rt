@@ -8,7 +8,7 @@ use crate::numbers::Numbers;
 use run_script::Event;
 use std::alloc::{AllocError, Global};
 
-/// The events and their turns, whose draws come next.
+/// The events and their turns. Takes their draws from `numbers`.
 pub(crate) fn events(alloc: Global, numbers: &mut Numbers) -> Result<Vec<(u32, Event)>, AllocError>
     ensures { (seed : ℕ) → numbers.old.last ≡ number seed 127
         → IfOk result (λ v. v.items ≡ events_to seed 4096) }

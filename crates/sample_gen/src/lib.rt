@@ -1,5 +1,6 @@
-//! The large sample that a seed gives: an application of 32 tasks, the sources of its tasks and a
-//! script. specs/Sample.antt is the generator; what it gives is accepted, whatever the seed.
+//! The large sample of a seed: an application of 32 tasks, the sources of its tasks and a script.
+//! specs/Sample.antt defines the generator. The application and the script of every seed are
+//! accepted.
 #![tactic(auto)]
 
 ghost use Rattle.std.specs.Prelude.{◌≤◌, ℕ};

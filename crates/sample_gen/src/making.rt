@@ -1,4 +1,4 @@
-//! The sample whole.
+//! Makes the whole sample.
 
 ghost use Rattle.std.specs.Prelude.{◌≡◌, IfOk, map, string_bytes};
 ghost use Rattle.app_toml.specs.Held.{app_of};
@@ -17,7 +17,7 @@ use std::alloc::{AllocError, Global};
 ///
 /// # Errors
 ///
-/// Only want of memory.
+/// Only if memory runs out.
 pub fn sample(alloc: Global, seed: u32) -> Result<(App, Vec<String>, Script), AllocError>
     ensures app { IfOk result (λ r. app_of r.0 ≡ sample_app seed) }
     ensures sources { IfOk result (λ r. map string_bytes r.1.items ≡ sample_sources seed) }

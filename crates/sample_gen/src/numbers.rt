@@ -10,7 +10,7 @@ pub(crate) struct Numbers {
 }
 
 impl Numbers {
-    /// The next number's draw, below n.
+    /// Draws the next number, below n.
     pub(crate) fn draw(&mut self, n: u32) -> u32
         requires { 0 < n }
         ensures next { self.new.last ≡ next self.old.last }

@@ -11,7 +11,7 @@ use crate::programs::{client_source, server_source, supervisor_source};
 use app_toml::TaskSpec;
 use std::alloc::{AllocError, Global};
 
-/// The one notification of task ti: the supervisor's is told of faults.
+/// The only notification of task ti. That of the supervisor is posted at faults.
 fn note_name(i: u32) -> &'static str
     ensures { result.now ≡ note_name i }
 {
@@ -41,8 +41,8 @@ fn task(alloc: Global, i: u32, priority: u8) -> Result<TaskSpec, AllocError>
     })
 }
 
-/// What is drawn for a client: its priority, the server that it calls, with which operation and how
-/// many bytes, and after how many ticks it calls again.
+/// The draws of a client: its priority, the server that it calls, the operation, the number of
+/// bytes, and the number of ticks after which it calls again.
 #[derive(Clone, Copy)]
 struct Client {
     priority: u8,
@@ -74,7 +74,7 @@ fn drawn_client(numbers: &mut Numbers) -> Client
     }
 }
 
-/// Task ti and its program, whose draws come next.
+/// Task ti and its program. Takes their draws from `numbers`.
 fn task_and_source(
     alloc: Global,
     numbers: &mut Numbers,
@@ -106,7 +106,7 @@ fn task_and_source(
     Ok((task, source))
 }
 
-/// The tasks and their programs, by the first numbers.
+/// The tasks and their programs. Takes the first draws from `numbers`.
 pub(crate) fn tasks_and_sources(
     alloc: Global,
     numbers: &mut Numbers,

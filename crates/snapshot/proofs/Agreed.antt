@@ -1,4 +1,4 @@
--- What a wait that agrees with the others says of a call, and of a listen.
+-- What is known about a call or a listen that agrees with the other records.
 use Rattle.std.proofs.Common.{◌≡◌, ◌≢◌, ◌∙◌, ◌+◌, ◌*◌, ◌/◌, ◌%◌, ◌<◌, ◌≤◌, inl, inr, ℕ, zero, suc, Bool, true, false, not, ◌&&◌, ◌||◌, cond, eqb, ltb, leb, List, [], map, Some, None, arith, ap, sym, refl}
 use Rattle.std.proofs.lemmas.Option.{cond_some}
 use Rattle.std.specs.Prelude.{bit_and}

@@ -94,7 +94,8 @@ same_sites g devices bytes =
 
 -- ## a board that has all parts of bytes
 
--- bytes that are accepted beside one state that the board stands for are so beside each
+-- bytes that are accepted with the devices of one state that the board stands for are accepted with those of
+-- each such state
 pub accepted_by : {X : Type 0} {H : X → Type 0} (shown : Shows X H) (x y : Scenario) (b : Board X H) (u v : State) (bytes : List ℕ) → Holds shown x b u → Holds shown y b v → state_fault (expected_of y.setup v.devices) bytes ≡ None → IsAccepted (expected_of x.setup u.devices) bytes
 accepted_by shown x y b u v bytes h k none =
     let setup : y.setup ≡ x.setup = sym (rest shown y b v k).holds.setup ∙ (rest shown x b u h).holds.setup in

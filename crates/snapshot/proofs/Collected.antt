@@ -1,4 +1,5 @@
--- What is collected of the indices in their order, at most one thing of each, by which its index is known.
+-- A list that is collected over the indices in order, with at most one item for each index. An item tells its
+-- index.
 use Rattle.std.proofs.Common.{◌≡◌, ◌≢◌, ◌∙◌, ◌+◌, ◌<◌, ◌≤◌, inl, inr, ℕ, zero, suc, Bool, true, false, cond, eqb, List, [], ◌∷◌, map, Option, Some, None, arith, ap, ap₂, refl, sym}
 use Rattle.std.specs.Prelude.{Contains, find, filter_map, count_by}
 use Rattle.std.specs.List.{range_with_len, cons_option}

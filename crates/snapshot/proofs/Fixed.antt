@@ -1,4 +1,4 @@
--- A run keeps how many interrupt lines there are, and the kinds and places of its devices.
+-- A run changes neither the number of interrupt lines nor the kinds and bases of the devices.
 use Rattle.std.proofs.Common.{◌≡◌, ◌∙◌, ℕ, zero, suc, ◌%◌, inl, inr, Bool, true, false, cond, eqb, leb, bit_and, List, [], ◌∷◌, length, set, length-set, Option, Some, None, refl, ap}
 use Rattle.std.specs.Prelude.{fold, nat_lt}
 use Rattle.std.specs.List.{range_with_len}

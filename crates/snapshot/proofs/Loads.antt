@@ -1,4 +1,4 @@
--- A state with all parts of bytes is kept as each sane one that the bytes spell.
+-- A state that has all parts of some bytes is kept in the same way as each sane state that the bytes spell.
 use Rattle.std.proofs.Common.{◌≡◌, ◌≢◌, ◌∙◌, ◌+◌, ◌-◌, ◌<◌, ◌≤◌, inl, inr, ℕ, zero, suc, Bool, true, false, List, [], length, drop, get_or, arith, ap, sym, refl}
 use Rattle.std.specs.Prelude.{replicate}
 use Rattle.std.proofs.Math.ListN.{get_or-map}

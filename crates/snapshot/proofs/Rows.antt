@@ -1,4 +1,4 @@
--- States of runs by computing, and the bytes as which another program saves them.
+-- The bytes of some states of runs, by computing, compared with the bytes that another program saves.
 use Rattle.std.proofs.Common.{◌≡◌, ◌+◌, ◌*◌, ℕ, true, false, List, [], ◌∷◌, ◌++◌, length, take, None, refl}
 use Rattle.std.specs.Prelude.{replicate}
 use Rattle.region_check.specs.Rights.{first_bad}

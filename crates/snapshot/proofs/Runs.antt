@@ -1,4 +1,4 @@
--- What is saved of a run has no cause.
+-- No cause is found in a saved state of a run.
 use Rattle.std.proofs.Common.{◌≡◌, ◌∙◌, ℕ, ◌≤◌, List, [], ◌∷◌, length, map, None, refl, sym, ap, subst, arith}
 use Rattle.std.proofs.lemmas.List.{length-replicate}
 use Rattle.kernel_abi.specs.Devices.{DeviceData}

@@ -1,4 +1,4 @@
--- What is saved of a sane state is accepted.
+-- The spelling of a sane state is accepted.
 use Rattle.std.proofs.Common.{◌≡◌, ◌≢◌, ◌∙◌, ◌+◌, ◌-◌, ◌*◌, ◌/◌, ◌%◌, ◌<◌, ◌≤◌, ℕ, zero, suc, Bool, true, false, not, ◌&&◌, ◌||◌, cond, eqb, ltb, leb, List, [], ◌∷◌, ◌++◌, length, drop, map, get_or, Option, Some, None, IfSome, is_none, arith, ap, subst, sym, refl, length-append}
 use Rattle.std.proofs.lemmas.List.Elements.{Contains-get_or}
 use Rattle.std.specs.Prelude.{Contains, replicate, bit_and}
@@ -119,7 +119,7 @@ timer_fits : (clock : ℕ) (o : Option Timer) → IfSome o (λ x. clock < x.dead
 timer_fits clock None h = refl
 timer_fits clock (Some x) h = lt-ltb _ _ h
 
--- an index of ten bits in what a listen is closed to
+-- if the listen is for one task, the index of that task has ten bits
 abbrev pub IsFew : From → Type 0
 IsFew Any = Unit {0}
 IsFew (One b) = b.index < 1024

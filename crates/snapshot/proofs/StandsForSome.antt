@@ -1,4 +1,4 @@
--- What a board that stands has of its state, and what bytes must be to spell it.
+-- What a board shares with the state that it stands for, and which bytes spell that state.
 use Rattle.std.proofs.Common.{◌≡◌, ◌∙◌, ◌%◌, ◌≤◌, ℕ, Bool, true, false, List, length, refl, sym, ap, subst}
 use Rattle.std.specs.Prelude.{Contains}
 use Rattle.std.proofs.Math.Nat.{mod-mod}

@@ -1,4 +1,5 @@
--- A task as a board is told it by its record: it may be told so, and of a saved state it is what is kept of the task.
+-- The view of a task that is made from its record: a board may be set to it, and for a saved state it is what
+-- the board kept of the task.
 use Rattle.std.proofs.Common.{◌≡◌, ◌∙◌, ◌+◌, ◌*◌, ◌/◌, ◌%◌, ◌<◌, ◌≤◌, ℕ, Bool, true, false, ◌||◌, cond, eqb, leb, length, Option, Some, None, arith, ap, sym, refl}
 use Rattle.std.specs.Option.{option_map}
 use Rattle.std.proofs.lemmas.Bool.{and_parts, eqb-true, leb-true, lt-leb, ne_eqb}

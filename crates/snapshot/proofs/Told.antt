@@ -1,4 +1,5 @@
--- The record of a task that is right for itself is told again of the task, the call and the listen that it gives.
+-- A record that is valid by itself gives a task, a call and a listen; saving these gives the same record
+-- again.
 use Rattle.std.proofs.Common.{◌≡◌, ◌≢◌, ◌∙◌, ◌+◌, ◌*◌, ◌/◌, ◌%◌, ◌<◌, ◌≤◌, ℕ, zero, suc, true, ◌&&◌, eqb, leb, ltb, cond, List, [], ◌∷◌, length, replicate, IfSome, arith, ap, refl, sym}
 use Rattle.std.proofs.lemmas.Bool.{and_parts, eqb-true, ltb-true, leb-true}
 use Rattle.kernel_abi.specs.Ids.{id_of}

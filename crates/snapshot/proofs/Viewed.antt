@@ -1,4 +1,4 @@
--- A board's view of a task is saved as the task is whose births are their generations.
+-- A board's view of a task is saved as the same bytes as the task, with its births reduced to generations.
 use Rattle.std.proofs.Common.{◌≡◌, ◌∙◌, ◌+◌, ◌*◌, ◌%◌, ℕ, List, ◌∷◌, [], Option, Some, None, refl, sym, ap, get_or}
 use Rattle.std.specs.Prelude.{option_map, slice_get, unwrap_or}
 use Rattle.std.proofs.lemmas.Option.{unwrap_or-slice_get}

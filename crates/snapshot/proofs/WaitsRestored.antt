@@ -1,4 +1,4 @@
--- The calls and listens that agreeing records give are as those of a sane state are.
+-- The calls and listens from records that agree meet what a sane state requires.
 use Rattle.std.proofs.Common.{◌≡◌, ◌≢◌, ◌∙◌, ◌/◌, ◌%◌, ◌<◌, ◌≤◌, inl, inr, ℕ, true, false, List, length, Some, arith, ap, sym, subst, refl}
 use Rattle.std.specs.Prelude.{Contains, filter_map, bit_and}
 use Rattle.std.specs.List.{range_with_len}
@@ -187,7 +187,7 @@ module _ (g : Setup) (s : State) (tasks : ℕ → TaskRecord) (good : (i : ℕ) 
       let bits : (task_at s o.at).posted ≡ (tasks o.at).posted = ap (λ (t : Task). t.posted) (told o.at o.inside) in
       subst (λ (x : Listen). bit_and (task_at s x.task).posted x.mask ≡ 0) o.is (ap (λ b. bit_and b (word (tasks o.at) 0)) bits ∙ o.agrees.unmet)
 
-  -- a call that is offered to who would hear it is none
+  -- no call is offered to a task whose listen admits it
   unheard : (c : Call) (l : Listen) (o : IsOfCall c) (p : IsOfListen l) → c.phase ≡ Offered → c.server.index ≡ l.task → admits l.from c.client ≡ true → ⊥
   unheard c l o p phase to admitted =
       let t = tasks o.at in

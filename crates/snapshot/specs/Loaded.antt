@@ -1,4 +1,4 @@
--- What a board is told of bytes part by part, and why bytes are refused.
+-- What a board is set to from the bytes of a saved state, part by part, and why bytes are refused.
 use Rattle.std.specs.Prelude.{ℕ, zero, suc, ◌+◌, ◌≡◌, ⊤, List, length, map, drop, slice_index, slice_set, Option, Some}
 use Rattle.kernel_abi.specs.declared.Kind.{Kind}
 use Rattle.kernel_abi.specs.Devices.{DeviceData, device_at, with_device}
@@ -27,17 +27,17 @@ pub record IsSpelledBy (x : Scenario) (bytes : List ℕ) (s : State) : Type 0 wh
   pub counted : IsCounted s
   pub sites : sites s.devices ≡ sites x.devices
 
--- why bytes are refused as a state of an image beside these devices; or memory is short
+-- the fault is this refusal of the bytes, or memory ran out
 abbrev pub IsStateFault : Option (ℕ × ℕ) → StateFault → Type 0
 IsStateFault refusal state_fault.Memory = ⊤
 IsStateFault refusal (state_fault.Refused cause place) = refusal ≡ Some (cause, place)
 
--- ## a state with parts of the bytes
+-- ## a state with some parts taken from the bytes
 
 abbrev pub with_numbers : Header → State → State
 with_numbers h s = record s { turn = h.turn; now = h.clock; current = h.current; next_call = h.next_call }
 
--- with so many of the lines, of the tasks, of the devices
+-- with the first n lines, tasks or devices taken from the bytes
 unfoldable pub with_lines : List ℕ → ℕ → List Line → List Line
 with_lines bytes zero lines = lines
 with_lines bytes (suc n) lines = slice_set (with_lines bytes n lines) n (line_from (slice_index bytes (36 + n)))
@@ -46,14 +46,14 @@ unfoldable pub with_tasks : List ℕ → ℕ → State → State
 with_tasks bytes zero s = s
 with_tasks bytes (suc n) s = with_slot n (slot_told (view_of (task_in bytes n) n)) (with_tasks bytes n s)
 
--- behind so many tasks
+-- the records of devices stand after those of this many tasks
 unfoldable pub with_devices : List ℕ → ℕ → ℕ → List DeviceData → List DeviceData
 with_devices bytes tasks zero devices = devices
 with_devices bytes tasks (suc k) devices =
     let set = with_devices bytes tasks k devices in
     with_device set k (device_from (device_at set k) (device_in bytes tasks k))
 
--- with all of them, in the order in which a board is told them
+-- with all parts taken from the bytes, in the order in which a board is set to them
 unfoldable pub loaded : List ℕ → State → State
 loaded bytes u =
     let tasks = length u.tasks in

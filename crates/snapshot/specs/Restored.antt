@@ -20,7 +20,7 @@ use Rattle.snapshot.specs.Saved.{expected_of}
 use Rattle.snapshot.specs.Waits.{is_call, is_listen, server_id, state_fault}
 use Rattle.snapshot.specs.Accepted.{waiting}
 
--- no cause is found in the bytes, as in those of a state of this image beside these devices
+-- the bytes are not refused as a state of this image with these devices
 abbrev pub IsNotRefused : Setup → List device.DeviceData → List ℕ → Type 0
 IsNotRefused g devices bytes = state_fault (expected_of g devices) bytes ≡ None
 
@@ -48,7 +48,7 @@ task_from t =
 
 -- ## what it waits for
 
--- the birth with an id, whose generation is its number
+-- the birth that an id names, numbered by the generation in the id
 abbrev pub birth_from : ℕ → Birth
 birth_from id = record { index = id % 1024; birth = id / 1024 }
 
@@ -78,7 +78,7 @@ senders_from wait id = if wait == 3 then Any else (if wait == 4 then KernelOnly 
 abbrev pub listen_from : ℕ → TaskRecord → Listen
 listen_from i t = record { task = i; from = senders_from t.wait (word t 1); mask = word t 0; buffer = slice_from t 2 }
 
--- the call and the listen of task i, where its record has one
+-- the call and the listen of task i, if its record has one
 abbrev pub call_in : ℕ → TaskRecord → Option Call
 call_in i t = if is_call t then Some (call_from i t) else None
 
@@ -90,13 +90,13 @@ listen_in i t = if is_listen t then Some (listen_from i t) else None
 abbrev pub line_from : ℕ → Line
 line_from byte = record { enabled = byte == 1; pending = byte == 2 }
 
--- of the kind and at the place of one that is there
+-- a device of the same kind and at the same base as d, with the count and the queue of a record
 abbrev pub device_from : device.DeviceData → DeviceRecord → device.DeviceData
 device_from d r = record d { count = r.count; queue = waiting r }
 
 -- ## the state
 
--- of an image, beside these devices; calls and listens stand in the order of the tasks
+-- the state of an image with these devices; its calls and listens are in the order of the tasks
 unfoldable pub state_in : Setup → List device.DeviceData → List ℕ → State
 state_in g devices bytes =
     let tasks = range_with_len 0 (length g.tasks) in

@@ -27,7 +27,7 @@ health_number Well = 0
 health_number Stopped = 1
 health_number (Faulted f) = 2
 
--- its fault, of zeros where it has none
+-- its fault, or all zeros if it has none
 abbrev pub fault_of : Health → Fault
 fault_of Well = record { number = 0; x = 0; y = 0 }
 fault_of Stopped = record { number = 0; x = 0; y = 0 }
@@ -54,7 +54,8 @@ from_id Any = 0
 from_id KernelOnly = 0
 from_id (One b) = id_of b.index b.birth
 
--- what it waits for: nothing, an offered call, a taken one, or a message by whose it may be
+-- what it waits for: 0 nothing, 1 an offered call, 2 a taken call, 3 to 5 a message, by whose message it may
+-- be
 abbrev pub wait_number : Option Call → Option Listen → ℕ
 wait_number (Some c) listen = if is_offered c.phase then 1 else 2
 wait_number None (Some l) = from_number l.from
@@ -89,7 +90,7 @@ record_of s i = record_told (task_at s i) (call_of s i) (listen_of s i)
 
 -- ## a device
 
--- what waits, with zeros behind it
+-- the bytes that wait, padded with zeros
 abbrev pub device_told : DeviceData → DeviceRecord
 device_told d = record { count = d.count; queued = length d.queue; queue = d.queue ++ replicate (queue_limit - length d.queue) 0 }
 
@@ -119,7 +120,7 @@ parts_of s =
 abbrev pub spelling : State → List ℕ
 spelling s = bytes_of (parts_of s)
 
--- the bytes spell a state of an image, whose births are below 64
+-- the bytes spell this state of an image, in which every birth is below 64
 pub record SpellsState (g : Setup) (s : State) (bytes : List ℕ) : Type 0 where
   pub tasks : length s.tasks ≡ length g.tasks
   pub lines : length s.lines ≡ g.line_count
@@ -128,7 +129,7 @@ pub record SpellsState (g : Setup) (s : State) (bytes : List ℕ) : Type 0 where
   pub small : reduced s ≡ s
   pub is : bytes ≡ spelling s
 
--- ## what a saved state of an image must fit, beside these devices
+-- ## what a saved state of an image with these devices must fit
 
 abbrev pub expected_of : Setup → List DeviceData → Expected
 expected_of g devices =

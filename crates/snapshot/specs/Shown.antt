@@ -1,4 +1,4 @@
--- How what a board shows of a task and of a line is saved.
+-- How a board's view of a task or of a line is saved.
 use Rattle.std.specs.Prelude.{ℕ, ◌+◌, ◌*◌, List, [], ◌∷◌, Option, Some, None, if◌then◌else◌, Bool}
 use Rattle.board_core.specs.declared.views.TaskView.{TaskView}
 use Rattle.board_core.specs.Setting.{timer_told}
@@ -66,7 +66,7 @@ record_shown v =
       words = shown_words v.wait;
     }
 
--- ## a line: enabled, pending; one that is not there has neither
+-- ## a line: whether it is enabled and whether it is pending; a line that does not exist is saved as 0
 
 abbrev pub line_shown : Option (Bool × Bool) → ℕ
 line_shown None = 0

@@ -1,4 +1,4 @@
--- A task as a board is told it, by its record.
+-- The view of a task to which a board is set, made from the record of the task.
 use Rattle.std.specs.Prelude.{ℕ, Bool, ◌+◌, ◌*◌, ◌/◌, ◌==◌, Option, Some, None, if◌then◌else◌}
 use Rattle.task_table.specs.declared.slot.FromId.{FromId}
 use Rattle.task_table.specs.declared.slot.FromId.TheVariants as from_id
@@ -12,7 +12,7 @@ use Rattle.snapshot.specs.Causes.{word}
 use Rattle.snapshot.specs.Waits.{is_call, is_listen, server_id}
 use Rattle.snapshot.specs.Restored.{health_from, flags_from, slice_from, phase_from}
 
--- the deadline and the bits of a timer that is set
+-- the deadline and the bits of a timer, if it is set
 abbrev pub timer_view : ℕ → ℕ → ℕ → Option (ℕ × ℕ)
 timer_view flag deadline bits = if flag == 0 then None else Some (deadline, bits)
 
@@ -31,14 +31,14 @@ call_view r i =
       phase = phase_from r.wait;
     }
 
--- whose message it listens for, by the number of the wait and the id
+-- whose message the task listens for, by the number of the wait and the id
 abbrev pub from_view : ℕ → ℕ → FromId
 from_view number id = if number == 3 then from_id.Any else (if number == 4 then from_id.Kernel else from_id.One record { number = id })
 
 abbrev pub listen_view : TaskRecord → Listening
 listen_view r = record { from = from_view r.wait (word r 1); mask = word r 0; buffer = slice_from r 2 }
 
--- a call, else a listen, else nothing
+-- a call, or else a listen, or else nothing
 abbrev pub wait_by : Bool → Bool → OpenCall → Listening → Wait
 wait_by calls listens call listen = if calls then wait.Call call else (if listens then wait.Listen listen else wait.Nothing)
 

@@ -1,4 +1,4 @@
-//! A board goes on from a state that bytes spell.
+//! Sets a board to the state that bytes spell, so that its run goes on from there.
 ghost use Rattle.std.specs.Prelude.{◌≡◌, ◌<◌, ◌≤◌, ◌+◌, ◌*◌, ℕ, None, length, map, drop, vec_items, IfOk, IfErr};
 ghost use Rattle.kernel_abi.specs.Devices.{AreFresh, device_at, with_device};
 ghost use Rattle.image_format.specs.Images.{image_data};
@@ -29,7 +29,7 @@ use run_script::Script;
 use std::alloc::{AllocError, Global};
 use thiserror::Error;
 
-/// Why no board was made of bytes: the bytes are refused, or memory ran out.
+/// Why no board was made from bytes: the bytes are refused, or memory ran out.
 #[derive(Debug, Drop, Error)]
 pub enum StateFault {
     /// The first cause of docs/FORMATS.md, Saved state, and the place of a byte.
@@ -39,7 +39,7 @@ pub enum StateFault {
     Memory,
 }
 
-/// The turn, the time, who ran last and the next call.
+/// Sets the turn, the time, the task that ran last and the number of the next call.
 fn set_numbers(board: &mut Board, h: &Header)
     requires { h.now.current < count_of board.old }
     ensures holds { (x : Scenario) (s : State) → Holds (boxed shown) x board.old s →
@@ -52,7 +52,7 @@ fn set_numbers(board: &mut Board, h: &Header)
     board.set_next_call(h.next_call);
 }
 
-/// The interrupt lines, each by its byte.
+/// Sets each interrupt line from its byte.
 fn set_lines(board: &mut Board, bytes: &[u8])
     requires { 100 ≤ length bytes.now }
     ensures holds { (x : Scenario) (s : State) → Holds (boxed shown) x board.old s →
@@ -65,7 +65,7 @@ fn set_lines(board: &mut Board, bytes: &[u8])
     }
 }
 
-/// The tasks, each by its record.
+/// Sets each task from its record.
 fn set_tasks(board: &mut Board, tasks: usize, bytes: &[u8])
     requires few { tasks ≤ 1024 }
     requires count { tasks ≤ count_of board.old }
@@ -94,7 +94,7 @@ fn set_device(board: &mut Board, k: usize, d: &DeviceRecord)
     board.set_device(k, d.count, &d.queue[..d.queued as usize]);
 }
 
-/// The devices, each by its record behind those of so many tasks.
+/// Sets each device from its record. The records of devices stand after those of `tasks` tasks.
 fn set_devices(board: &mut Board, tasks: usize, devices: usize, bytes: &[u8])
     requires long { 100 + 132 * tasks + 72 * devices ≤ length bytes.now }
     requires fit { (x : Scenario) × (s : State) × Holds (boxed shown) x board.old s
@@ -111,7 +111,7 @@ fn set_devices(board: &mut Board, tasks: usize, devices: usize, bytes: &[u8])
     }
 }
 
-/// The bytes from a place on.
+/// The bytes from `at` on.
 fn rest(bytes: &[u8], at: usize) -> &[u8]
     requires { at ≤ length bytes.now }
     ensures { result.now ≡ drop at bytes.now }
@@ -119,7 +119,7 @@ fn rest(bytes: &[u8], at: usize) -> &[u8]
     &bytes[at..]
 }
 
-/// All parts, of which the bytes have those of a saved state that fits the board.
+/// Sets all parts of the board. The bytes have the parts of a saved state that fits the board.
 fn set_parts(board: &mut Board, tasks: usize, devices: usize, bytes: &[u8])
     requires { (x : Scenario) × (u : State) × Stands (boxed shown) x board.old u
         × (tasks ≡ length u.tasks) × (devices ≡ length u.devices)
@@ -134,8 +134,8 @@ fn set_parts(board: &mut Board, tasks: usize, devices: usize, bytes: &[u8])
     set_devices(board, tasks, devices, bytes);
 }
 
-/// The board goes on from the state that the bytes spell, and keeps its image, its script and the
-/// kinds and places of its devices. It takes no memory.
+/// Sets the board to the state that the bytes spell. It keeps its image, its script, and the kinds
+/// and bases of its devices. It takes no memory.
 pub fn load_into(board: &mut Board, bytes: &[u8])
     requires { (x : Scenario) × (u : State) × Stands (boxed shown) x board.old u
         × (state_fault (expected_of x.setup u.devices) bytes.now ≡ None) }
@@ -192,7 +192,7 @@ fn kinds(alloc: Global, devices: &Vec<Box<dyn Device>>) -> Result<Vec<Kind>, All
     Ok(kinds)
 }
 
-/// The first cause by which the bytes are refused beside the devices, if any.
+/// The first cause for which the bytes are refused with this image and these devices, if any.
 fn refusal(
     alloc: Global,
     image: &Image,
@@ -211,13 +211,12 @@ fn refusal(
     Ok(check(&regions, image.ram(), &owned, &kinds, bytes))
 }
 
-/// A board of an image with a script and with devices, as they are handed in, in the state that the
-/// bytes spell. Where none is made, the devices are dropped. Where one is made, its run starts
-/// sane.
+/// A board of an image with a script and with the devices that are handed in, set to the state that
+/// the bytes spell. Its run starts sane. If no board is made, the devices are dropped.
 ///
 /// # Errors
 ///
-/// The first cause by which the bytes are refused, where there is one, or want of memory.
+/// `Refused` with the first cause for which the bytes are refused, or `Memory` if memory runs out.
 pub fn load(
     alloc: Global,
     image: &Image,

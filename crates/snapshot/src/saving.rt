@@ -1,4 +1,4 @@
-//! The state of a board in bytes.
+//! Writes the state of a board as bytes.
 ghost use Rattle.std.specs.Prelude.{◌≡◌, ◌≤◌, ◌<◌, ◌+◌, ◌*◌, ◌++◌, length, take, IfOk};
 ghost use Rattle.std.specs.List.{flat_map};
 ghost use Rattle.kernel_abi.specs.Devices.{device_at};
@@ -16,7 +16,7 @@ use crate::writing::{put_device, put_header, put_lines, put_task};
 use board_core::Board;
 use std::alloc::{AllocError, Global};
 
-/// How many bytes the state of a board is saved as (docs/FORMATS.md, Saved state).
+/// The length in bytes of the saved state of a board (docs/FORMATS.md, Saved state).
 pub fn saved_len(board: &Board) -> usize
     ensures { (x : Scenario) (s : State) → Stands (boxed shown) x board.now s →
         result ≡ length (spelling (reduced s)) }
@@ -52,7 +52,7 @@ fn lines_of(board: &Board) -> [u8; 64]
     lines
 }
 
-/// The record of task i.
+/// Writes the record of task i.
 fn save_task(board: &Board, i: usize, out: &mut [u8], at: usize) -> usize
     requires there { i < count_of board.now }
     requires room { at + 132 ≤ length out.old }
@@ -67,7 +67,7 @@ fn save_task(board: &Board, i: usize, out: &mut [u8], at: usize) -> usize
     }
 }
 
-/// The records of all tasks.
+/// Writes the records of all tasks.
 fn save_tasks(board: &Board, out: &mut [u8], at: usize) -> usize
     requires room { (x : Scenario) × (s : State) × Stands (boxed shown) x board.now s
         × (at + 132 * length s.tasks ≤ length out.old) }
@@ -84,7 +84,7 @@ fn save_tasks(board: &Board, out: &mut [u8], at: usize) -> usize
     end
 }
 
-/// The record of device k.
+/// Writes the record of device k.
 fn save_device(board: &Board, k: usize, out: &mut [u8], at: usize) -> usize
     requires there { (x : Scenario) × (s : State) × Stands (boxed shown) x board.now s
         × (k < length s.devices) }
@@ -101,7 +101,7 @@ fn save_device(board: &Board, k: usize, out: &mut [u8], at: usize) -> usize
     }
 }
 
-/// The records of all devices.
+/// Writes the records of all devices.
 fn save_devices(board: &Board, out: &mut [u8], at: usize) -> usize
     requires room { (x : Scenario) × (s : State) × Stands (boxed shown) x board.now s
         × (at + 72 * length s.devices ≤ length out.old) }
@@ -119,7 +119,7 @@ fn save_devices(board: &Board, out: &mut [u8], at: usize) -> usize
     end
 }
 
-/// The bytes of the RAM, which fill what is left.
+/// Writes the bytes of the RAM, which fill the rest of `out`.
 fn save_ram(board: &Board, out: &mut [u8], at: usize)
     requires room { (x : Scenario) × (s : State) × Stands (boxed shown) x board.now s
         × (at + length s.memory.ram ≡ length out.old) }
@@ -129,8 +129,8 @@ fn save_ram(board: &Board, out: &mut [u8], at: usize)
     board.read_ram(&mut out[at..]);
 }
 
-/// The state of a board, whose births count by their generation alone, as it is spelled
-/// (docs/FORMATS.md, Saved state). It takes no memory.
+/// Writes the spelling of a board's state over `out` (docs/FORMATS.md, Saved state). Each birth is
+/// saved as its generation. It takes no memory.
 pub fn save_into(board: &Board, out: &mut [u8])
     requires room { (x : Scenario) × (s : State) × Stands (boxed shown) x board.now s
         × (length out.old ≡ length (spelling (reduced s))) }
@@ -144,7 +144,7 @@ pub fn save_into(board: &Board, out: &mut [u8])
     save_ram(board, out, at);
 }
 
-/// The same over the bytes of a vector.
+/// Writes the same over the bytes of a vector.
 pub fn save_over(board: &Board, saved: &mut Vec<u8>)
     requires { (x : Scenario) × (s : State) × Stands (boxed shown) x board.now s
         × (length saved.old.items ≡ length (spelling (reduced s))) }
@@ -155,11 +155,11 @@ pub fn save_over(board: &Board, saved: &mut Vec<u8>)
     save_into(board, saved.as_mut_slice());
 }
 
-/// The same in a vector of its own.
+/// The same bytes in a new vector.
 ///
 /// # Errors
 ///
-/// Only want of memory.
+/// Only if memory runs out.
 pub fn save(alloc: Global, board: &Board) -> Result<Vec<u8>, AllocError>
     requires stood { StandsForSome (boxed shown) board.now }
     ensures { (x : Scenario) (s : State) → Stands (boxed shown) x board.now s →

@@ -1,4 +1,4 @@
-//! What a board shows, as the records of a saved state.
+//! Makes the records of a saved state from a board's views.
 ghost use Rattle.std.specs.Prelude.{◌≡◌, ◌≤◌};
 ghost use Rattle.board_core.specs.DeviceViews.{device_told as data_of_view};
 ghost use Rattle.snapshot.specs.Saved.{bit, health_number, fault_of, flags_number, timer_flag, timer_of, device_told};
@@ -20,7 +20,7 @@ fn health_number(health: Health) -> u8
     }
 }
 
-/// The fault, of zeros where there is none.
+/// The fault, or all zeros if there is none.
 fn fault_of(health: Health) -> Fault
     ensures { result ≡ fault_of health }
 {
@@ -119,7 +119,7 @@ fn wait_words(wait: &Wait) -> [u32; 8]
     }
 }
 
-/// Whether a timer is set, its deadline and its bits; zeros where none is.
+/// Whether a timer is set (1 or 0), its deadline and its bits; zeros if none is set.
 fn timer_of(timer: Option<(u64, u32)>) -> (u32, u64, u32)
     ensures flag { result.0 ≡ timer_flag (timer_shown timer) }
     ensures deadline { result.1 ≡ (timer_of (timer_shown timer)).deadline }
@@ -168,7 +168,7 @@ pub(crate) fn device_record_of(view: &DeviceView) -> DeviceRecord
     }
 }
 
-/// The byte of a line.
+/// The byte of an interrupt line.
 pub(crate) fn line_number(line: Option<(bool, bool)>) -> u8
     ensures { result ≡ line_shown line }
 {

@@ -1,4 +1,4 @@
-//! A task as a board is told it, by its record.
+//! Makes the view to which a board sets a task from the record of the task.
 ghost use Rattle.std.specs.Prelude.{◌≡◌, ◌<◌, ◌≤◌, ◌+◌};
 ghost use Rattle.snapshot.specs.Causes.{word};
 ghost use Rattle.snapshot.specs.Restored.{health_from, flags_from, slice_from, phase_from};
@@ -41,7 +41,7 @@ fn timer(flag: u32, deadline: u64, bits: u32) -> Option<(u64, u32)>
     }
 }
 
-/// The bytes that two words tell.
+/// The slice whose base and length are two words of the record.
 fn slice(r: &TaskRecord, k: usize) -> Slice
     requires { k < 7 }
     ensures { result ≡ slice_from r.now k }
@@ -122,7 +122,7 @@ fn wait(r: &TaskRecord, i: usize) -> Wait
     }
 }
 
-/// Task i, whose record is right for itself.
+/// The view of task i, whose record is valid by itself.
 pub(crate) fn view_of(r: &TaskRecord, i: usize) -> TaskView
     requires few { i < 1024 }
     requires generation { r.now.generation ≤ 63 }

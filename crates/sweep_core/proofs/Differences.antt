@@ -1,4 +1,4 @@
--- Outcomes that are compared with the first of them alone make the difference that any two of them make.
+-- Comparing all outcomes with the first one finds a difference exactly if some two outcomes differ.
 use Rattle.std.proofs.Common.{◌≡◌, ◌≢◌, ◌∙◌, ◌⊎◌, inl, inr, ℕ, zero, suc, ◌+◌, ◌-◌, ◌<◌, ◌≤◌, add-one, not, Bool, true, false, cond, List, Option, Some, None, refl, sym, ap, subst, arith}
 use Rattle.std.specs.Prelude.{◌&&◌, ◌||◌, bytes_eq, nat_lt}
 use Rattle.std.specs.List.{list_any, range_with_len}

@@ -1,4 +1,5 @@
--- A run that follows one that leads: what is told where it meets that one, and what is kept of it where it does not.
+-- A run that follows the leading one: what is told of it if they meet, and which states are kept of it if
+-- they do not.
 use Rattle.std.proofs.Common.{◌≡◌, ◌∙◌, ℕ, ◌+◌, ◌-◌, ◌≤◌, ◌<◌, Bool, true, List, [], ◌∷◌, ◌++◌, get_or, refl, sym, ap, subst, arith, inl, inr, ◌⊎◌}
 use Rattle.std.specs.List.{All, AllWithin}
 use Rattle.std.specs.Prelude.{nat_lt}

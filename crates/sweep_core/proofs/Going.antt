@@ -1,4 +1,4 @@
--- A run that goes on, from a turn that it has come to, with a script that is as good.
+-- A run that goes on from a turn with an equivalent script.
 use Rattle.std.proofs.Common.{◌≡◌, ◌∙◌, ℕ, ◌-◌, ◌≤◌, List, [], ◌++◌, length, Option, Some, None, refl, sym, ap, arith}
 use Rattle.std.proofs.lemmas.List.Sums.{fold-append}
 use Rattle.kernel_abi.specs.declared.Note.{Note}

@@ -1,4 +1,4 @@
--- The lines of a sweep, as they are pushed: one with each stretch that ends.
+-- The lines of a sweep as they are pushed: one line whenever a stretch ends.
 use Rattle.std.proofs.Common.{◌≡◌, ◌∙◌, ℕ, suc, ◌+◌, ◌-◌, ◌<◌, Bool, true, false, cond, List, [], ◌++◌, Option, refl, sym, ap, subst, arith, append_assoc}
 use Rattle.std.specs.Prelude.{Result, Ok, Err, bytes_eq}
 use Rattle.std.specs.Io.KnownBytes.{Appends}

@@ -1,4 +1,4 @@
--- An arrival time is looked at: its outcome, and the comparison with those before.
+-- The run of one arrival time: its outcome, and its comparison with those before.
 use Rattle.std.proofs.Common.{◌≡◌, ◌∙◌, ℕ, ◌+◌, ◌-◌, ◌≤◌, Bool, true, false, cond, not, codes, sym, ap, arith}
 use Rattle.std.specs.Prelude.{◌&&◌, ◌||◌, nat_lt}
 use Rattle.arrayvec.specs.ArrayString.{ArrayString}

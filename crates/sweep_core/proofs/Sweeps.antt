@@ -1,4 +1,4 @@
--- A board with what a sweep keeps of it, from one arrival time to the next.
+-- A sweeper while it goes on from one arrival time to the next.
 use Rattle.std.proofs.Common.{◌≡◌, ◌∙◌, ℕ, ◌+◌, ◌-◌, ◌≤◌, min, Bool, List, [], ◌∷◌, length, length-append, map, None, refl, sym, ap, subst, arith, Global}
 use Rattle.std.specs.Prelude.{Vec}
 use Rattle.std.proofs.lemmas.List.{length-map}

@@ -1,4 +1,4 @@
--- Outcomes that are compared one after the other, each with the first one.
+-- Comparing outcomes one after the other, each with the first one.
 use Rattle.std.specs.Prelude.{ℕ, zero, suc, ◌+◌, Bool, false, not, ◌||◌, List, Option, Some, None, bytes_eq, if◌then◌else◌}
 use Rattle.std.specs.Option.{option_map}
 use Rattle.arrayvec.specs.ArrayString.{ArrayString}
@@ -28,15 +28,16 @@ abbrev pub first_or : Option (List ℕ) → List ℕ → Option (List ℕ)
 first_or None words = Some words
 first_or (Some first) words = Some first
 
--- with an outcome more, of a run that is worse than that without an arrival or is not
+-- The comparison after one more outcome. `worse` says whether its run is worse than the run without an
+-- arrival.
 abbrev pub with_outcome : Comparison → Bool → List ℕ → Comparison
 with_outcome c worse words = record { first = first_or c.first words; found = (c.found || worse) || differs_from c.first words }
 
--- with an arrival time more, where it is made
+-- the comparison after one more arrival time, if a run of it is made
 abbrev pub with_time : Scenario → Asking → Comparison → ℕ → Comparison
 with_time x a c time = if is_made x a time then with_outcome c (is_worse (base_run x a) (arrival_run x a time)) (outcome_at x a time) else c
 
--- the first n arrival times
+-- the comparison of the first n arrival times
 unfoldable pub compared_times : Scenario → Asking → ℕ → Comparison
 compared_times x a zero = nothing_compared
 compared_times x a (suc n) = with_time x a (compared_times x a n) (a.from + n)

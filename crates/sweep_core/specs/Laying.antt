@@ -1,4 +1,5 @@
--- A script that is as good as one over which an arrival is laid: the same happens in each turn, and it lasts in the same turns.
+-- A script that is equivalent to one over which an arrival is laid: it has the same events in each turn, and
+-- it lasts in the same turns.
 use Rattle.std.specs.Prelude.{ℕ, ◌≡◌, List}
 use Rattle.run_script.specs.Scripts.{Listed, ScriptData, events_of, lasts}
 use Rattle.board_model.specs.Laid.{laid}

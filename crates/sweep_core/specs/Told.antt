@@ -1,4 +1,4 @@
--- What is told of a run, and what it is compared by.
+-- What a sweep tells of a run, and by what it compares runs.
 use Rattle.std.specs.Prelude.{◌≡◌, Bool, ◌&&◌, ◌||◌, not, nat_lt, ◌++◌}
 use Rattle.task_table.specs.model.State.{State}
 use Rattle.board_model.specs.declared.outcomes.End.{End}
@@ -8,17 +8,17 @@ use Rattle.sweep_core.specs.declared.told.Told.{Told}
 use Rattle.sweep_core.specs.Outcomes.{front_words, heard, letters, memory_word, nothing_heard}
 use Rattle.sweep_core.specs.Swept.{is_supervisors}
 
--- of a run that ended so in a state, and of which this was heard
+-- what is told of a run that ended in this state, with this end and this tally
 pub record IsToldAt (mem : Bool) (end : End) (tally : Tally) (last : State) (t : Told) : Type 0 where
   pub words : t.words.bytes ≡ front_words end tally ++ letters last ++ memory_word mem last.memory.ram
   pub faults : t.faults ≡ tally.faults
   pub by_supervisor : t.by_supervisor ≡ is_supervisors end
 
--- of a run that goes on where this was heard before
+-- what is told of a run that goes on, with the tally of what came before
 abbrev pub IsToldFrom : Bool → Tally → Run → Told → Type 0
 IsToldFrom mem front r t = IsToldAt mem r.end (heard front r.notes) r.last t
 
--- of a whole run
+-- what is told of a whole run
 abbrev pub IsTold : Bool → Run → Told → Type 0
 IsTold mem r t = IsToldFrom mem nothing_heard r t
 

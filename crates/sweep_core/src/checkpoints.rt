@@ -1,10 +1,10 @@
-//! States that a run came to, each with what was heard up to there.
+//! Checkpoints of a run: its states, each with the tally up to there.
 ghost use Rattle.std.specs.Prelude.{◌≡◌, ◌≤◌, length, vec_len, IfOk};
 
 use crate::tally::Tally;
 use std::alloc::{AllocError, Global};
 
-/// A state that a run came to before a turn, in bytes, and what was heard up to there.
+/// The state of a run before a turn, as bytes, and the tally of the run up to there.
 #[derive(Drop)]
 pub(crate) struct Checkpoint {
     pub(crate) turn: u32,
@@ -12,7 +12,7 @@ pub(crate) struct Checkpoint {
     pub(crate) state: Vec<u8>,
 }
 
-/// States of one run, in room for more.
+/// The checkpoints of one run, with room for more. The first `count` ones are in use.
 #[derive(Drop)]
 pub(crate) struct Checkpoints {
     pub(crate) states: Vec<Checkpoint>,
@@ -21,11 +21,11 @@ pub(crate) struct Checkpoints {
 }
 
 impl Checkpoints {
-    /// Room for so many states, each of so many bytes.
+    /// Takes room for checkpoints with states of `len` bytes each.
     ///
     /// # Errors
     ///
-    /// Only want of memory.
+    /// Only if memory runs out.
     pub(crate) fn with_room(
         alloc: Global,
         states: usize,
@@ -48,15 +48,15 @@ impl Checkpoints {
         })
     }
 
-    /// No state is kept any more.
+    /// Drops all checkpoints and keeps the room.
     pub(crate) fn clear(&mut self)
         ensures { self.new.count ≡ 0 }
     {
         self.count = 0;
     }
 
-    /// The first turn from this one on before which a state is kept; the last number where there is
-    /// none.
+    /// The first turn, from this one on, before which a state is kept; the largest number if there
+    /// is none.
     pub(crate) fn next(&self, from: u32) -> u32
         ensures { from ≤ result }
     {

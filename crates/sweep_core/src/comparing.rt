@@ -1,4 +1,4 @@
-//! Whether outcomes make a difference, one after the other.
+//! Compares outcomes one after the other, to find whether they make a difference.
 ghost use Rattle.std.specs.Prelude.{◌≡◌};
 ghost use Rattle.sweep_core.specs.Comparing.{compared_of, differs_from, nothing_compared, with_outcome, words_of};
 ghost use Rattle.sweep_core.specs.Told.{is_worse_told};
@@ -6,8 +6,8 @@ ghost use Rattle.sweep_core.specs.Told.{is_worse_told};
 use crate::outcome::OutcomeText;
 use crate::told::{Told, is_worse};
 
-/// The outcomes up to here, each compared with the first of them and with the run without an
-/// arrival. None of them need be kept: where all are the first one, no two of them differ.
+/// The comparison of the outcomes so far, each with the first one and with the run without an
+/// arrival. The others need not be kept: if all equal the first one, no two of them differ.
 #[derive(Drop)]
 pub(crate) struct Compared {
     first: Option<OutcomeText>,
@@ -24,7 +24,7 @@ fn differs_from(first: &Option<OutcomeText>, words: &OutcomeText) -> bool
 }
 
 impl Compared {
-    /// No outcome as yet.
+    /// No outcome yet.
     pub(crate) fn new() -> Compared
         ensures { compared_of result ≡ nothing_compared }
     {
@@ -34,7 +34,7 @@ impl Compared {
         }
     }
 
-    /// One outcome more.
+    /// Compares one more outcome.
     pub(crate) fn add(&mut self, base: &Told, told: &Told)
         ensures { compared_of self.new ≡ with_outcome (compared_of self.old)
             (is_worse_told base.now told.now) told.now.words.bytes }

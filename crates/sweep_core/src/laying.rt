@@ -1,4 +1,4 @@
-//! The script of an arrival time, in room that was taken before.
+//! Makes the script of an arrival time, in room that was taken before.
 ghost use Rattle.std.specs.Prelude.{◌≡◌, ◌<◌, ◌≤◌, ◌+◌, ℕ, true, length};
 ghost use Rattle.std.specs.List.{All};
 ghost use Rattle.run_script.specs.Events.{script_data};
@@ -9,8 +9,8 @@ ghost use Rattle.sweep_core.specs.Swept.{is_late};
 
 use run_script::Script;
 
-/// The events of an arrival from turn `time` on, each behind the script's own of its turn; false
-/// where that is no script, and then `laid` is of no use.
+/// Lays the events of an arrival over a script, from turn `time` on. In each turn they come after
+/// the script's events. Returns false if the result is not a script; `laid` is useless then.
 pub(crate) fn lay(laid: &mut Script, script: &Script, arrival: &Script, time: u32) -> bool
     requires room { HasRoom laid.old (length (script_data script.now).events + length
         (script_data arrival.now).events) }
@@ -37,8 +37,8 @@ pub(crate) fn lay(laid: &mut Script, script: &Script, arrival: &Script, time: u3
     true
 }
 
-/// How many turns an arrival lasts: none of its events is due that many turns after the arrival
-/// time, nor later.
+/// How many turns an arrival lasts: all its events are due less than that many turns after the
+/// arrival time.
 pub(crate) fn span(arrival: &Script) -> u32
     ensures all { All (λ d. d.0 < result) (script_data arrival.now).events }
     ensures few { result ≤ 1000000000 }
@@ -52,8 +52,8 @@ pub(crate) fn span(arrival: &Script) -> u32
     span
 }
 
-/// Whether an event of an arrival would come in turn `limit` or later, which a run of at most so
-/// many turns does not reach.
+/// Whether an event of an arrival would come in turn `limit` or later, which a run of at most
+/// `limit` turns does not reach.
 pub(crate) fn is_late(arrival: &Script, time: u32, limit: u32) -> bool
     requires early { time ≤ 1000000000 }
     ensures { result ≡ is_late (script_data arrival.now).events time limit }

@@ -1,4 +1,4 @@
-//! The run that was played to its end last, and runs that end as it does.
+//! `Leader`: the last run that was played to its end, and runs that end as it does.
 ghost use Rattle.std.specs.Prelude.{◌≡◌, ◌<◌, ◌≤◌, ◌+◌, ◌-◌, ◌*◌, ◌⊎◌, true, false, IfOk, IfSome};
 ghost use Rattle.std.specs.Int.{IsNextPowerOfTwo};
 ghost use Rattle.task_table.specs.model.State.{State};
@@ -19,26 +19,26 @@ use snapshot::{save_over, saved_len};
 use std::alloc::{AllocError, Global};
 use std::mem::swap;
 
-/// How many states of a run are kept at most, and how many bytes they have together.
+/// The most states of a run that are kept, and the most bytes that they have together.
 const MOST: usize = 48;
 
 const MOST_BYTES: usize = 2 << 20;
 
-/// The run that was played to its end last, which leads, and the one that follows it.
+/// The last run that was played to its end, which leads, and the run that follows it.
 #[derive(Drop)]
 pub(crate) struct Leader {
-    /// What was told of the run that leads, and states that it came to.
+    /// What was told of the run that leads, and its checkpoints.
     pub(crate) told: Told,
     pub(crate) led: Checkpoints,
 
-    /// States of the run that follows.
+    /// The checkpoints of the run that follows.
     pub(crate) passed: Checkpoints,
 
-    /// Room for the state to which that has come.
+    /// Room for the present state of the run that follows.
     pub(crate) here: Vec<u8>,
 }
 
-/// How many states of so many bytes are kept: at least two.
+/// How many states of `len` bytes are kept: at least two.
 fn room_for(len: usize) -> usize
     ensures some { 2 ≤ result }
     ensures most { result ≤ 48 }
@@ -47,7 +47,7 @@ fn room_for(len: usize) -> usize
     (MOST_BYTES / len.max(1)).clamp(2, MOST)
 }
 
-/// The first turn behind this one that is a power of two behind turn `over`.
+/// The first turn after this one that is a power of two turns after turn `over`.
 fn own_stop(turn: u32, over: u32) -> u32
     requires turn { turn ≤ 1000000000 }
     requires over { over ≤ 2000000000 }
@@ -59,11 +59,11 @@ fn own_stop(turn: u32, over: u32) -> u32
 }
 
 impl Leader {
-    /// No run leads yet. All memory that is taken is taken here: for states of so many bytes.
+    /// A leader without a run. All memory is taken here, for states of `len` bytes.
     ///
     /// # Errors
     ///
-    /// Only want of memory.
+    /// Only if memory runs out.
     pub(crate) fn open(alloc: Global, len: usize) -> Result<Leader, AllocError>
         ensures { IfOk result (λ w. w.led.count ≡ 0) }
     {
@@ -76,9 +76,9 @@ impl Leader {
         })
     }
 
-    /// The next turn, behind this one, before which the run of a board is looked at, where its
-    /// arrival is over from turn `over` on: where one is kept of the run that leads, or a power of
-    /// two behind `over`. None where the run ends here, or before that.
+    /// The next turn after this one at which to look at the run of a board, whose arrival has ended
+    /// by turn `over`. It is a turn of which the leading run has a checkpoint, or one that is a
+    /// power of two turns after turn `over`. None if the run ends here or before that turn.
     fn stop(&self, board: &Board, turn: u32, over: u32, limit: u32) -> Option<u32>
         requires stood { StandsForSome (boxed shown) board.now }
         requires within { turns_of board.now ≤ limit }
@@ -95,9 +95,9 @@ impl Leader {
         if stop < limit { Some(stop) } else { None }
     }
 
-    /// Whether the run of a board, of which this was heard, has come to a state of the one that
-    /// leads before turn `stop`. Else its state is kept, where it has come there. A state of a run
-    /// is as long at each turn, so it has room.
+    /// Whether the run of a board, with this tally, has reached a checkpoint of the leading run
+    /// before turn `stop`. If not, and if it is before turn `stop`, its state is kept as long as
+    /// there is room for one more. The states of a run all have the same length, so it fits.
     fn meets(&mut self, board: &Board, heard: &Tally, stop: u32) -> bool
         requires { StandsForSome (boxed shown) board.now }
         ensures at { result ≡ true → turns_of board.now ≡ stop }
@@ -123,7 +123,7 @@ impl Leader {
         false
     }
 
-    /// The run that goes on from here leads: it is played to its end.
+    /// Makes the run that goes on from here the leading one and plays it to its end.
     fn lead(&mut self, board: &mut Board, heard: &Tally, limit: u32, mem: bool) -> Told
         requires stood { StandsForSome (boxed shown) board.old }
         requires from { turns_of board.old ≤ limit }
@@ -140,9 +140,9 @@ impl Leader {
         self.told
     }
 
-    /// What is told of the run that goes on from where the board stands, and of which this was
-    /// heard up to there, where its arrival is over from turn `over` on. The board goes on to its
-    /// end, or to where it meets the run that leads, whose end is its own.
+    /// What is told of the run that goes on from the board's state. The tally is that of the run so
+    /// far, and its arrival has ended by turn `over`. The board goes on to the end of the run, or
+    /// until it meets the leading run: then both end the same way.
     pub(crate) fn follow(
         &mut self,
         board: &mut Board,

@@ -1,4 +1,4 @@
-//! How a run ends for each time at which some events may arrive (docs/FORMATS.md, Sweep).
+//! Sweeps: how a run ends for each time at which some events may arrive (docs/FORMATS.md, Sweep).
 #![tactic(auto)]
 
 mod checkpoints;

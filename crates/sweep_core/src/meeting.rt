@@ -1,4 +1,4 @@
-//! Where a run meets another one.
+//! Finds where a run meets another one.
 ghost use Rattle.std.specs.Prelude.{◌≡◌, ◌<◌, ◌≤◌, true, false, vec_len};
 ghost use Rattle.sweep_core.specs.Leading.{HasNone, HasSame, IsOneMore, IsSameAs};
 
@@ -7,8 +7,7 @@ use crate::tally::Tally;
 use std::mem::swap;
 
 impl Checkpoint {
-    /// Whether a run that has come to these bytes, and of which so much was heard, is as this one
-    /// was.
+    /// Whether this checkpoint has these bytes and this tally.
     fn is_same(&self, heard: &Tally, state: &[u8]) -> bool
         ensures same { result ≡ true → IsSameAs heard.now state.now self.now }
         ensures other { IsSameAs heard.now state.now self.now → result ≡ true }
@@ -18,7 +17,7 @@ impl Checkpoint {
 }
 
 impl Checkpoints {
-    /// Whether a state that is kept is this one, with as much heard.
+    /// Whether a checkpoint with this state and this tally is kept.
     pub(crate) fn has(&self, heard: &Tally, state: &[u8]) -> bool
         ensures some { result ≡ true → HasSame heard.now state.now self.now }
         ensures none { result ≡ false → HasNone heard.now state.now self.now }
@@ -31,8 +30,8 @@ impl Checkpoints {
         false
     }
 
-    /// A state is kept besides, where there is room; the bytes change places with those that were
-    /// kept there.
+    /// Keeps one more state, if there is room. Its bytes are swapped with those of the free
+    /// checkpoint.
     pub(crate) fn keep(&mut self, turn: u32, heard: &Tally, state: &mut Vec<u8>)
         ensures more { self.old.count < vec_len self.old.states →
             IsOneMore turn heard.now state.old.items self.old self.new }

@@ -21,7 +21,7 @@ pub(crate) type Front = ArrayString<160>;
 
 pub type OutcomeText = ArrayString<768>;
 
-/// The first fault, or that there is none.
+/// Pushes the first fault, or `-` if there is none.
 fn push_first(out: &mut Front, first: Option<(u16, Fault)>)
     requires room { array_string_len out.old + 59 ≤ 160 }
     ensures bytes { out.new.bytes ≡ out.old.bytes ++ first_word first }
@@ -41,7 +41,7 @@ fn push_first(out: &mut Front, first: Option<(u16, Fault)>)
     }
 }
 
-/// What is told of the end and of the notes.
+/// The words for the end and the tally of the notes.
 #[tactic(auto, unfolding(crate::specs::Outcomes::front_words))]
 pub(crate) fn front(end: End, tally: &Tally) -> Front
     ensures { result.bytes ≡ front_words end tally.now }
@@ -91,7 +91,7 @@ pub(crate) fn letter(view: &TaskView) -> u8
     }
 }
 
-/// The letters of the tasks.
+/// Pushes the letters of the tasks.
 fn push_letters(board: &Board, out: &mut OutcomeText)
     requires { array_string_len out.old + 512 ≤ 768 }
     ensures told { (x : Scenario) (s : State) → Stands (boxed shown) x board.now s →
@@ -118,7 +118,7 @@ fn digest_of_ram(board: &Board) -> u32
     d
 }
 
-/// The word of the memory, where it is asked for.
+/// Pushes the word for the memory, if it is asked for.
 fn push_memory(board: &Board, mem: bool, out: &mut OutcomeText)
     requires { array_string_len out.old + 9 ≤ 768 }
     ensures { (x : Scenario) (s : State) → Stands (boxed shown) x board.now s →
@@ -132,8 +132,7 @@ fn push_memory(board: &Board, mem: bool, out: &mut OutcomeText)
     }
 }
 
-/// The outcome of a run that ended so, on a board that stands at its end, and of which this was
-/// heard.
+/// The outcome of a run with this end and this tally. The board is at the end of the run.
 pub fn outcome_of(end: End, tally: &Tally, board: &Board, mem: bool) -> OutcomeText
     ensures { (x : Scenario) (s : State) → Stands (boxed shown) x board.now s →
         result.bytes ≡ front_words end tally.now ++ letters s ++ memory_word mem s.memory.ram }
@@ -145,7 +144,7 @@ pub fn outcome_of(end: End, tally: &Tally, board: &Board, mem: bool) -> OutcomeT
     out
 }
 
-/// In place of an outcome, where there is no script and so no run.
+/// The word in place of an outcome if there is no script and so no run.
 pub(crate) fn full() -> OutcomeText
     ensures { result.bytes ≡ codes "full" }
 {
@@ -154,7 +153,7 @@ pub(crate) fn full() -> OutcomeText
     out
 }
 
-/// In place of an outcome, where not all of the arrival comes within the bound.
+/// The word in place of an outcome if an event of the arrival would come too late.
 pub(crate) fn late() -> OutcomeText
     ensures { result.bytes ≡ codes "late" }
 {

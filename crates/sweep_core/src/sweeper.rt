@@ -1,5 +1,5 @@
-//! A board that goes on from arrival time to arrival time, and from each of them to the end of that
-//! run and back.
+//! `Sweeper`: a board that goes on from arrival time to arrival time, and from each of them to the
+//! end of that run and back.
 ghost use Rattle.std.specs.Prelude.{ℕ, ◌≡◌, ◌≤◌, ◌<◌, min, true, false, List, IfOk};
 ghost use Rattle.outside_io.specs.Outside.{Pushes, HasCause};
 ghost use Rattle.run_script.specs.Events.{script_data};
@@ -31,32 +31,31 @@ use std::alloc::{AllocError, Global};
 pub struct Sweeper {
     board: Board,
 
-    /// The script of the run without the arrival. It has room for each that is laid over it, until
-    /// the board takes it.
+    /// The script of the run without the arrival. It has room for every event that is laid over it,
+    /// until the board takes it.
     script: Script,
     arrival: Script,
 
-    /// Room for the script of the next arrival time. The board's own, which it changes places with,
-    /// has as much from the first arrival time on.
+    /// Room for the script of the next arrival time. It is swapped with the board's script, which
+    /// has as much room from the first arrival time on.
     spare: Script,
 
     /// Room for the state before an arrival time.
     saved: Vec<u8>,
 
-    /// What was heard up to where the board stands.
+    /// The tally of the run up to the board's present turn.
     front: Tally,
 
-    /// The run of an earlier arrival time that others may meet.
+    /// The run of an earlier arrival time, which later runs may meet.
     leader: Leader,
 }
 
 impl Sweeper {
-    /// At the start of a run, with a board that stands there. All memory that is taken is taken
-    /// here.
+    /// Opens a sweeper at the start of a run, with a board that is there. All memory is taken here.
     ///
     /// # Errors
     ///
-    /// Only want of memory. The board is dropped then.
+    /// Only if memory runs out. The board is dropped then.
     pub fn open(
         alloc: Global,
         board: Board,
@@ -88,8 +87,8 @@ impl Sweeper {
         })
     }
 
-    /// The run that goes on from here, to its end or to where it meets an earlier one, which it may
-    /// from turn `over` on. The board stands here again afterwards.
+    /// Makes the run that goes on from here, to its end or until it meets an earlier run, which it
+    /// may do from turn `over` on. Afterwards the board is here again.
     fn tell(&mut self, over: u32, limit: u32, mem: bool) -> Told
         requires at { (x : Scenario) × (f : Fork) × IsAtFork (boxed shown) x f self.old over limit }
         requires over { over ≤ 2000000000 }
@@ -113,7 +112,7 @@ impl Sweeper {
         told
     }
 
-    /// The board is given the script that has room, with which it goes on.
+    /// Gives the board the script that has room. The board goes on with it.
     fn take_room(&mut self)
         requires { (x : Scenario) × (arrival : List Listed)
             × HasTold (boxed shown) x arrival self.old }
@@ -125,8 +124,8 @@ impl Sweeper {
         self.board.exchange_script(&mut self.script);
     }
 
-    /// On to an arrival time, with its script, or to the end of the run before; false where there
-    /// is no script, and then the board stays where it is.
+    /// Goes on to an arrival time with its script, or to the end of the run before it. Returns
+    /// false if there is no script; the board stays where it is then.
     fn go_to(&mut self, time: u32, limit: u32) -> bool
         requires before { (x : Scenario) × (arrival : List Listed)
             × IsBefore (boxed shown) x arrival self.old time limit }
@@ -151,7 +150,7 @@ impl Sweeper {
         true
     }
 
-    /// The outcome of an arrival time, which is compared where there is one.
+    /// The outcome of an arrival time. It is compared if a run was made.
     fn look_at(
         &mut self,
         time: u32,
@@ -184,8 +183,8 @@ impl Sweeper {
         told.words
     }
 
-    /// Each stretch of arrival times, and whether one of them makes a difference. There is a first
-    /// one.
+    /// Pushes a line for each stretch of arrival times, and returns whether one of them makes a
+    /// difference. There is at least one arrival time.
     fn push_times<S: Sink>(
         &mut self,
         from: u32,
@@ -221,14 +220,15 @@ impl Sweeper {
         Ok(compared.found)
     }
 
-    /// The run without the arrival, and then with it in each turn from `from` on and below `to`,
-    /// each of at most `limit` turns: the line of the first, and one for each stretch of arrival
-    /// times with one outcome (docs/FORMATS.md, Sweep), a push each, which is passed on. Whether
-    /// one of the arrival times makes a difference. It takes no memory.
+    /// Makes the run without the arrival, and then a run for each arrival time from `from` on and
+    /// below `to`. Each run has at most `limit` turns. It pushes the line of the first run, and a
+    /// line for each stretch of arrival times with the same outcome (docs/FORMATS.md, Sweep), and
+    /// flushes the sink after each line. It returns whether one of the arrival times makes a
+    /// difference. It takes no memory.
     ///
     /// # Errors
     ///
-    /// Only where a push or a flush failed. No further run is made.
+    /// Only if a push or a flush fails. No further run is made.
     pub fn sweep<S: Sink>(
         &mut self,
         from: u32,

@@ -1,4 +1,4 @@
-//! What a sweep hears of the notes of a run.
+//! `Tally`: what a sweep counts of the notes of a run.
 ghost use Rattle.std.specs.Prelude.{◌≡◌};
 ghost use Rattle.board_model.specs.Run.{at_turn};
 ghost use Rattle.sweep_core.specs.Outcomes.{digest, first_of, heard, heard_note, nothing_heard};
@@ -8,8 +8,8 @@ use kernel_abi::{Fault, Note};
 use outside_io::Failed;
 use trace_text::TurnLines;
 
-/// How many faults, restarts and bytes that went out were told, up to 2^64 - 1 each, the first
-/// fault with its task, and the digest of what went out.
+/// The counts of faults, restarts and bytes that went out, up to 2^64 - 1 each; the first fault
+/// with its task; and the digest of the bytes that went out.
 #[derive(Clone, Copy, Debug, PartialEq, Eq)]
 pub struct Tally {
     pub faults: u64,
@@ -19,7 +19,7 @@ pub struct Tally {
     pub out: u32,
 }
 
-/// A byte more.
+/// The digest after one more byte.
 pub(crate) fn digest(d: u32, byte: u8) -> u32
     ensures { result ≡ digest d byte }
 {
@@ -36,7 +36,7 @@ fn first_of(first: Option<(u16, Fault)>, task: u16, fault: Fault) -> Option<(u16
 }
 
 impl Tally {
-    /// Nothing was told yet.
+    /// The tally of no notes.
     pub fn new() -> Tally
         ensures { result ≡ nothing_heard }
     {
@@ -49,7 +49,7 @@ impl Tally {
         }
     }
 
-    // One note more.
+    // Counts one more note.
     fn hear(&mut self, note: &Note)
         ensures { self.new ≡ heard_note self.old note.now }
     {
@@ -67,7 +67,7 @@ impl Tally {
         }
     }
 
-    // The notes of a turn.
+    // Counts the notes of a turn.
     fn hear_all(&mut self, turn: u32, notes: &[Note])
         ensures { self.new ≡ heard self.old (at_turn turn notes.now) }
     {
@@ -77,7 +77,7 @@ impl Tally {
     }
 }
 
-/// Hearing never fails.
+/// Counting never fails.
 impl Observer for Tally {
     ghost heard = { λ t notes u. u ≡ heard t notes };
 

@@ -1,4 +1,4 @@
-//! The lines of a sweep (docs/FORMATS.md, Sweep), a push each.
+//! Pushes the lines of a sweep, one push for each (docs/FORMATS.md, Sweep).
 ghost use Rattle.std.specs.Prelude.{◌≡◌, ◌<◌, ◌≤◌, ◌-◌, ◌++◌, bytes_eq, codes, decimal, length, if◌then◌else◌, IfOk};
 ghost use Rattle.outside_io.specs.Outside.{Pushes, HasCause};
 ghost use Rattle.sweep_core.specs.Stretches.{ended};
@@ -12,7 +12,7 @@ use trace_text::push_decimal;
 /// A line of up to 705 bytes.
 type Line = ArrayString<1024>;
 
-/// A line, which is passed on at once: the run that gave it took longer.
+/// Pushes a line and flushes the sink at once: the run behind the line took much longer.
 fn push_line<S: Sink>(line: &Line, out: &mut S) -> Result<(), Failed>
     ensures bytes { Pushes (S.seen out.old).written (S.seen out.new).written line.now.bytes result }
     ensures cause { HasCause (S.seen out.old).faults (S.seen out.new).faults result }
@@ -32,7 +32,7 @@ fn base_line(base: &OutcomeText) -> Line
     line
 }
 
-/// The line of the run without an arrival.
+/// Pushes the line of the run without an arrival.
 pub(crate) fn push_base<S: Sink>(base: &OutcomeText, out: &mut S) -> Result<(), Failed>
     ensures bytes { Pushes (S.seen out.old).written (S.seen out.new).written
         (base_line base.now.bytes) result }
@@ -41,7 +41,7 @@ pub(crate) fn push_base<S: Sink>(base: &OutcomeText, out: &mut S) -> Result<(), 
     push_line(&base_line(base), out)
 }
 
-/// The first and the last arrival time of a stretch.
+/// The words for the first and the last arrival time of a stretch.
 fn times(first: u32, last: u32) -> Front
     ensures { result.bytes ≡ decimal first ++ codes " " ++ decimal last ++ codes " " }
 {
@@ -53,7 +53,7 @@ fn times(first: u32, last: u32) -> Front
     out
 }
 
-/// An outcome, or that it is the one of the run without an arrival.
+/// Pushes an outcome, or `same` if it is that of the run without an arrival.
 fn push_words(words: &OutcomeText, base: &OutcomeText, line: &mut Line)
     requires { length line.old.bytes ≤ 160 }
     ensures bytes { line.new.bytes ≡ line.old.bytes ++ same_or base.now.bytes words.now.bytes }
@@ -77,7 +77,7 @@ fn stretch_line(first: u32, last: u32, words: &OutcomeText, base: &OutcomeText) 
     line
 }
 
-/// The line of a stretch of arrival times with one outcome.
+/// Pushes the line of a stretch of arrival times with the same outcome.
 fn push_stretch<S: Sink>(
     first: u32,
     last: u32,
@@ -92,7 +92,7 @@ fn push_stretch<S: Sink>(
     push_line(&stretch_line(first, last, words, base), out)
 }
 
-/// A stretch of arrival times with one outcome that is under way.
+/// A stretch of arrival times with the same outcome, which may go on.
 #[derive(Drop)]
 pub(crate) struct TimeStretch {
     pub(crate) first: u32,
@@ -100,7 +100,7 @@ pub(crate) struct TimeStretch {
 }
 
 impl TimeStretch {
-    /// It ends before this arrival time.
+    /// Ends the stretch right before this arrival time and pushes its line.
     pub(crate) fn end<S: Sink>(
         &self,
         time: u32,
@@ -115,8 +115,8 @@ impl TimeStretch {
         push_stretch(self.first, time - 1, &self.words, base, out)
     }
 
-    /// On to the next arrival time, with its outcome: where that is another one, the stretch ends
-    /// before it, and one begins there.
+    /// Goes on to the next arrival time. If its outcome is a different one, the stretch ends before
+    /// it, and the next stretch begins there.
     pub(crate) fn go_on<S: Sink>(
         &mut self,
         time: u32,

@@ -1,4 +1,4 @@
-//! A run to its end, as a sweep tells it.
+//! Plays a run to its end and says what a sweep tells of it.
 ghost use Rattle.std.specs.Prelude.{◌≡◌, ◌≤◌, ◌-◌};
 ghost use Rattle.task_table.specs.model.State.{State};
 ghost use Rattle.board_model.specs.declared.outcomes.Level.TheVariants.{Calls};
@@ -15,7 +15,7 @@ use crate::tally::Tally;
 use board_core::{Board, End, Level};
 use board_run::play;
 
-/// What a sweep tells of a run, and what it compares.
+/// What a sweep tells of a run, and what it compares between runs.
 #[derive(Clone, Copy, Drop)]
 pub(crate) struct Told {
     pub(crate) words: OutcomeText,
@@ -23,7 +23,7 @@ pub(crate) struct Told {
     pub(crate) by_supervisor: bool,
 }
 
-/// Of no run.
+/// The value for no run.
 pub(crate) fn nothing_told() -> Told {
     Told {
         words: OutcomeText::new(),
@@ -41,7 +41,7 @@ fn is_supervisors(end: End) -> bool
     }
 }
 
-/// Of a run that ended so, on a board that stands at its end, and of which this was heard.
+/// What is told of a run with this end and this tally. The board is at the end of the run.
 fn told_at(end: End, tally: &Tally, board: &Board, mem: bool) -> Told
     ensures { (x : Scenario) (s : State) → Stands (boxed shown) x board.now s →
         IsToldAt mem end tally.now s result }
@@ -53,7 +53,7 @@ fn told_at(end: End, tally: &Tally, board: &Board, mem: bool) -> Told
     }
 }
 
-/// On to a turn, or to the end of the run before it, with what is heard on the way.
+/// Goes on to a turn, or to the end of the run before it, and counts the notes on the way.
 pub(crate) fn play_to(board: &mut Board, tally: &mut Tally, to: u32)
     requires stood { StandsForSome (boxed shown) board.old }
     requires from { turns_of board.old ≤ to }
@@ -70,8 +70,8 @@ pub(crate) fn play_to(board: &mut Board, tally: &mut Tally, to: u32)
     }
 }
 
-/// Of the run that goes on from where the board stands, and of which this was heard up to there.
-/// The board goes on to its end.
+/// What is told of the run that goes on from the board's state, with the tally so far. The board
+/// goes on to the end of the run.
 pub(crate) fn told_from(board: &mut Board, front: &Tally, limit: u32, mem: bool) -> Told
     requires stood { StandsForSome (boxed shown) board.old }
     requires from { turns_of board.old ≤ limit }
@@ -88,7 +88,8 @@ pub(crate) fn told_from(board: &mut Board, front: &Tally, limit: u32, mem: bool)
     }
 }
 
-/// More faults, or an end by the supervisor where there was none.
+/// Whether a run has more faults than the base run, or ends by a fault of the supervisor and the
+/// base run does not.
 pub(crate) fn is_worse(base: &Told, told: &Told) -> bool
     ensures { result ≡ is_worse_told base.now told.now }
 {

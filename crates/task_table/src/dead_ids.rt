@@ -1,5 +1,5 @@
-//! What system calls do that name an earlier birth of a task: a law, the contract of a function
-//! that does nothing.
+//! What system calls do that name an earlier birth of a task. This is a law: the contract of a
+//! function that does nothing.
 
 ghost use Rattle.std.specs.Prelude.{◌≡◌, ◌<◌, ◌≤◌, ℕ, List, [], ◌∷◌, length};
 ghost use Rattle.kernel_abi.specs.Faults.{usage_number};
@@ -12,10 +12,10 @@ ghost use Rattle.task_table.specs.model.Sends.{last_reason};
 ghost use Rattle.task_table.specs.model.Syscalls.{syscall_made};
 ghost use Rattle.task_table.specs.model.DeadIds.{IsCalling, IsDeadId, MaySend, MayReceiveFrom, IsAnsweredAlone, told_dead, recipient, sender, client, lender, asked_lender, posted_to, reason};
 
-/// A system call that names an earlier birth of a task changes nothing but its caller, who goes on
-/// and gets the dead code: SEND and a closed RECV that nothing before decides, the borrows and POST
-/// the dead code with the present generation; REPLY, and REPLY_FAULT with a reason that there is,
-/// nothing. (Hubris Reference: task ids and generations.)
+/// A system call that names an earlier birth of a task changes only its caller, which goes on. SEND
+/// and a closed RECV, if no earlier row decides, the borrows and POST get the dead code with the
+/// present generation. REPLY, and REPLY_FAULT with a valid reason, get nothing. (Hubris Reference:
+/// task ids and generations.)
 pub fn dead_ids_change_nothing_but_the_caller()
     ensures send { (g : Setup) (c : ℕ) (t : Turn) → IsCalling Send c t →
         IsDeadId t.state (recipient t.state c) → MaySend g c t.state →

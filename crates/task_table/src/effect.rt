@@ -1,4 +1,4 @@
-//! What may be done to one task: results of its system calls, posts.
+//! Operations on one task: results of its system calls, and posts.
 
 use crate::kernel::Kernel;
 use kernel_abi::Note;
@@ -23,7 +23,7 @@ impl Kernel {
         words_in(&slot.registers)
     }
 
-    /// Gives results to a task, six at most, from r4 on.
+    /// Gives at most six results to a task, from r4 on.
     pub fn give(&mut self, task: usize, values: &[u32])
         requires there { task < task_count self.old }
         requires few { length values.now ≤ 6 }
@@ -124,7 +124,7 @@ impl Kernel {
         self.set_rest(task, &slot);
     }
 
-    /// A task that listens takes its posted bits under its mask, where there are any.
+    /// If a task listens and has posted bits under its mask, it takes them.
     fn wake(&mut self, task: usize)
         requires there { task < task_count self.old }
         requires room { note_count self.old < turn_notes }
@@ -143,9 +143,10 @@ impl Kernel {
         }
     }
 
-    /// Posts bits to a task, of any health. Where it listens and its mask meets the posted bits, it
-    /// takes them: r4 is 0, r5 0xFFFF, r6 the posted bits under the mask, r7 to r9 are 0; those
-    /// bits are cleared and it listens no more (Hubris Reference, on notifications).
+    /// Posts bits to a task of any health. If the task listens and has posted bits under its mask,
+    /// it takes them: r4 is 0, r5 is 0xFFFF, r6 has the posted bits under the mask, and r7 to r9
+    /// are 0. Those bits are cleared, and the task no longer listens (Hubris Reference, on
+    /// notifications).
     pub fn post(&mut self, task: usize, bits: u32)
         requires there { task < task_count self.old }
         requires room { note_count self.old + 2 ≤ turn_notes }

@@ -1,4 +1,4 @@
-//! Entries of lease tables that were read, and where in memory they lie.
+//! Entries of lease tables that were read and are kept, and where in memory they lie.
 
 ghost use Rattle.std.specs.Prelude.{◌≡◌, ◌+◌, ◌≤◌, ◌^◌, ℕ, None, length, IfOk};
 ghost use Rattle.task_table.specs.kept.Entries.{kept_at, AreLeft};
@@ -6,8 +6,8 @@ ghost use Rattle.task_table.specs.kept.Entries.{kept_at, AreLeft};
 use kernel_abi::LeaseEntry;
 use std::alloc::{AllocError, Global};
 
-/// An entry of the lease table of a call: of which lease, where it begins, and what memory has
-/// there.
+/// A kept entry of the lease table of a call: the index of its lease, its address, and its contents
+/// in memory.
 #[derive(Clone, Copy)]
 pub struct KeptEntry {
     pub lease: u32,
@@ -19,7 +19,7 @@ impl KeptEntry {
     ghost use Rattle.std.specs.Prelude.{◌≡◌};
     ghost use Rattle.task_table.specs.kept.Entries.{meets};
 
-    /// Whether one of so many bytes from an address on is one of its twelve.
+    /// Whether any of `count` bytes from an address on is one of the entry's twelve bytes.
     fn meets(&self, addr: u32, count: usize) -> bool
         ensures { result ≡ meets self.now addr count }
     {
@@ -28,8 +28,8 @@ impl KeptEntry {
     }
 }
 
-/// Where a store of one to four bytes may begin that meets an entry that is kept: at so many
-/// addresses from a lowest one on.
+/// The addresses at which a store of one to four bytes may begin that overlaps a kept entry: `span`
+/// addresses from `low` on.
 #[derive(Clone, Copy)]
 pub(crate) struct Watch {
     low: u32,
@@ -41,15 +41,15 @@ impl Watch {
     ghost use Rattle.std.specs.Prelude.{◌≡◌, ◌+◌, ◌≤◌, ◌⊎◌, ℕ, false};
     ghost use Rattle.task_table.specs.kept.Entries.{IsWatched};
 
-    /// Nowhere.
+    /// No address: no entry is kept.
     pub fn nowhere() -> Watch
         ensures { result.span ≡ 0 }
     {
         Watch { low: 0, span: 0 }
     }
 
-    /// Whether a write of so many bytes from an address on may meet an entry. Of a few bytes one
-    /// comparison tells, of more one where no entry is kept.
+    /// Whether a write of `count` bytes from an address on may overlap a kept entry. One comparison
+    /// decides for up to four bytes, and for any number of bytes if no entry is kept.
     #[inline(always)]
     pub fn catches(&self, addr: u32, count: usize) -> bool
         ensures { result ≡ false → (base : ℕ) → IsWatched self.now.low self.now.span base →
@@ -64,7 +64,7 @@ impl Watch {
         }
     }
 
-    /// The same, with an entry besides.
+    /// The same addresses, and those of one more entry.
     pub fn with(self, base: u32) -> Watch
         ensures new { IsWatched result.low result.span base }
         ensures old { (other : ℕ) → IsWatched self.low self.span other →
@@ -84,7 +84,7 @@ impl Watch {
     }
 }
 
-/// For each of so many tasks none.
+/// No kept entry, for each of `count` tasks.
 pub(crate) fn no_entries(alloc: Global, count: usize) -> Result<Vec<Option<KeptEntry>>, AllocError>
     ensures count { IfOk result (λ entries. length entries.items ≡ count) }
     ensures none { IfOk result (λ entries. (i : ℕ) → kept_at entries.items i ≡ None) }
@@ -96,8 +96,8 @@ pub(crate) fn no_entries(alloc: Global, count: usize) -> Result<Vec<Option<KeptE
     Ok(entries)
 }
 
-/// Drops the entries that have one of so many bytes from an address on, and tells where the others
-/// are.
+/// Drops the entries that have any of `count` bytes from an address on, and returns the watched
+/// addresses of the others.
 pub(crate) fn drop_met(entries: &mut [Option<KeptEntry>], addr: u32, count: usize) -> Watch
     ensures { AreLeft entries.old addr count entries.new result.low result.span }
 {

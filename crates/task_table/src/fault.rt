@@ -1,4 +1,4 @@
-//! How a task stops: its health, its listen and its call, and its faults.
+//! How a task stops: it changes its health, drops its listen, closes its call, and faults.
 
 ghost use Rattle.std.specs.Prelude.{◌≡◌, slice_range};
 
@@ -18,7 +18,7 @@ impl Kernel {
     ghost use Rattle.task_table.specs.kept.Limits.{turn_notes};
     ghost use Rattle.task_table.specs.kept.Frames.{AddsNotes, AddsAtMost};
 
-    /// A task is so from now on.
+    /// Sets the health of a task.
     fn set_health(&mut self, task: usize, health: Health)
         requires { task < task_count self.old }
         ensures holds { (g : Setup) (t : Turn) → Holds g self.old t →
@@ -63,7 +63,7 @@ impl Kernel {
         }
     }
 
-    /// Whether another task waits for the end of a call to a task.
+    /// Whether another task waits for the end of its call to a task.
     pub fn calls_to(&self, other: usize, task: usize) -> bool
         requires { other < task_count self.now }
         ensures { (g : Setup) (t : Turn) → Holds g self.now t → AreFew t.state →
@@ -73,7 +73,7 @@ impl Kernel {
         slot.wait.is_to(task)
     }
 
-    /// Whether another task listens for a message of a task alone.
+    /// Whether another task listens for a message of this one task only.
     pub fn awaits(&self, other: usize, task: usize) -> bool
         requires { other < task_count self.now }
         ensures { (g : Setup) (t : Turn) → Holds g self.now t → AreFew t.state →
@@ -104,9 +104,9 @@ impl Kernel {
         }
     }
 
-    /// A task faults: it is Faulted, its listen is dropped, the call of which it is the client is
-    /// closed, and the supervisor, which is task 0, is posted its fault bits. Calls of which the
-    /// task is the server go on waiting. A fault of the supervisor itself posts nothing (Hubris
+    /// A task faults: it becomes Faulted, its listen is dropped, the call of which it is the client
+    /// is closed, and the fault bits are posted to the supervisor, which is task 0. Clients whose
+    /// server is the task go on waiting. A fault of the supervisor itself posts nothing (Hubris
     /// Reference, on supervision).
     pub fn fault(&mut self, task: usize, fault: Fault)
         requires there { task < task_count self.old }
@@ -122,7 +122,7 @@ impl Kernel {
         self.fault_as(task, fault, Ending::Client);
     }
 
-    /// A task faults since it misused a system call.
+    /// A task faults because it misused a system call.
     pub fn misuse(&mut self, task: usize, usage: Usage)
         requires there { task < task_count self.old }
         requires room { note_count self.old + 4 ≤ turn_notes }

@@ -1,7 +1,7 @@
-//! The kernel: its tasks, their memory, and what may be done to them.
+//! The kernel: its tasks, their memory, and the operations on them.
 //!
-//! Most clauses say, for each setup and each turn of the abstract kernel that this kernel holds,
-//! what the answer is, or which turn the kernel holds afterwards.
+//! Most clauses speak of each setup and each turn of the abstract kernel that this kernel holds.
+//! They say what the answer is, or which turn the kernel holds afterwards.
 
 ghost use Rattle.std.specs.Prelude.{◌≡◌, ◌<◌, ◌≤◌, length, map, vec_capacity};
 ghost use Rattle.task_table.specs.kept.Limits.{most_tasks, board_lines, turn_notes};
@@ -34,7 +34,7 @@ use std::alloc::{AllocError, Global};
 use words_core::Flags;
 
 /// The tasks and all that they share: at most `TASKS` tasks, the interrupt lines of the board, and
-/// what a turn notes, at most `TURN_NOTES` lines, for which there is room from the start.
+/// at most `TURN_NOTES` notes of a turn, for which there is room from the start.
 #[derive(Drop)]
 pub struct Kernel {
     tasks: Vec<TaskStart>,
@@ -83,14 +83,14 @@ impl Kernel {
     ghost use Rattle.task_table.specs.kept.Frames.{AddsNotes};
     ghost use Rattle.task_table.specs.declared.entry.KeptEntry.{KeptEntry};
 
-    /// The kernel at the start of a run, of one task at least: each task as at its first birth, and
-    /// the memory as it is handed in, with zeros in the RAM, which was given each region of a task
-    /// that is no device. The order of the tasks gives their indices. Where the parts are those of
-    /// a sound image, the state is sane.
+    /// The kernel at the start of a run, with at least one task. Each task is as at its first
+    /// birth. The memory is the one that is handed in, with zeros in the RAM; it was given each
+    /// region of a task that is not a device. The order of the tasks gives their indices. If the
+    /// parts are those of a sound image, the state is sane.
     ///
     /// # Errors
     ///
-    /// Only want of memory. The memory that was handed in is dropped then.
+    /// Only if memory runs out. The memory that was handed in is then dropped.
     pub fn start(
         alloc: Global,
         memory: Memory,
@@ -185,7 +185,7 @@ impl Kernel {
         self.next_call
     }
 
-    /// How an interrupt line is, or None where there is none with this number.
+    /// The state of an interrupt line, or None if there is no line with this number.
     pub fn line(&self, number: usize) -> Option<Line>
         ensures { (g : Setup) (t : Turn) → Holds g self.now t →
             result ≡ slice_get t.state.lines number }
@@ -202,14 +202,14 @@ impl Kernel {
         &self.owners
     }
 
-    /// The bits that task 0 is posted where another task faults.
+    /// The bits that are posted to task 0 when another task faults.
     pub fn fault_bits(&self) -> u32
         ensures { (g : Setup) (t : Turn) → Holds g self.now t → result ≡ g.fault_bits }
     {
         self.fault_bits
     }
 
-    /// The bytes that a task may use; none where there is no such task.
+    /// The bytes that a task may use; none if there is no such task.
     #[inline(always)]
     pub fn regions(&self, task: usize) -> &[Region]
         ensures value { result.now ≡ (setup_at (setup_of self.now) task).regions }
@@ -222,8 +222,8 @@ impl Kernel {
         }
     }
 
-    /// Where a task begins at each birth, as the image has it, so bit 0 counts for nothing; 0 where
-    /// there is no such task.
+    /// The address at which a task begins at each birth, as in the image. Bit 0 has no meaning. 0
+    /// if there is no such task.
     pub fn entry(&self, task: usize) -> u32
         ensures { (g : Setup) (t : Turn) → Holds g self.now t →
             result ≡ (setup_at g task).entry }
@@ -234,7 +234,7 @@ impl Kernel {
         }
     }
 
-    /// The priority number of a task; a lower one goes first.
+    /// The priority number of a task; a task with a lower one goes first.
     pub fn priority(&self, task: usize) -> u8
         requires { task < task_count self.now }
         ensures { (g : Setup) (t : Turn) → Holds g self.now t → result ≡ priority g task }
@@ -259,7 +259,7 @@ impl Kernel {
         slot.is_ready()
     }
 
-    /// How a task is.
+    /// The health of a task.
     pub fn health(&self, task: usize) -> Health
         requires { task < task_count self.now }
         ensures { (g : Setup) (t : Turn) → Holds g self.now t →
@@ -268,7 +268,7 @@ impl Kernel {
         self.slot(task).health
     }
 
-    /// How often a task was born again, modulo 64.
+    /// How often a task was restarted, modulo 64.
     pub fn generation(&self, task: usize) -> Generation
         requires { task < task_count self.now }
         ensures { (g : Setup) (t : Turn) → Holds g self.now t →
@@ -315,7 +315,7 @@ impl Kernel {
         self.slot(task).posted
     }
 
-    /// The timer of a task, where it is set.
+    /// The timer of a task, or None if it is off.
     pub fn timer(&self, task: usize) -> Option<Timer>
         requires { task < task_count self.now }
         ensures { (g : Setup) (t : Turn) → Holds g self.now t →
@@ -353,7 +353,7 @@ impl Kernel {
         }
     }
 
-    /// The byte at an address, where there is one.
+    /// The byte at an address, or None if there is no memory.
     pub fn byte(&self, addr: u32) -> Option<u8>
         ensures { (g : Setup) (t : Turn) → Holds g self.now t →
             result ≡ byte_at t.state.memory addr }
@@ -365,8 +365,8 @@ impl Kernel {
         }
     }
 
-    /// The number that 1, 2 or 4 bytes from an address on spell, the lowest first. Where there is
-    /// no memory a byte counts as 0.
+    /// The number in 1, 2 or 4 bytes from an address on, little-endian. A byte where there is no
+    /// memory counts as 0.
     #[inline(always)]
     pub fn number(&self, addr: u32, size: u32) -> u32
         requires { (size ≡ 1) ⊎ (size ≡ 2) ⊎ (size ≡ 4) }
@@ -377,7 +377,7 @@ impl Kernel {
         self.memory.number(addr, size)
     }
 
-    /// Nothing is noted any more. What the turn wrote and read is forgotten with it.
+    /// Removes all notes. In the model, the writes and reads of the turn are forgotten too.
     pub fn clear_notes(&mut self)
         ensures holds { (g : Setup) (t : Turn) → Holds g self.old t →
             Holds g self.new (begun t.state) }
@@ -388,7 +388,7 @@ impl Kernel {
         self.notes.clear();
     }
 
-    /// This task runs.
+    /// Makes a task the current one.
     pub fn set_current(&mut self, task: usize)
         requires { task < task_count self.old }
         ensures holds { (g : Setup) (t : Turn) → Holds g self.old t →
@@ -410,7 +410,7 @@ impl Kernel {
         self.notes.push_reserved(note);
     }
 
-    /// The time goes on by one tick, which is noted.
+    /// Advances the time by one tick, and notes it.
     pub fn step_clock(&mut self)
         requires room { note_count self.old < turn_notes }
         requires small { clock_of self.old + 1 < 2 ^ 64 }
@@ -421,7 +421,7 @@ impl Kernel {
         self.note(Note::Tick { now: self.clock });
     }
 
-    /// An interrupt line is so from now on; where there is none with this number, nothing changes.
+    /// Sets the state of an interrupt line. If there is no line with this number, nothing changes.
     pub fn set_line(&mut self, number: usize, line: Line)
         ensures holds { (g : Setup) (t : Turn) → Holds g self.old t →
             Holds g self.new (with_line number line t) }
@@ -432,7 +432,7 @@ impl Kernel {
         }
     }
 
-    /// The number of the next call is used.
+    /// Uses the number of the next call.
     pub(crate) fn use_number(&mut self)
         requires { next_call_of self.old + 1 < 2 ^ 32 }
         ensures holds { (g : Setup) (t : Turn) → Holds g self.old t →
@@ -442,8 +442,8 @@ impl Kernel {
         self.next_call += 1;
     }
 
-    /// The number that the two bytes from an address on spell, the lowest first. Where there is no
-    /// memory a byte counts as 0.
+    /// The number in the two bytes from an address on, little-endian. A byte where there is no
+    /// memory counts as 0.
     #[inline(always)]
     pub fn half(&self, addr: u32) -> u16
         ensures value { result ≡ number_at (memory_of self.now) addr 2 }
@@ -453,7 +453,7 @@ impl Kernel {
         self.memory.half(addr)
     }
 
-    /// Whether so many bytes from an address on lie in the RAM.
+    /// Whether `count` bytes from an address on lie in the RAM.
     #[inline(always)]
     pub fn is_ram(&self, addr: u32, count: u32) -> bool
         ensures { result ≡ is_ram (memory_of self.now) addr count }
@@ -461,8 +461,8 @@ impl Kernel {
         self.memory.is_ram(addr, count)
     }
 
-    /// Copies so many bytes into the RAM, as if all were read before the first is written. An entry
-    /// that is kept stays so where none of the bytes is one of its own.
+    /// Copies `count` bytes into the RAM, as if all were read before the first is written. A kept
+    /// entry stays if none of its bytes is written.
     pub fn copy(&mut self, from: u32, to: u32, count: u32)
         requires source { IsWithin (memory_of self.old) from count }
         requires target { IsWithinRam (memory_of self.old) to count }
@@ -476,7 +476,7 @@ impl Kernel {
         self.memory.copy(from, to, count);
     }
 
-    /// Writes bytes into the RAM for the task that runs, on its own ground.
+    /// Writes bytes into the RAM for the current task, on the ground that they are its own memory.
     pub fn store(&mut self, addr: u32, bytes: &[u8])
         requires { IsWithinRam (memory_of self.old) addr (length bytes.now) }
         ensures holds { (g : Setup) (t : Turn) → Holds g self.old t →

@@ -93,15 +93,16 @@ pub fn rows_keep_sane()
         c < length t.state.tasks → is_ready t.state c ≡ true → Sane g (syscall_made g c t).state }
 {}
 
-/// Every system call faults its caller at once, or after steps that changed nothing; or is a chain
-/// of steps that spare its caller and restart nobody; or restarts another task at once, and its
-/// caller goes on: the one walk over the rows, from which follows whatever holds of each step.
+/// Each system call does one of three things. It faults its caller, at once or after steps that
+/// changed nothing. Or it is a chain of steps that do not fault its caller and restart no task. Or
+/// it restarts another task at once, and its caller goes on. This is the only proof that goes
+/// through all rows; what holds of each step follows from it.
 pub fn syscalls_fault_at_once_or_spare_their_caller()
     ensures { (g : Setup) (c : ℕ) (t : Turn) → Sane g t.state → c < length t.state.tasks →
         is_ready t.state c ≡ true → CallOutcome g t.state c t (syscall_made g c t) }
 {}
 
-/// So every system call is a chain of steps, each with what makes it good.
+/// So each system call is a chain of steps, each with the conditions under which it may be done.
 pub fn syscalls_are_chains_of_steps()
     ensures { (g : Setup) (c : ℕ) (t : Turn) → Sane g t.state → c < length t.state.tasks →
         is_ready t.state c ≡ true → Chain (Step g t.state c) t (syscall_made g c t) }
@@ -114,15 +115,15 @@ pub fn syscalls_leave_devices_alone()
 {}
 
 /// A chain of steps changes devices only by loads from addresses that the chosen task may read, and
-/// stores to those that it may write.
+/// by stores to addresses that it may write.
 pub fn chains_reach_devices_where_they_may()
     ensures { (g : Setup) (s : State) (c : ℕ) (u v : Turn) → ArePlaced g s.memory →
         Chain (Step g s c) u v → AreReached g c u.state.devices v.state.devices }
 {}
 
 /// A chain of steps leaves a sane state sane, changes no turn and no time, and makes at most one
-/// call. It takes back no note; where it adds none, each task is as ready as before. A step notes
-/// at most four, and a restart two for each task besides.
+/// call. It removes no note. If it adds none, each task is as ready as before. A step makes at most
+/// four notes, and a restart two more for each task.
 pub fn chains_keep_what_steps_keep()
     ensures sane { (g : Setup) (s : State) (c : ℕ) (u v : Turn) → Chain (Step g s c) u v →
         Sane g u.state → Sane g v.state }
@@ -136,11 +137,10 @@ pub fn chains_keep_what_steps_keep()
         AreNoted (4 + 2 * length u.state.tasks) u v }
 {}
 
-/// Where nothing has happened in a turn yet, and a chain of steps follows: each byte is written on
-/// a ground where the chosen task may, what is read of a lease and of its entry is as memory grants
-/// it, no call is touched but those that were open or that the task offers, and the writes in order
-/// take the old memory to the new one. A call that is closed stays so, and nothing is written on
-/// its ground.
+/// A chain of steps at the beginning of a turn. Each byte is written on a ground that the chosen
+/// task has. What is read of a lease and of its entry is read as memory grants it. Only calls are
+/// touched that were open or that the task offers. The writes in order turn the old memory into the
+/// new one. A closed call stays closed, and nothing is written on its ground.
 pub fn chains_stand_on_their_grounds()
     ensures grounded { (g : Setup) (s : State) (c : ℕ) (u v : Turn) → ArePlaced g s.memory →
         Chain (Step g s c) u v → IsFresh s u → AreGrounded g s c v }
@@ -156,8 +156,8 @@ pub fn chains_stand_on_their_grounds()
         Chain (Step g s c) u v → IsFresh s u → IsClosed s k → IsSilent v k }
 {}
 
-/// What the notes so far say of the lives of calls stays so over a chain of steps, and gives the
-/// ledger.
+/// A chain of steps keeps the agreement between the notes so far and the lives of calls, and from
+/// it follows the ledger.
 pub fn chains_keep_the_ledger()
     ensures start { (g : Setup) → IsAsNoted [] (start g) }
     ensures as_noted { (g : Setup) (s : State) (c : ℕ) (old : List Note) (u v : Turn) →
@@ -166,7 +166,7 @@ pub fn chains_keep_the_ledger()
     ensures ledger { (notes : List Note) (s : State) → IsAsNoted notes s → IsLedger notes s }
 {}
 
-/// A post and a fault are noted.
+/// Each post and each fault is noted.
 pub fn posts_and_faults_are_noted()
     ensures posted { (i bits : ℕ) (t : Turn) → IsNoted (posted i bits t) }
     ensures faulted { (g : Setup) (i : ℕ) (fault : Fault) (t : Turn) →
@@ -182,14 +182,14 @@ pub fn events_keep_sane()
         Sane g (fed device byte t).state }
 {}
 
-/// The start of a run of a sound image is sane, and its counts are in order.
+/// The state at the start of a run of a sound image is sane, and its counts are in order.
 pub fn start_is_sane()
     ensures sane { (g : Setup) → IsSound g → Sane g (start g) }
     ensures counted { (g : Setup) → IsCounted (start g) }
 {}
 
-/// Effects leave the turn, the time, the number of tasks and the next call's number alone, and a
-/// call raises that number by at most one; so the counts are in order after each turn.
+/// Effects do not change the turn, the time, the number of tasks or the number of the next call. A
+/// system call raises that number by at most one. So the counts are in order after each turn.
 pub fn counts_stay_in_order()
     ensures noted { (n : Note) (t : Turn) → IsSameTime t.state (noted n t).state }
     ensures processor { (i : ℕ) (registers : List ℕ) (flags : Flags) (t : Turn) →
@@ -211,9 +211,9 @@ pub fn counts_stay_in_order()
         IsCounted record u { turn = u.turn + 1 } }
 {}
 
-/// A task that is ready waits for nothing, and stays so where neither it nor its waiting changes,
-/// as by a note, by a store and where another task becomes current. What waits for nothing does so
-/// after results are given, after a post, and where a timer or a line changes.
+/// A ready task waits for nothing. It goes on waiting for nothing if neither the task nor its wait
+/// changes: after a note, a store, or the choice of another current task. It also does after
+/// results are given, after a post, and after a change of a timer or a line.
 pub fn ready_waits_for_nothing()
     ensures idle { (s : State) (i : ℕ) → is_ready s i ≡ true → IsIdle s i }
     ensures ready_same { (i : ℕ) (s u : State) → IsSameAt i s u → is_ready s i ≡ true →
@@ -234,8 +234,8 @@ pub fn ready_waits_for_nothing()
         IsIdle (with_line k line t).state i }
 {}
 
-/// What a region gives that is no device lies in flash or RAM, and in RAM where it may be written;
-/// bytes in a row, each in memory, lie in one of the two.
+/// The bytes of a region that is not a device lie in flash or RAM, and in RAM if they may be
+/// written. Consecutive bytes that all lie in memory lie in one of the two.
 pub fn given_bytes_lie_in_memory()
     ensures byte { (g : Setup) (m : Memory) (i : ℕ) (right : Right) (a : ℕ) → ArePlaced g m →
         may_copy (setup_at g i).regions right a ≡ true → IsWithin m a 1 }
@@ -247,13 +247,13 @@ pub fn given_bytes_lie_in_memory()
         ((a : ℕ) → base ≤ a → a < base + n → IsWithinRam m a 1) → IsWithinRam m base n }
 {}
 
-/// The kernel knows nothing of the turn's number, which the board keeps.
+/// The kernel does not keep the number of the turn; the board does.
 pub fn turns_are_not_kept()
     ensures { (g : Setup) (k : Kernel) (t : Turn) (n : ℕ) → Holds g k t →
         Holds g k (changed (λ s. record s { turn = n }) t) }
 {}
 
-/// The kernel knows nothing of what was read.
+/// The kernel does not keep what was read.
 pub fn reads_are_not_kept()
     ensures { (g : Setup) (k : Kernel) (t : Turn) (r : Read) → Holds g k t →
         Holds g k (looked r t) }

@@ -1,5 +1,5 @@
 #![tactic(auto)]
-//! The tasks of the kernel, the memory that they share, and what may be done to a task.
+//! The tasks of the kernel, the memory that they share, and the operations on a task.
 
 pub mod dead_ids;
 mod effect;
@@ -24,7 +24,7 @@ pub use slot::{Found, FromId, Listening, OpenCall, Phase, Slice, Slot, Wait};
 pub use start::{LineStart, TaskStart};
 pub use task_set::TaskSet;
 
-/// How an interrupt line is.
+/// The state of an interrupt line.
 #[derive(Clone, Copy, Debug, PartialEq, Eq)]
 pub struct Line {
     pub enabled: bool,

@@ -12,17 +12,18 @@ use crate::start::TaskStart;
 use crate::task_set::TaskSet;
 use std::alloc::{AllocError, Global};
 
-/// The tasks by priority number, those of one number by index. Sets of tasks are sets of places in
-/// this order, so that the least place of a set is a task of the lowest priority number.
+/// The tasks by priority number, and tasks with the same number by index. Sets of tasks are sets of
+/// places in this order, so the least place of a set is that of a task with its lowest priority
+/// number.
 #[derive(Drop)]
 pub struct Order {
-    /// For each place 1024 times the priority number, and the index of the task.
+    /// For each place the key of its task: 1024 times the priority number, plus the index.
     keys: Vec<u32>,
-    /// For each task its place.
+    /// The place of each task.
     places: Vec<u16>,
 }
 
-/// The keys of tasks of these priority numbers, in order.
+/// The keys of tasks with these priority numbers, in ascending order.
 fn keys_of(alloc: Global, priorities: &[u8]) -> Result<Vec<u32>, AllocError>
     requires { length priorities.now ≤ 1024 }
     ensures permutation { IfOk result (λ v. IsPermutation (keyed 0 priorities.now) v.items) }
@@ -36,7 +37,7 @@ fn keys_of(alloc: Global, priorities: &[u8]) -> Result<Vec<u32>, AllocError>
     Ok(keys)
 }
 
-/// The place of each task, by the keys in their order.
+/// The place of each task, from the ascending keys.
 fn places_of(alloc: Global, keys: &[u32]) -> Result<Vec<u16>, AllocError>
     requires few { length keys.now ≤ 1024 }
     requires below { All (λ k. k % 1024 < length keys.now) keys.now }
@@ -84,8 +85,8 @@ fn place_of(keys: &[u32], key: u32) -> usize
     }
 }
 
-/// The key of the first task of a set from a place on that has this priority number, or else
-/// another key.
+/// The key of the first task of a set from a place on, if it has this priority number; else another
+/// key.
 #[inline(always)]
 fn key_from(keys: &[u32], among: &TaskSet, place: usize, priority: u32, other: u32) -> u32
     requires inside { (p : ℕ) → has among.now.words p ≡ true → p < length keys.now }
@@ -111,7 +112,7 @@ impl Order {
     ///
     /// # Errors
     ///
-    /// Only want of memory.
+    /// Only if memory runs out.
     pub fn of(alloc: Global, priorities: &[u8]) -> Result<Order, AllocError>
         requires { length priorities.now ≤ 1024 }
         ensures { IfOk result (λ o. AreOrdered priorities.now o.keys.items o.places.items) }
@@ -130,7 +131,7 @@ impl Order {
         usize::from(self.places[task])
     }
 
-    /// The least place whose key is at least this one. Mostly it is the place of this task.
+    /// The least place whose key is at least this one. Most often it is the place of this task.
     #[inline(always)]
     fn place_at(&self, key: u32, task: usize) -> usize
         ensures { (priorities : List ℕ) →
@@ -150,7 +151,8 @@ impl Order {
     }
 }
 
-/// Of the tasks of a set that have its lowest priority number the first from a task on, cyclically.
+/// The first task, cyclically from a task on, among those of a set that have its lowest priority
+/// number.
 pub fn first_around(order: &Order, among: &TaskSet, from: usize) -> Option<usize>
     requires few { from < 1024 }
     requires inside { (p : ℕ) → has among.now.words p ≡ true → p < length order.now.keys.items }

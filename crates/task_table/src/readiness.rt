@@ -1,4 +1,4 @@
-//! Which tasks are ready, and lists of sets of which a task is in one at most, as those of the
+//! Which tasks are ready; and lists of sets in which a task is in at most one set, such as the
 //! clients of each server.
 
 ghost use Rattle.std.specs.Prelude.{◌≡◌, ◌<◌, ◌≤◌, ◌&&◌, ◌==◌, ℕ, false, length, IfOk, if◌then◌else◌, slice_index_or};
@@ -13,7 +13,7 @@ use crate::slot::Slot;
 use crate::task_set::TaskSet;
 use std::alloc::{AllocError, Global};
 
-/// The tasks that are ready where this is kept of them, by their places.
+/// The tasks that are ready by their slots, as a set of their places.
 pub(crate) fn ready_tasks(slots: &[Slot], order: &Order) -> TaskSet
     requires few { length slots.now ≤ most_tasks }
     requires places { ArePlaces (length slots.now) order.now.places.items }
@@ -26,7 +26,7 @@ pub(crate) fn ready_tasks(slots: &[Slot], order: &Order) -> TaskSet
     ready
 }
 
-/// So many empty sets.
+/// `count` empty sets.
 pub(crate) fn empty_sets(alloc: Global, count: usize) -> Result<Vec<TaskSet>, AllocError>
     ensures count { IfOk result (λ sets. length sets.items ≡ count) }
     ensures empty { IfOk result (λ sets. (k i : ℕ) (d : TaskSet) → k < length sets.items →
@@ -39,8 +39,8 @@ pub(crate) fn empty_sets(alloc: Global, count: usize) -> Result<Vec<TaskSet>, Al
     Ok(sets)
 }
 
-/// Which tasks are ready once the one at a place is so from now on, of which it was known whether
-/// it was ready.
+/// Updates the set of ready tasks for the task at a place: whether it was ready before, and whether
+/// it is ready after.
 pub(crate) fn follow_readiness(ready: &mut TaskSet, place: usize, before: bool, after: bool)
     requires small { place < most_tasks }
     requires before { has ready.old.words place ≡ before }
@@ -52,7 +52,7 @@ pub(crate) fn follow_readiness(ready: &mut TaskSet, place: usize, before: bool, 
     }
 }
 
-/// Puts a task into the set with a number, or takes it out, where there is such a set.
+/// Puts a task into the set with a number, or takes it out of it, if there is such a set.
 fn set_member(sets: &mut [TaskSet], number: Option<usize>, task: usize, member: bool)
     requires { task < most_tasks }
     ensures count { length sets.new ≡ length sets.old }
@@ -68,8 +68,8 @@ fn set_member(sets: &mut [TaskSet], number: Option<usize>, task: usize, member: 
     }
 }
 
-/// The sets once a task, by its place or its index, is in the one with this number, or in none, of
-/// which it was known in which it was.
+/// Moves a task, given by its place or its index, from the set that it was in to the set with
+/// another number. None is no set.
 pub(crate) fn move_member(
     sets: &mut [TaskSet],
     task: usize,

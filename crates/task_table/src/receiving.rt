@@ -20,7 +20,7 @@ impl Kernel {
     ghost use Rattle.task_table.specs.kept.Frames.{AddsNotes, AddsAtMost};
     ghost use Rattle.task_table.specs.kept.Messages.{from_of, listening, IsListened, IsReceivable};
 
-    /// The call that a client offers to a server, where it does.
+    /// The call that a client offers to a server, if there is one.
     pub fn offered(&self, client: usize, server: usize) -> Option<OpenCall>
         requires { client < task_count self.now }
         ensures { (g : Setup) (t : Turn) → Stands g self.now t →
@@ -30,7 +30,7 @@ impl Kernel {
         slot.wait.offered_to(server)
     }
 
-    /// The call of a client that a server has taken, where it has.
+    /// The call of a client that a server has taken, if there is one.
     pub fn taken(&self, client: usize, server: usize) -> Option<OpenCall>
         requires { client < task_count self.now }
         ensures { (g : Setup) (t : Turn) → Stands g self.now t →
@@ -40,7 +40,7 @@ impl Kernel {
         slot.wait.taken_by(server)
     }
 
-    /// The first byte of a range that may not be copied for a task, where there is one.
+    /// The first byte of a range that may not be copied for a task, if there is one.
     pub fn bad_byte(&self, task: usize, right: Right, base: u32, len: u32) -> Option<u32>
         requires { base + len ≤ 2 ^ 32 }
         ensures { (g : Setup) (t : Turn) → Holds g self.now t →
@@ -62,8 +62,8 @@ impl Kernel {
         self.fault(task, Fault::access(at, access));
     }
 
-    /// A caller takes its posted bits under a mask, which are cleared, and goes on: r4 is 0, r5
-    /// 0xFFFF, r6 those bits, r7 to r9 are 0 (Hubris Reference, on notifications).
+    /// A caller takes its posted bits under a mask, which are then cleared, and goes on: r4 is 0,
+    /// r5 is 0xFFFF, r6 has those bits, and r7 to r9 are 0 (Hubris Reference, on notifications).
     pub fn take_bits(&mut self, task: usize, mask: u32)
         requires there { task < task_count self.old }
         requires room { note_count self.old < turn_notes }
@@ -85,7 +85,7 @@ impl Kernel {
         TaskId::new(task as u16, self.generation(task))
     }
 
-    /// Whom a task hears that listens so.
+    /// Whose messages a task listens for, by id.
     fn from_id(&self, from: FromIndex) -> FromId
         requires { IsListened (task_count self.now) from }
         ensures { (g : Setup) (t : Turn) → Holds g self.now t →
@@ -98,7 +98,8 @@ impl Kernel {
         }
     }
 
-    /// A task that waits for nothing listens by its registers.
+    /// A task that waits for nothing starts to listen, with the buffer and the mask of its
+    /// registers.
     fn start_listening(&mut self, task: usize, from: FromIndex)
         requires there { task < task_count self.old }
         requires whom { IsListened (task_count self.old) from }
@@ -136,7 +137,7 @@ impl Kernel {
         self.start_listening(task, from);
     }
 
-    /// The call of a client is taken from now on, if it has one.
+    /// Marks the call of a client as taken, if it has one.
     fn take(&mut self, client: usize)
         requires { client < task_count self.old }
         ensures holds { (g : Setup) (t : Turn) → Holds g self.old t →
@@ -183,9 +184,9 @@ impl Kernel {
     }
 
     /// A caller goes past its system call and takes the call that a client offers to it, with as
-    /// much of the message as fits into the buffer of its registers r4 and r5: r4 is 0, r5 the
-    /// client's id, r6 the operation, r7 the message's length, r8 the room for a reply, r9 the
-    /// number of leases (Hubris Reference, on RECV).
+    /// much of the message as fits into the buffer of its registers r4 and r5. Then r4 is 0, r5 the
+    /// client's id, r6 the operation, r7 the length of the message, r8 the length of the buffer for
+    /// the reply, and r9 the number of leases (Hubris Reference, on RECV).
     pub fn receive(&mut self, server: usize, client: usize, call: &OpenCall)
         requires there { server < task_count self.old }
         requires client { client < task_count self.old }

@@ -1,5 +1,5 @@
-//! What SEND, REPLY and REPLY_FAULT do to two tasks: a call is offered, and taken at once where its
-//! server listens for it; it is answered, or its client is faulted.
+//! What SEND, REPLY and REPLY_FAULT do to two tasks. A call is offered, and taken at once if its
+//! server listens for it. Later it is answered, or its client is faulted.
 
 use crate::kernel::Kernel;
 use crate::slot::{OpenCall, Phase, Slice, Wait};
@@ -18,7 +18,7 @@ impl Kernel {
     ghost use Rattle.task_table.specs.kept.Frames.{AddsNotes, AddsAtMost};
     ghost use Rattle.task_table.specs.kept.Messages.{buffer_for, IsSending, IsReplying};
 
-    /// The buffer of a server that listens for a message of a client.
+    /// The buffer of a server, if it listens for a message of a client.
     fn buffer_for(&self, server: usize, client: usize) -> Option<Slice>
         requires server { server < task_count self.now }
         requires client { client < task_count self.now }
@@ -66,7 +66,7 @@ impl Kernel {
             k.server.index ≡ server → Holds g self.new (offered k t) }
         ensures frame { AddsNotes self.old 1 self.new }
     {
-        // Nothing is written between the slot's read and its write.
+        // Nothing is written between reading the slot and writing it.
         self.use_number();
         let mut slot = self.slot(client);
         slot.wait = Wait::Call(*call);
@@ -101,9 +101,9 @@ impl Kernel {
         }
     }
 
-    /// A caller answers the call of a client that it has taken, and goes on: the client gets the
-    /// reply, in r4 the response code and in r5 the reply's length, and its call is closed (Hubris
-    /// Reference, on REPLY).
+    /// A caller answers the call of a client that it has taken, and goes on. The client gets the
+    /// reply, the response code in r4 and the length of the reply in r5, and its call is closed
+    /// (Hubris Reference, on REPLY).
     pub fn hand_reply(&mut self, caller: usize, client: usize, call: &OpenCall, args: &ReplyArgs)
         requires there { caller < task_count self.old }
         requires client { client < task_count self.old }
@@ -121,7 +121,7 @@ impl Kernel {
         self.go_on(caller);
     }
 
-    /// A caller faults the client of a call that it has taken, and goes on: the fault tells the
+    /// A caller faults the client of a call that it has taken, and goes on. The fault has the
     /// caller's id and the reason (Hubris Reference, on REPLY_FAULT).
     pub fn reply_fault(&mut self, caller: usize, client: usize, reason: Reason)
         requires there { caller < task_count self.old }

@@ -1,4 +1,4 @@
-//! What is kept of a task, and what an id names.
+//! The slot of a task, and what an id names.
 
 ghost use Rattle.std.specs.Prelude.{◌≡◌};
 
@@ -16,7 +16,7 @@ impl Slice {
     ghost use Rattle.std.specs.Prelude.{◌≡◌};
     ghost use Rattle.task_table.specs.model.Reading.{is_valid};
 
-    /// Whether it ends inside the address space.
+    /// Whether the range ends inside the address space.
     pub fn is_valid(&self) -> bool
         ensures { result ≡ is_valid self.now }
     {
@@ -29,12 +29,12 @@ impl Slice {
 pub enum Phase {
     /// Its server has not taken it yet.
     Offered,
-    /// Its server has taken it, and is to reply.
+    /// Its server has taken it, and has to reply.
     Taken,
 }
 
-/// A call that is open, as its client made it, with the ids that client and server had then: the
-/// message, the room for the reply, and the lease table of so many leases (Hubris Reference, on
+/// An open call, as its client made it, with the ids that client and server had then: the message,
+/// the buffer for the reply, and the lease table with its number of leases (Hubris Reference, on
 /// SEND).
 #[derive(Clone, Copy, Debug, PartialEq, Eq)]
 pub struct OpenCall {
@@ -53,14 +53,14 @@ impl OpenCall {
     ghost use Rattle.std.specs.Prelude.{◌≡◌};
     ghost use Rattle.task_table.specs.kept.Holds.{is_offer_to, is_taken_at};
 
-    /// Whether it is offered to the server with this index.
+    /// Whether the call is offered to the server with this index.
     pub fn is_offered_to(&self, index: usize) -> bool
         ensures { result ≡ is_offer_to self.now index }
     {
         usize::from(self.server.index()) == index && self.phase == Phase::Offered
     }
 
-    /// Whether the server with this index has taken it.
+    /// Whether the server with this index has taken the call.
     pub fn is_taken_by(&self, index: usize) -> bool
         ensures { result ≡ is_taken_at self.now index }
     {
@@ -71,11 +71,11 @@ impl OpenCall {
 /// Whose message a task listens for.
 #[derive(Clone, Copy, Debug, PartialEq, Eq)]
 pub enum FromId {
-    /// Any task's.
+    /// A message of any task.
     Any,
-    /// None: for notifications alone.
+    /// No message: only notifications.
     Kernel,
-    /// That of the task with this id.
+    /// A message of the task with this id.
     One(TaskId),
 }
 
@@ -84,7 +84,7 @@ impl FromId {
     ghost use Rattle.task_table.specs.kept.Waits.{is_one};
     ghost use Rattle.task_table.specs.kept.Holds.{hears};
 
-    /// Whether it is the task with this index.
+    /// Whether it is only the task with this index.
     pub fn is_one(&self, index: usize) -> bool
         ensures { result ≡ is_one self.now index }
     {
@@ -94,7 +94,7 @@ impl FromId {
         }
     }
 
-    /// Whether a message of the task with this id is listened for.
+    /// Whether a task that listens like this accepts a message of the task with this id.
     pub fn hears(self, client: TaskId) -> bool
         ensures { result ≡ hears self client }
     {
@@ -106,7 +106,7 @@ impl FromId {
     }
 }
 
-/// What a task listens for: a message, for which it has a buffer, or a notification under its mask
+/// What a task listens for: a message, which goes into its buffer, or a notification under its mask
 /// (Hubris Reference, on RECV).
 #[derive(Clone, Copy, Debug, PartialEq, Eq)]
 pub struct Listening {
@@ -118,11 +118,11 @@ pub struct Listening {
 /// What a task waits for.
 #[derive(Clone, Copy, Debug, PartialEq, Eq)]
 pub enum Wait {
-    /// For nothing.
+    /// Nothing.
     Nothing,
-    /// For the end of its call.
+    /// The end of its call.
     Call(OpenCall),
-    /// For a message or a notification.
+    /// A message or a notification.
     Listen(Listening),
 }
 
@@ -132,7 +132,7 @@ impl Wait {
     ghost use Rattle.task_table.specs.kept.Waits.{is_to_in, awaits_in};
     ghost use Rattle.task_table.specs.kept.Readiness.{server_in};
 
-    /// The call for whose end it is.
+    /// The call that the task waits to end, if any.
     pub fn call(&self) -> Option<OpenCall>
         ensures { result ≡ call_in self.now }
     {
@@ -142,7 +142,7 @@ impl Wait {
         }
     }
 
-    /// What the task listens for.
+    /// What the task listens for, if it listens.
     pub fn listen(&self) -> Option<Listening>
         ensures { result ≡ listen_in self.now }
     {
@@ -152,7 +152,7 @@ impl Wait {
         }
     }
 
-    /// The call, where it is offered to the server with this index.
+    /// The call, if it is offered to the server with this index.
     pub fn offered_to(&self, index: usize) -> Option<OpenCall>
         ensures { result ≡ offered_in self.now index }
     {
@@ -168,7 +168,7 @@ impl Wait {
         }
     }
 
-    /// The index of the server to which its call is offered, where there is one.
+    /// The index of the server to which the call is offered, if there is one.
     pub fn server(&self) -> Option<usize>
         ensures { result ≡ server_in self.now }
     {
@@ -181,7 +181,7 @@ impl Wait {
         }
     }
 
-    /// Whether it is for the end of a call to the task with this index.
+    /// Whether the task waits for the end of a call to the task with this index.
     pub fn is_to(&self, index: usize) -> bool
         ensures { result ≡ is_to_in self.now index }
     {
@@ -191,7 +191,7 @@ impl Wait {
         }
     }
 
-    /// Whether it is for a message of the task with this index alone.
+    /// Whether the task waits for a message of only the task with this index.
     pub fn awaits(&self, index: usize) -> bool
         ensures { result ≡ awaits_in self.now index }
     {
@@ -201,7 +201,7 @@ impl Wait {
         }
     }
 
-    /// The call, where the server with this index has taken it.
+    /// The call, if the server with this index has taken it.
     pub fn taken_by(&self, index: usize) -> Option<OpenCall>
         ensures { result ≡ taken_in self.now index }
     {
@@ -217,7 +217,7 @@ impl Wait {
         }
     }
 
-    /// The buffer for a message of the client with this id, where the task listens for one.
+    /// The buffer for a message of the client with this id, if the task listens for one.
     pub fn buffer_for(&self, client: TaskId) -> Option<Slice>
         ensures { result ≡ buffer_in self.now client }
     {
@@ -233,7 +233,7 @@ impl Wait {
         }
     }
 
-    /// The same once its call is taken.
+    /// The same wait after its call is taken.
     pub fn once_taken(self) -> Wait
         ensures { result ≡ taken_wait self }
     {
@@ -247,7 +247,7 @@ impl Wait {
     }
 }
 
-/// What is kept of a task and may change.
+/// The slot of a task: all that the kernel keeps of it and that may change.
 #[derive(Clone, Copy)]
 pub struct Slot {
     pub generation: Generation,

@@ -1,4 +1,5 @@
-//! What an image says of a task and of an interrupt line, and what is kept of a task at first.
+//! What an image says of a task and of an interrupt line, and the slot of a task at its first
+//! birth.
 
 ghost use Rattle.std.specs.Prelude.{◌≡◌, ◌<◌, IfOk, map, length, if◌then◌else◌};
 ghost use Rattle.kernel_abi.specs.declared.Health.TheVariants.{Well, Stopped};
@@ -14,8 +15,8 @@ use region_check::Region;
 use std::alloc::{AllocError, Global};
 use words_core::Flags;
 
-/// What an image says of a task: its priority number, of which a lower one goes first, whether it
-/// is started, its PC (bit 0 counts for nothing) and SP at birth, and the bytes that it may use.
+/// What an image says of a task: its priority number (a task with a lower one goes first), whether
+/// it is started, its PC (bit 0 has no meaning) and SP at birth, and the bytes that it may use.
 #[derive(Drop)]
 pub struct TaskStart {
     pub priority: u8,
@@ -25,7 +26,7 @@ pub struct TaskStart {
     pub regions: Vec<Region>,
 }
 
-/// The task that owns an interrupt line, and the bits that it is posted.
+/// The task that owns an interrupt line, and the bits that are posted to it.
 #[derive(Clone, Copy, Debug, PartialEq, Eq)]
 pub struct LineStart {
     pub line: u8,
@@ -33,7 +34,7 @@ pub struct LineStart {
     pub bits: u32,
 }
 
-/// The same once more.
+/// A copy.
 fn copy_of(alloc: Global, task: &TaskStart) -> Result<TaskStart, AllocError>
     ensures { IfOk result (λ x. task_setup x ≡ task_setup task.now) }
 {
@@ -46,7 +47,7 @@ fn copy_of(alloc: Global, task: &TaskStart) -> Result<TaskStart, AllocError>
     })
 }
 
-/// The same tasks once more.
+/// A copy of the tasks.
 pub(crate) fn copies_of(alloc: Global, tasks: &[TaskStart]) -> Result<Vec<TaskStart>, AllocError>
     ensures setup { IfOk result (λ xs. map task_setup xs.items ≡ map task_setup tasks.now) }
     ensures length { IfOk result (λ xs. length xs.items ≡ length tasks.now) }
@@ -58,7 +59,7 @@ pub(crate) fn copies_of(alloc: Global, tasks: &[TaskStart]) -> Result<Vec<TaskSt
     Ok(copies)
 }
 
-/// How a task is once it is born: well where it is started, else stopped.
+/// The health of a task at birth: well if it is started, else stopped.
 fn birth_health(started: bool) -> Health
     ensures { result ≡ (if started then Well else Stopped) }
 {
@@ -69,7 +70,7 @@ fn birth_health(started: bool) -> Health
     }
 }
 
-/// What is kept of a task that is born, at this generation.
+/// The slot of a task at a birth with this generation.
 pub(crate) fn birth_slot(task: &TaskStart, generation: Generation, started: bool) -> Slot
     requires { generation.number < 64 }
     ensures { result ≡ packed_task (at_birth (task_setup task.now) generation.number
@@ -109,14 +110,14 @@ pub(crate) fn birth_slot(task: &TaskStart, generation: Generation, started: bool
     }
 }
 
-/// What is kept of a task at its first birth.
+/// The slot of a task at its first birth.
 fn first_slot(task: &TaskStart) -> Slot
     ensures { result ≡ packed_task (born (task_setup task.now)) Nothing }
 {
     birth_slot(task, Generation { number: 0 }, task.started)
 }
 
-/// What is kept of each task at its first birth.
+/// The slot of each task at its first birth.
 pub(crate) fn first_slots(alloc: Global, tasks: &[TaskStart]) -> Result<Vec<Slot>, AllocError>
     ensures { IfOk result (λ xs. xs.items ≡ map (λ x. packed_task (born (task_setup x)) Nothing)
         tasks.now) }

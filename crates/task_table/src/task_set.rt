@@ -1,6 +1,6 @@
-//! Sets of tasks, as sets of their places in the order of the tasks, or of their indices: bit p %
-//! 32 of word p / 32 tells whether the task at place p is in the set, and bit w of the summary
-//! whether word w has any.
+//! Sets of tasks, as sets of their places in the order of the tasks, or of their indices. Bit p %
+//! 32 of word p / 32 says whether the task at place p is in the set. Bit w of the summary says
+//! whether word w has a bit that is set.
 
 ghost use Rattle.std.specs.Prelude.{◌≡◌, length};
 ghost use Rattle.task_table.specs.kept.Limits.{task_words};
@@ -8,8 +8,8 @@ ghost use Rattle.task_table.specs.kept.TaskSets.{IsSummary};
 
 use crate::limits::TASK_WORDS;
 
-/// Some of the tasks of an application, by their places in its `Order` or by their indices. The
-/// summary makes each search one of two words, however many there are.
+/// Some of the tasks of an application, by their places in its `Order` or by their indices. With
+/// the summary each search looks at a fixed number of words, however many there are.
 #[derive(Clone, Copy)]
 pub struct TaskSet {
     words: [u32; TASK_WORDS],
@@ -66,7 +66,7 @@ impl TaskSet {
         }
     }
 
-    /// The task at a place is in the set from now on, or not.
+    /// Puts the task at a place into the set, or takes it out.
     #[inline(always)]
     pub fn set(&mut self, place: usize, member: bool)
         requires { place < most_tasks }
@@ -88,7 +88,7 @@ impl TaskSet {
         self.first_from(0).is_none()
     }
 
-    /// The least place at or above this one whose task is in the set, where there is one.
+    /// The least place at or above this one whose task is in the set, if there is one.
     #[inline(always)]
     pub fn first_from(&self, place: usize) -> Option<usize>
         ensures { IsFirstFrom self.now.words place result }
@@ -103,7 +103,7 @@ impl TaskSet {
         }
     }
 
-    /// The least place of the set in a word after this one, where there is one.
+    /// The least place of the set in a word after this one, if there is one.
     #[inline(always)]
     fn first_after(&self, word: usize) -> Option<usize>
         requires { word < task_words }
@@ -115,7 +115,7 @@ impl TaskSet {
         }
     }
 
-    /// Whether the same tasks are in both.
+    /// Whether both sets have the same tasks.
     #[inline(always)]
     pub fn is_same(&self, other: &TaskSet) -> bool
         ensures same { result ≡ true → (i : ℕ) → has self.now.words i ≡ has other.now.words i }
@@ -136,7 +136,7 @@ impl TaskSet {
 ghost use Rattle.std.specs.Prelude.{◌∷◌, [], ◌≢◌, ◌<◌, ℕ, Some, IfSome};
 ghost use Rattle.task_table.specs.kept.TaskSets.{IsFirstFrom, IsUsed};
 
-/// The least bit of a word at or above one, where there is one.
+/// The least set bit of a word at or above a position, if there is one.
 #[inline(always)]
 fn first_bit_from(bits: u32, from: usize) -> Option<usize>
     requires { from < 32 }
@@ -151,7 +151,7 @@ fn first_bit_from(bits: u32, from: usize) -> Option<usize>
     }
 }
 
-/// The least bit of a word that has one.
+/// The least set bit of a word that is not 0.
 #[inline(always)]
 fn lowest_bit(bits: u32) -> usize
     requires { bits ≢ 0 }
@@ -161,7 +161,7 @@ fn lowest_bit(bits: u32) -> usize
     bits.trailing_zeros() as usize
 }
 
-/// So many words of a set with this summary may have a bit.
+/// How many words, from the first one on, may have a set bit, by the summary of the set.
 #[inline(always)]
 fn used_words(summary: u32) -> usize
     ensures { IsUsed summary result }

@@ -10,7 +10,7 @@ use Rattle.std.specs.List.{list_all}
 abbrev pub fitted : Bool → ℕ → ℕ → Option ℕ
 fitted b n max = if b && nat_le n max then Some n else None
 
--- a number so far, and the digits behind it
+-- the value of the digits read so far, and the digits that follow
 abbrev pub so_far : (ℕ → Bool) → ℕ → ℕ → List ℕ → ℕ → Option ℕ
 so_far p base value rest max = fitted (list_all p rest) (value * base ^ length rest + value_in base rest) max
 

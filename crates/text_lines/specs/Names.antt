@@ -1,4 +1,4 @@
--- What a name is: of a task, a notification, a region or a device.
+-- The names that tasks, notifications, regions and devices may have.
 use Rattle.std.specs.Prelude.{ℕ, Bool, List, ◌&&◌, ◌||◌, ◌==◌, length, nat_le, nat_lt}
 use Rattle.std.specs.List.{list_all, slice_index_or}
 

@@ -1,10 +1,10 @@
--- The lines of a text, and the numbers that pieces of text are. A text is a list of bytes.
+-- The lines of a text, and the numbers that pieces of text spell. A text is a list of bytes.
 use Rattle.std.specs.Prelude.{◌≡◌, ◌<◌, ℕ, ◌+◌, ◌-◌, ◌*◌, ◌^◌, Bool, false, nat_eq, nat_lt, nat_le, if◌then◌else◌, List, [], ◌∷◌, ◌++◌, length, slice_index, Option, Some, None, ◌&&◌, ◌||◌}
 use Rattle.std.specs.List.{list_all}
 
 -- Lines.
 
--- a byte in front of the first line; alone it is a line
+-- the lines with a byte put in front of the first one; if there are no lines, the byte is a line by itself
 abbrev pub with_first : ℕ → List (List ℕ) → List (List ℕ)
 with_first c [] = (c ∷ []) ∷ []
 with_first c (l ∷ ls) = (c ∷ l) ∷ ls
@@ -25,13 +25,13 @@ lines_of (c ∷ cs) =
 abbrev pub HasNoLf : List ℕ → Type 0
 HasNoLf piece = (k : ℕ) → k < length piece → slice_index piece k ≡ 10 → ⊥
 
--- a piece of text without a CR at its end
+-- a piece of text without the CR at its end, if it has one
 unfoldable pub without_cr : List ℕ → List ℕ
 without_cr [] = []
 without_cr (c ∷ []) = if nat_eq c 13 then [] else c ∷ []
 without_cr (c ∷ d ∷ ds) = c ∷ without_cr (d ∷ ds)
 
--- Lines, as one reads them: up to an LF, and the last one to the end of the text.
+-- Where lines end: each at an LF, and the last one at the latest at the end of the text.
 abbrev pub FirstLineEnds : Type 0
 FirstLineEnds = (line rest : List ℕ) → HasNoLf line → lines_of (line ++ 10 ∷ rest) ≡ without_cr line ∷ lines_of rest
 
@@ -58,7 +58,7 @@ is_hex c = is_digit c || is_between 97 102 c || is_between 65 70 c
 abbrev pub digit : ℕ → ℕ
 digit c = if nat_le c 57 then c - 48 else if nat_le c 70 then c - 55 else c - 87
 
--- the value of digits in a base: each counts by the power of its place
+-- the value of digits in a base: each digit times the power of the base that belongs to its position
 unfoldable pub value_in : ℕ → List ℕ → ℕ
 value_in base [] = 0
 value_in base (c ∷ cs) = digit c * base ^ length cs + value_in base cs

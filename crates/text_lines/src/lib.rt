@@ -1,4 +1,4 @@
-//! The lines of a text, and the numbers and names that pieces of it are (docs/FORMATS.md,
+//! Cuts a text into lines, and reads numbers and names from pieces of text (docs/FORMATS.md,
 //! Assembler, Script and Application).
 #![tactic(auto)]
 
@@ -44,15 +44,15 @@ impl<'a> Lines<'a> {
     }
 }
 
-/// The lines of a text are its pieces up to each LF, and what stands behind the last LF.
+/// Each LF ends a line of a text. The bytes after the last LF, if there are any, are the last line.
 pub fn lines_end_at_line_feeds()
     ensures first { FirstLineEnds }
     ensures last { LastLineEnds }
     ensures none { NothingHasNoLine }
 {}
 
-/// The value of a piece of text that is one or more decimal digits, where it is at most `max`;
-/// otherwise `None`.
+/// The value of a piece of text that consists of one or more decimal digits, if the value is at
+/// most `max`; otherwise `None`.
 pub fn number(piece: &[u8], max: u64) -> Option<u64>
     ensures { result ≡ number_of piece.now max }
 {
@@ -72,8 +72,8 @@ pub fn number(piece: &[u8], max: u64) -> Option<u64>
     Some(value)
 }
 
-/// The value of a piece of text that is one or more hexadecimal digits of either case, without
-/// `0x`, where it is below 2^32; otherwise `None`.
+/// The value of a piece of text that consists of one or more hexadecimal digits of either case,
+/// without `0x`, if the value is below 2^32; otherwise `None`.
 pub fn hex_number(digits: &[u8]) -> Option<u32>
     ensures { result ≡ hex_number_of digits.now }
 {
@@ -107,7 +107,7 @@ fn cut(text: &[u8]) -> (&[u8], &[u8])
     }
 }
 
-/// Where the first LF stands, or the length.
+/// The index of the first LF, or the length if there is none.
 fn line_end(text: &[u8]) -> usize
     ensures within { result ≤ length text.now }
     ensures before { (k : ℕ) → k < result → slice_index text.now k ≡ 10 → ⊥ }
@@ -158,7 +158,7 @@ fn digit(c: u8) -> u64
     }
 }
 
-/// A number with one more digit behind it, where that is at most `max`.
+/// The number with one more digit at its end, if that is at most `max`; otherwise `None`.
 fn grown(value: u64, base: u64, digit: u64, max: u64) -> Option<u64>
     ensures { result ≡ (if nat_le (value * base + digit) max then Some (value * base + digit) else
         None) }

@@ -9,19 +9,19 @@ use Rattle.thumb_asm.specs.Chars.{is_allowed, is_blank, is_nil, strip_front, str
 use Rattle.thumb_asm.specs.Parts.{before, after, pieces}
 use Rattle.thumb_asm.specs.Operands.{closed_by, ◌>>=◌}
 
--- no blank
+-- a byte that is not a blank
 abbrev pub is_visible : ℕ → Bool
 is_visible c = not (is_blank c)
 
--- no quote, colon or semicolon
+-- a byte that is not a quote, a colon or a semicolon
 abbrev pub is_unmarked : ℕ → Bool
 is_unmarked c = not (nat_eq c 34 || nat_eq c 58 || nat_eq c 59)
 
--- a byte that a line may have, and none of these
+-- a byte that a line may have, and that is none of these
 abbrev pub is_plain : ℕ → Bool
 is_plain c = is_allowed c && is_unmarked c
 
--- no bracket or brace
+-- a byte that is not a bracket or a brace
 abbrev pub is_flat : ℕ → Bool
 is_flat c = not (nat_eq c 91 || nat_eq c 93 || nat_eq c 123 || nat_eq c 125)
 
@@ -189,7 +189,7 @@ inner_pieces (c ∷ cs) rest h =
     let e = and_parts (is_inner c) (list_all is_inner cs) h in
     one_inner c (cs ++ rest) e.0 ∙ ap (with_first c) (inner_pieces cs rest e.1)
 
--- what stands in brackets
+-- the text in brackets
 abbrev pub framed : ℕ → List ℕ → ℕ → List ℕ
 framed left t right = left ∷ (t ++ (right ∷ []))
 
@@ -221,7 +221,7 @@ brace_pieces t rest h =
     ∙ ap (λ x. with_first 123 (pieces Outside 1 x)) (append_assoc t (125 ∷ []) rest)
     ∙ ap (with_first 123) (inner_pieces t (125 ∷ rest) h ∙ ap (with_text t) (closes_brace rest) ∙ sym (text_append t (125 ∷ []) (pieces Outside 0 rest)))
 
--- What stands before a mark that ends the text.
+-- The text before a mark that ends it.
 
 closed_more : (mark c : ℕ) (cs : List ℕ) → is_nil cs ≡ false → closed_by mark (c ∷ cs) ≡ (closed_by mark cs >>= λ front. Some (c ∷ front))
 unfolding closed_by
@@ -235,7 +235,7 @@ pub closed_framed : (mark : ℕ) (t : List ℕ) → nat_eq mark mark ≡ true �
 closed_framed mark [] h = closed_one mark h
 closed_framed mark (c ∷ cs) h = closed_more mark c (cs ++ (mark ∷ [])) (nil_append cs (mark ∷ []) refl) ∙ ap (λ o. o >>= λ front. Some (c ∷ front)) (closed_framed mark cs h)
 
--- no text of bytes that are no mark ends by one
+-- a text without marks does not end with one
 pub closed_none : (mark : ℕ) (t : List ℕ) → list_all (λ c. not (nat_eq c mark)) t ≡ true → closed_by mark t ≡ None
 unfolding closed_by
 closed_none mark [] h = refl

@@ -66,7 +66,7 @@ pub odd_cause : (at : ℕ) (r : Result Insn Cause) → (at % 2 ≡ 0 → ⊥) �
 odd_cause at (Ok i) h = let e : nat_eq (at % 2) 0 ≡ false = grind arith in rw e refl
 odd_cause at (Err c) h = let e : nat_eq (at % 2) 0 ≡ false = grind arith in rw e refl
 
--- an instruction that fits is the one that was asked
+-- an instruction that fits is the one that was asked for
 fits_is : (i j : Insn) (f : Option Fit) → fit_cause i f ≡ Ok j → i ≡ j
 fits_is i j None h = cc
 fits_is i j (Some fit.Register) h = cc
@@ -108,7 +108,7 @@ block_size : (n : Reg) (loads : Bool) (mask : ℕ) → insn_size (block_insn n l
 block_size n true mask = refl
 block_size n false mask = refl
 
--- how long the instruction of a statement is
+-- the size of the instruction of a statement
 pub held_size : (env : Env) (at : ℕ) (s : Held) → HoldsInsn s → (j : Insn) → insn_at env at (shape_of s) ≡ Ok j → shape_size at (shape_of s) ≡ insn_size j
 unfolding insn_at shape_size
 held_size env at (held.Fixed i) p j h = ap insn_size (fitting_is i j h)

@@ -115,13 +115,13 @@ unfolding split_by
 some_split mark [] = ([], ([], refl))
 some_split mark (c ∷ cs) = elim (nat_eq c mark) as (λ b. (x : List ℕ) × ((xs : List (List ℕ)) × (cond b ([] ∷ split_by mark cs) (with_first c (split_by mark cs)) ≡ x ∷ xs))) [ true ↦ ([], (split_by mark cs, refl)) | false ↦ with_some c (split_by mark cs) ]
 
--- three pieces are no memory operand
+-- three pieces are not a memory operand
 pub memory_long : (inner rest more base o : List ℕ) → stripped_by 44 inner ≡ base ∷ stripped_by 44 rest → stripped_by 44 rest ≡ o ∷ stripped_by 44 more → memory (stripped_by 44 inner) ≡ None
 memory_long inner rest more base o e f =
     let some = some_split 44 more in
     ap memory (e ∙ ap (λ t. base ∷ t) (f ∙ ap (λ t. o ∷ map strip t) some.1.1))
 
--- three pieces are no range
+-- three pieces are not a range
 pub ends_long : (piece rest more low top : List ℕ) → stripped_by 45 piece ≡ low ∷ stripped_by 45 rest → stripped_by 45 rest ≡ top ∷ stripped_by 45 more → ends (stripped_by 45 piece) ≡ None
 ends_long piece rest more low top e f =
     let some = some_split 45 more in

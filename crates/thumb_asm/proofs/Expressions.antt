@@ -13,7 +13,7 @@ use Rattle.thumb_asm.specs.Syntax.{Data, as_expression, expressions, values, sha
 use Rattle.thumb_asm.specs.Sizes.{shaped_by}
 use Rattle.thumb_asm.specs.Kinds.{is_expression, are_expressions}
 
--- no expression
+-- an operand that is not an expression
 abbrev IsOther : Option Operand → Type 0
 IsOther o = (o >>= as_expression) ≡ None
 
@@ -48,7 +48,7 @@ braces_other text = other_then (closed_by 125 text) (λ inner. register_list inn
 quotes_other : (text : List ℕ) → IsOther (in_quotes text)
 quotes_other text = other_then (text_of false text) (λ cs. Some (Quoted cs)) (λ cs. refl)
 
--- no expression, or the piece itself
+-- an operand that is not an expression, or that is the piece itself as an expression
 abbrev IsSelf : List ℕ → Option Operand → Type 0
 IsSelf piece o = is_some (o >>= as_expression) ≡ true → o ≡ Some (Expression piece)
 

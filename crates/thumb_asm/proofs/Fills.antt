@@ -1,4 +1,4 @@
--- Another value leaves an instruction's length.
+-- Another value does not change the size of an instruction.
 use Rattle.thumb_encode.specs.Codes.{insn_size}
 use Rattle.std.proofs.Common.{◌≡◌, ℕ, ℤ, pos, refl}
 use Rattle.thumb_insn.specs.declared.Insn.{Insn}

@@ -86,7 +86,7 @@ joined_more x y ys = append_assoc x (codes ", ") (joined (y ∷ ys))
 pub line_more : (name : List ℕ) (xs : List (List ℕ)) → line name xs ≡ name ++ (32 ∷ joined xs)
 line_more name xs = append_assoc name (codes " ") (joined xs)
 
--- a piece behind a blank
+-- a piece after a blank
 abbrev pub spaced : List (List ℕ) → List (List ℕ)
 spaced xs = map (λ y. 32 ∷ y) xs
 
@@ -178,7 +178,7 @@ named_shape : (q : Option Mnemonic) (rest : List ℕ) (os : List Operand) (s : S
 named_shape None rest os s e f = cc
 named_shape (Some m) rest os s e f = ap (λ z. checked (shaped_by m z)) e ∙ ap checked f
 
--- a line that is a shape without a label
+-- a line with a shape and no label
 pub record Line (text : List ℕ) (s : Shape) : Type 0 where
   pub plain : list_all is_plain text ≡ true
   pub short : length text ≤ 255
@@ -191,7 +191,7 @@ line_short name x xs n l h =
     let g : length (line name (x ∷ xs)) ≡ length name + length (32 ∷ joined (x ∷ xs)) = ap length (line_more name (x ∷ xs)) ∙ length-append name (32 ∷ joined (x ∷ xs)) in
     omega arith
 
--- a line of a word and operands, of which the word makes an accepted shape
+-- a line of a word and operands, which the word turns into an accepted shape
 pub line_shape : (name x : List ℕ) (xs : List (List ℕ)) (o : Operand) (os : List Operand) (s : Shape) → is_nil name ≡ false → list_all is_solid name ≡ true → length name ≤ 9 → length xs ≤ 2 → Reads x o → AllRead xs os → (mnemonic name >>= λ m. shaped m (o ∷ os)) ≡ Some s → checked (Some s) ≡ Ok (Some s) → Line (line name (x ∷ xs)) s
 line_shape name x xs o os s n h u v r rs e f =
     let k : AllPieces (x ∷ xs) = (r.piece, all_pieces xs os rs) in

@@ -12,7 +12,7 @@ use Rattle.thumb_asm.specs.Outputs.{Gave}
 use Rattle.thumb_asm.specs.Causes.{size_by, shape_cause, first_group, second_group, line_size, first_in, second_in, labels_from, at_line}
 use Rattle.thumb_asm.specs.Passes.{size_from, Emitted, Stops}
 
--- the first pass up to here, and what is left of it
+-- the first pass so far, and the rest of it
 pub record Surveyed (given : Env) (base : ℕ) (lines rest : List (List ℕ)) (labels : Names) (used number : ℕ) : Type 0 where
   pub firsts : first_in given base [] 0 1 lines ≡ first_in given base labels used (number + 1) rest
   pub places : labels_from base lines ≡ labels ++ labels_from (base + used) rest
@@ -76,7 +76,7 @@ survey_ends given base lines rest labels used number e s = (
   s.within,
 )
 
--- the second pass up to here, and what is left of it
+-- the second pass so far, and the rest of it
 pub record Emitting (env : Env) (base : ℕ) (lines rest : List (List ℕ)) (out : List ℕ) (number : ℕ) : Type 0 where
   pub seconds : second_in env base 1 lines ≡ second_in env (base + length out) (number + 1) rest
   pub lays : (bytes : List ℕ) → Lays env (base + length out) rest bytes (labels_from (base + length out) rest) → Lays env base lines (out ++ bytes) (labels_from base lines)

@@ -62,7 +62,7 @@ label_found all old new ps qs p h e n =
 pub label_ends : (all : Names) (found : List Label) (ps : List Placed) → all ≡ labels_in found ++ labels_of ps → ps ≡ [] → labels_in found ≡ all
 label_ends all found ps h e = sym (h ∙ ap (λ t. labels_in found ++ labels_of t) e ∙ append-nil (labels_in found))
 
--- a label that is a name stands behind those that were found, and what is no name does not
+-- a label that is a name is added after those that were found; text that is not a name is not added
 pub label_pushed : (old : List Label) (l : Label) (name : List ℕ) (label : Option (List ℕ)) → label ≡ Some name → is_name name ≡ true → label_of l ≡ (name, l.at) → labels_in (old ++ l ∷ []) ≡ labels_in old ++ named_label l.at label
 label_pushed old l name label e i n = map-append label_of old (l ∷ []) ∙ ap (λ (t : List ℕ × ℕ). labels_in old ++ t ∷ []) n ∙ ap (λ t. labels_in old ++ t) (sym (ap (named_label l.at) e ∙ ap (λ b. cond {A = Names} b ((name, l.at) ∷ []) []) i))
 
@@ -86,7 +86,7 @@ no_line : (k : ℕ) (a : Option Cause) (later : Option (Cause × ℕ)) → at_li
 no_line k None later h = (refl, h)
 no_line k (Some c) later h = cc
 
--- what a line has that is not refused
+-- what is true of a line that is not refused
 group_none : (given : Env) (base : ℕ) (earlier : Env) (used : ℕ) (line : List ℕ) → first_group given base earlier used line ≡ None → (label_cause given earlier (parts line).label ≡ None) × (used + line_size (base + used) line ≤ 1048576)
 unfolding first_group
 group_none given base earlier used line h =

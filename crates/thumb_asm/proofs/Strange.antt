@@ -1,4 +1,4 @@
--- Operands that no syntax takes, as the program tells them apart.
+-- Operands that no syntax takes, by the cases of the code.
 use Rattle.std.proofs.Common.{◌≡◌, ℕ, List, [], ◌∷◌, None, refl, sym, true, Bor}
 use Rattle.thumb_insn.specs.declared.Reg.{Reg}
 use Rattle.thumb_asm.specs.declared.Mnemonic.{Mnemonic}

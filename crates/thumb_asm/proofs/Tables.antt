@@ -8,7 +8,7 @@ or_behind : {A : Type 0} (b : Bool) (x : A) (o p q : Option A) → o ≡ (p or q
 or_behind true x o p q h = refl
 or_behind false x o p q h = h
 
--- what the first of two tables has, or else what the second has
+-- the entry of the first of two tables, or else that of the second
 two_tables : {A : Type 0} (a b : List (List ℕ × A)) (word : List ℕ) → entry_at (a ++ b) word ≡ (entry_at a word or entry_at b word)
 unfolding entry_at
 two_tables [] b word = refl

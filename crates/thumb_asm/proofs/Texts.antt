@@ -1,4 +1,4 @@
--- Lists in braces and texts in quotes, as the program holds them.
+-- Lists in braces and texts in quotes, as the code keeps them.
 use Rattle.std.proofs.Common.{◌≡◌, ℕ, List, [], ◌∷◌, refl, ap, ◌∙◌, sym, arith, Bool, true, false, cond, nat_eq, ◌&&◌, bytes_eq, Option, Some, None, is_some}
 use Rattle.thumb_asm.specs.Chars.{is_nil, strip}
 use Rattle.thumb_asm.specs.Operands.{◌>>=◌, ends, ranges, stripped_by, register_list, text_of, escape, with_byte}
@@ -86,7 +86,7 @@ pub bad_escape : (c : ℕ) (cs : List ℕ) → escape c ≡ None → is_some (te
 unfolding text_of
 bad_escape c cs h = ap (λ e. is_some (e >>= λ x. with_byte x (text_of false cs))) h
 
--- where quoted text stops, and whether it ends well there
+-- where a quoted text stops, and whether it ends well there
 pub stops_at_end : is_some (text_of false []) ≡ bytes_eq [] (34 ∷ [])
 unfolding text_of
 stops_at_end = refl
@@ -120,8 +120,8 @@ pub escape_at_end : is_some (text_of true []) ≡ false
 unfolding text_of
 escape_at_end = refl
 
--- what the next byte of quoted text may be
+-- what the next byte of a quoted text may be
 pub ruleset next_steps = (stops_at_end, stops_at_quote, stops_at_escape, goes_behind_byte, goes_behind_slash)
 
--- and what may follow a backslash
+-- what may follow a backslash
 pub ruleset escape_steps = (good_escape, bad_escape, escape_at_end)

@@ -43,7 +43,7 @@ line_size at line = size_by at (statement_of (parts line).statement)
 abbrev pub has : Env → List ℕ → Bool
 has env name = is_some (env name)
 
--- causes 2, 13, 3 of a label
+-- the causes 2, 13 and 3, for a label
 abbrev pub label_cause : Env → Env → Option (List ℕ) → Option Cause
 label_cause given earlier None = None
 label_cause given earlier (Some name) =
@@ -56,7 +56,7 @@ abbrev pub statement_cause : Result (Option Shape) Cause → Option Cause
 statement_cause (Err c) = Some c
 statement_cause (Ok s) = None
 
--- The first group. `earlier` are the labels of earlier lines, `used` the bytes of those.
+-- The first group of causes. `earlier` has the labels of earlier lines, and `used` is the number of bytes of those lines.
 unfoldable pub first_group : Env → ℕ → Env → ℕ → List ℕ → Option Cause
 first_group given base earlier used line =
     or_else (when (nat_lt 255 (length line)) cause.LineTooLong)
@@ -69,7 +69,7 @@ abbrev pub is_unknown : Option ℤ → Bool
 is_unknown None = true
 is_unknown (Some z) = false
 
--- a value that so many bytes don't hold, with a sign or without
+-- whether k bytes cannot hold a value, as a signed or as an unsigned number
 abbrev pub is_beyond : ℕ → Option ℤ → Bool
 is_beyond k None = false
 is_beyond k (Some (pos n)) = nat_le (256 ^ k) n
@@ -79,7 +79,7 @@ abbrev pub insn_cause : ℕ → Result Insn Cause → Option Cause
 insn_cause at (Ok i) = when (not (nat_eq (at % 2) 0)) cause.Misaligned
 insn_cause at (Err c) = if nat_eq (at % 2) 0 then Some c else Some cause.Misaligned
 
--- The second group, at a line's address
+-- the second group of causes, for a line at its address
 unfoldable pub shape_cause : Env → ℕ → Shape → Option Cause
 shape_cause env at (Data k es) =
     or_else (when (not (nat_eq (at % k) 0)) cause.Misaligned)
@@ -95,7 +95,7 @@ second_group env at (Err c) = None
 second_group env at (Ok None) = None
 second_group env at (Ok (Some s)) = shape_cause env at s
 
--- a cause with the line's number, or else what comes later
+-- a cause with the number of its line, or else the result for the later lines
 abbrev pub at_line : ℕ → Option Cause → Option (Cause × ℕ) → Option (Cause × ℕ)
 at_line k None later = later
 at_line k (Some c) later = Some (c, k)

@@ -1,4 +1,4 @@
--- Operands of the program without where their texts lie in memory.
+-- The operands that the code has, as those of the definitions: texts as lists of bytes.
 use Rattle.std.specs.Prelude.{ℕ, Bool, true, false, List, [], ◌∷◌, ◌++◌, Option, Some, None, is_some, nat_eq, ◌&&◌, if◌then◌else◌}
 use Rattle.thumb_insn.specs.Fields.{reg}
 use Rattle.thumb_insn.specs.declared.Reg.{Reg}
@@ -20,7 +20,7 @@ abbrev pub with_range : Option (ℕ × ℕ) → List (ℕ × ℕ) → List (ℕ 
 with_range None rs = []
 with_range (Some r) rs = r ∷ rs
 
--- the ranges before the first piece that is none
+-- the ranges before the first piece that is not a range
 unfoldable pub good_ranges : List (List ℕ) → List (ℕ × ℕ)
 good_ranges [] = []
 good_ranges (p ∷ ps) = with_range (ends (stripped_by 45 p)) (good_ranges ps)
@@ -28,7 +28,7 @@ good_ranges (p ∷ ps) = with_range (ends (stripped_by 45 p)) (good_ranges ps)
 abbrev pub ranges_left : Option (List ℕ) → List (ℕ × ℕ)
 ranges_left text = good_ranges (cuts_left 44 text)
 
--- what stands in braces
+-- the ranges in braces
 unfoldable pub ranges_in : List ℕ → List (ℕ × ℕ)
 ranges_in text = if is_nil (strip text) then [] else good_ranges (stripped_by 44 text)
 
@@ -36,13 +36,13 @@ abbrev pub with_good : Option ℕ → List ℕ → List ℕ
 with_good None cs = []
 with_good (Some c) cs = c ∷ cs
 
--- what quoted text says up to its end, or the first escape that is none; perhaps behind a backslash
+-- the bytes that a quoted text means, up to its end or to the first bad escape; perhaps after a backslash
 unfoldable pub good_text : Bool → List ℕ → List ℕ
 good_text escaped [] = []
 good_text true (c ∷ cs) = with_good (escape c) (good_text false cs)
 good_text false (c ∷ cs) = if nat_eq c 34 then [] else if nat_eq c 92 then good_text true cs else c ∷ good_text false cs
 
--- quoted text has no escape that is none, and ends with its quote; perhaps behind a backslash
+-- a quoted text has no bad escape, and ends with its quote; perhaps after a backslash
 abbrev pub ends_well : Bool → List ℕ → Bool
 ends_well escaped text = is_some (text_of escaped text)
 
@@ -63,7 +63,7 @@ as_reg word = register word >>= λ n. Some (reg n)
 abbrev pub raised_reg : List ℕ → Option Reg
 raised_reg piece = closed_by 33 piece >>= λ front. as_reg (strip front)
 
--- operands, and those that follow them
+-- operands, and the operands that follow them
 abbrev pub followed_by : List Operand → Option (List Operand) → Option (List Operand)
 followed_by front rest = rest >>= λ os. Some (front ++ os)
 
@@ -72,7 +72,7 @@ abbrev pub IsPlain : Mnemonic → Type 0
 IsPlain (Values s) = ⊥
 IsPlain m = Unit {0}
 
--- each piece is an expression, and there is one
+-- there is a piece, and each is an expression
 abbrev pub is_expression : List ℕ → Bool
 is_expression piece = is_some (operand piece >>= as_expression)
 

@@ -1,4 +1,5 @@
--- Where each line of a text lies: its number and the address of its bytes; which lines are instructions, and which have labels.
+-- The lines of a text with their numbers and the addresses of their bytes; which of them are instructions, and
+-- which have labels.
 use Rattle.std.specs.Prelude.{ℕ, ◌+◌, ◌^◌, ◌<◌, ◌≤◌, ◌≡◌, Bool, false, nat_lt, if◌then◌else◌, List, [], ◌∷◌, length, map, filter, Option, Some, None, Result, Ok, Err, string_bytes}
 use Rattle.std.specs.List.{flat_map}
 use Rattle.text_lines.specs.Text.{lines_of}
@@ -20,8 +21,9 @@ pub record Placed : Type 0 where
   pub at : ℕ
   pub text : List ℕ
 
--- The lines from one with a number on, behind so many bytes from the base. The first that would end behind 1048576 bytes has no
--- address, nor has any behind it: where a text is accepted, there is none such (EachLineIsPlaced).
+-- The lines from the one with a number on, after `used` bytes from the base. The first line that would end after
+-- 1048576 bytes has no address, and no later line has one. In an accepted text there is no such line
+-- (EachLineIsPlaced).
 unfoldable pub placed_from : ℕ → ℕ → ℕ → List (List ℕ) → List Placed
 placed_from base used number [] = []
 placed_from base used number (l ∷ ls) =
@@ -47,7 +49,7 @@ insn_line p = record { number = p.number; at = p.at }
 abbrev pub insn_lines : List Placed → List InsnLine
 insn_lines ps = map insn_line (filter (λ p. is_instruction p.text) ps)
 
--- a label that is a name; in a text that is accepted each is one
+-- the label of a line, if it is a name; in an accepted text each label is one
 abbrev pub named_label : ℕ → Option (List ℕ) → Names
 named_label at None = []
 named_label at (Some name) = if is_name name then (name, at) ∷ [] else []
@@ -56,14 +58,14 @@ named_label at (Some name) = if is_name name then (name, at) ∷ [] else []
 abbrev pub labels_of : List Placed → Names
 labels_of ps = flat_map (λ p. named_label p.at (parts p.text).label) ps
 
--- of an accepted text each line has an address, and each label is listed
+-- in an accepted text each line has an address, and each label is listed
 abbrev pub EachLineIsPlaced : Type 0
 EachLineIsPlaced = (lines : List (List ℕ)) (base : ℕ) (given : Env) → first_cause lines base given ≡ None → map (λ p. p.text) (placed base lines) ≡ lines
 
 abbrev pub EachLabelIsListed : Type 0
 EachLabelIsListed = (lines : List (List ℕ)) (base : ℕ) (given : Env) → first_cause lines base given ≡ None → labels_of (placed base lines) ≡ labels_from base lines
 
--- as the program holds them
+-- the same, as the code has them
 
 abbrev pub placed_of : Held → Placed
 placed_of p = record { number = p.number; at = p.at; text = p.text.now }
@@ -78,7 +80,7 @@ labels_in ls = map label_of ls
 abbrev pub lines_left : PlacedLines → List Placed
 lines_left p = placed_from p.base p.used (p.number + 1) (lines_of p.lines.rest.now)
 
--- there are numbers and addresses for them
+-- the numbers and addresses of the lines that are left are in range
 pub record HaveRoom (p : PlacedLines) : Type 0 where
   pub addresses : p.base + 1048576 < 2 ^ 32
   pub within : p.used ≤ 1048576

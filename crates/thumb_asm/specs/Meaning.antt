@@ -1,4 +1,4 @@
--- What a line means: its label, its length, its bytes under the values of names.
+-- What a line means: its label, its size, and its bytes for given values of names.
 use Rattle.std.specs.Prelude.{ℕ, zero, suc, ◌+◌, ◌-◌, ◌*◌, ◌/◌, ◌%◌, ◌^◌, ◌≡◌, nat_lt, nat_le, if◌then◌else◌, List, [], ◌∷◌, ◌++◌, length, Option, Some, None, Result, Ok, Err, ◌&&◌, ℤ, pos, negsuc, ◌+ℤ◌, ◌-ℤ◌}
 use Rattle.std.specs.List.{repeat}
 use Rattle.thumb_insn.specs.declared.Insn.{Insn}
@@ -15,7 +15,7 @@ use Rattle.thumb_asm.specs.Operands.{Expr, expression, signed, or_else}
 use Rattle.thumb_asm.specs.Syntax.{Shape, Fixed, Filled, Within, Aimed, Near, Listed, Block, Data, Text, Zeros, Padding}
 use Rattle.thumb_asm.specs.Sizes.{statement_of, list_insn, block_insn, mask_of, natural_part, padding}
 
--- names with their values, of which the first counts
+-- names with their values; of two with the same name the first counts
 abbrev pub Names : Type 0
 Names = List (List ℕ × ℕ)
 
@@ -23,7 +23,7 @@ Names = List (List ℕ × ℕ)
 abbrev pub Env : Type 0
 Env = List ℕ → Option ℕ
 
--- a label's value, or else a given symbol's
+-- the value of a label, or else of a given symbol
 abbrev pub env_of : Env → Env → Env
 env_of labels given name = or_else (labels name) (given name)
 
@@ -53,7 +53,7 @@ fit_cause i (Some fit.Align) = Err cause.Misaligned
 abbrev pub fitting : Insn → Result Insn Cause
 fitting i = fit_cause i (fit_of i)
 
--- a value that is no number of 32 bits is in no instruction
+-- the instruction with a value; a value that is not a number of 32 bits fits no instruction
 abbrev pub filled : (ℕ → Insn) → ℤ → Result Insn Cause
 filled i (pos n) = if nat_lt n (2 ^ 32) then fitting (i n) else Err cause.OutOfRange
 filled i (negsuc n) = Err cause.OutOfRange
@@ -62,7 +62,7 @@ abbrev pub within : ℕ → ℕ → (ℕ → Insn) → ℤ → Result Insn Cause
 within low top i (pos n) = if nat_le low n && nat_le n top then fitting (i n) else Err cause.OutOfRange
 within low top i (negsuc n) = Err cause.OutOfRange
 
--- a distance that is no signed number of 32 bits is in no instruction
+-- the instruction with a distance; a distance that is not a signed number of 32 bits fits no instruction
 abbrev pub aimed : (ℤ → Insn) → ℤ → Result Insn Cause
 aimed i (pos n) = if nat_lt n (2 ^ 31) then fitting (i (pos n)) else Err cause.OutOfRange
 aimed i (negsuc n) = if nat_lt n (2 ^ 31) then fitting (i (negsuc n)) else Err cause.OutOfRange
@@ -89,11 +89,11 @@ abbrev pub code_bytes : Code → List ℕ
 code_bytes (code.One h) = halfword h
 code_bytes (code.Two first second) = halfword first ++ halfword second
 
--- these bytes are the instruction's code
+-- these bytes are the code of the instruction
 abbrev pub Codes : Insn → List ℕ → Type 0
 Codes i own = (c : Code) × IsCode c × (insn_of c ≡ Some i) × (own ≡ code_bytes c)
 
--- a number as so many bytes, the lowest first
+-- a number as k bytes, little-endian
 unfoldable pub low_first : ℕ → ℕ → List ℕ
 low_first zero n = []
 low_first (suc k) n = n % 256 ∷ low_first k (n / 256)

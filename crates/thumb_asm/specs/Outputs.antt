@@ -1,4 +1,4 @@
--- What a statement adds.
+-- The bytes that a statement appends.
 use Rattle.std.specs.Prelude.{ℕ, ◌≡◌, List, ◌++◌, length, None, Result, Ok, Err}
 use Rattle.thumb_insn.specs.declared.Insn.{Insn}
 use Rattle.thumb_asm.specs.Syntax.{Shape}
@@ -8,7 +8,7 @@ use Rattle.thumb_asm.specs.declared.Cause.{Cause}
 use Rattle.thumb_asm.specs.Meaning.{Env, Means, Codes, fitting}
 use Rattle.thumb_asm.specs.Causes.{shape_cause, insn_cause}
 
--- an instruction that was found fits or has a cause of its own; where none was found, the cause is this
+-- the code found an instruction, which fits or has a cause; or it found none, and this is the cause
 abbrev pub Finds : Result Insn Cause → Result Insn Cause → Type 0
 Finds (Ok i) wanted = wanted ≡ fitting i
 Finds (Err c) wanted = wanted ≡ Err c
@@ -20,7 +20,7 @@ pub record Gave (env : Env) (at : ℕ) (s : Shape) (old new : List ℕ) : Type 0
   pub means : Means env at s own
   pub accepted : shape_cause env at s ≡ None
 
--- the code of an instruction at the end
+-- the code of an instruction is appended
 pub record Coded (i : Insn) (at : ℕ) (old new : List ℕ) : Type 0 where
   pub own : List ℕ
   pub bytes : new ≡ old ++ own
@@ -29,7 +29,7 @@ pub record Coded (i : Insn) (at : ℕ) (old new : List ℕ) : Type 0 where
   pub fits : fitting i ≡ Ok i
   pub even : insn_cause at (Ok i) ≡ None
 
--- the code of an instruction that was found
+-- an instruction was found, and its code is appended
 pub record Put (r : Result Insn Cause) (at : ℕ) (old new : List ℕ) : Type 0 where
   pub insn : Insn
   pub is : r ≡ Ok insn

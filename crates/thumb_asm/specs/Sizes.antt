@@ -1,4 +1,4 @@
--- What a statement is, how long it is, and why it is refused before any value is known.
+-- The shape of a statement, its size, and why it is refused before any value is known.
 use Rattle.std.specs.Prelude.{ℕ, zero, suc, ◌+◌, ◌-◌, ◌*◌, ◌%◌, ◌^◌, Bool, true, false, nat_eq, nat_lt, if◌then◌else◌, List, [], ◌∷◌, length, count_by, Option, Some, None, Result, Ok, Err, ◌&&◌, ◌||◌, not, ℤ, pos, negsuc}
 use Rattle.std.specs.List.{list_any}
 use Rattle.thumb_insn.specs.declared.Reg.{Reg}
@@ -18,22 +18,22 @@ use Rattle.thumb_asm.specs.Syntax.{Shape, Fixed, Filled, Within, Aimed, Near, Mi
 
 -- A list of registers, as ranges.
 
--- a register is in a range; a range that falls has none
+-- a register is in a range; a falling range has no registers
 abbrev pub is_in : ℕ × ℕ → ℕ → Bool
 is_in range r = is_between range.0 range.1 r
 
 abbrev pub is_listed : List (ℕ × ℕ) → ℕ → Bool
 is_listed rs r = list_any (λ range. is_in range r) rs
 
--- listed more than once
+-- a register is in the list more than once
 abbrev pub is_double : List (ℕ × ℕ) → ℕ → Bool
 is_double rs r = nat_lt 1 (count_by (λ range. is_in range r) rs)
 
--- listed, or an end of a range that falls
+-- a register is in the list, or is an end of a falling range
 abbrev pub is_named : List (ℕ × ℕ) → ℕ → Bool
 is_named rs r = list_any (λ range. is_in range r || nat_eq r range.0 || nat_eq r range.1) rs
 
--- one of the numbers below k
+-- one of the numbers below k passes a test
 unfoldable pub any_below : (ℕ → Bool) → ℕ → Bool
 any_below p zero = false
 any_below p (suc k) = any_below p k || p k
@@ -43,15 +43,15 @@ unfoldable pub mask_below : List (ℕ × ℕ) → ℕ → ℕ
 mask_below rs zero = 0
 mask_below rs (suc k) = mask_below rs k + (if is_listed rs k then 2 ^ k else 0)
 
--- the low registers as a mask
+-- the low registers of a list as a mask
 abbrev pub mask_of : List (ℕ × ℕ) → ℕ
 mask_of rs = mask_below rs 8
 
--- a high register but this one
+-- a register of the list is high and is not this one
 abbrev pub is_stray : List (ℕ × ℕ) → ℕ → ℕ → Bool
 is_stray rs extra r = is_high r && not (nat_eq r extra) && is_named rs r
 
--- a register that a list can't hold
+-- a list has a register that it cannot have
 abbrev pub has_stray : ℕ → List (ℕ × ℕ) → Bool
 has_stray extra rs = any_below (is_stray rs extra) 16
 
@@ -65,16 +65,17 @@ is_empty (range ∷ rs) = false
 abbrev pub is_no_list : List (ℕ × ℕ) → Bool
 is_no_list rs = is_empty rs || list_any falls rs || any_below (is_double rs) 16
 
--- `ldm` has `!` exactly where its base isn't in the list; `stm` has it, and its base is not in the list, or the lowest there
+-- The `!` is wrong. `ldm` needs it exactly if its base is not in the list. `stm` always needs it, and its base must
+-- not be in the list, or must be the lowest register there.
 abbrev pub is_raised_wrong : ℕ → Bool → Bool → List (ℕ × ℕ) → Bool
 is_raised_wrong n raised true rs = if raised then is_listed rs n else not (is_listed rs n)
 is_raised_wrong n raised false rs = not raised || (is_listed rs n && any_below (is_listed rs) n)
 
--- the one high register that the list of `push` and of `pop` can hold: LR and PC
+-- the only high register that the list of `push` or of `pop` can have: LR or PC
 abbrev pub extra_of : Bool → ℕ
 extra_of loads = if loads then 15 else 14
 
--- How long a statement is.
+-- The size of a statement.
 
 abbrev pub list_insn : Bool → List (ℕ × ℕ) → Insn
 list_insn true rs = insn.Pop (mask_of rs) (is_listed rs 15)
@@ -84,7 +85,7 @@ abbrev pub block_insn : Reg → Bool → ℕ → Insn
 block_insn n true mask = insn.Ldm n mask
 block_insn n false mask = insn.Stm n mask
 
--- a number that is no negative one
+-- a number as a natural number; 0 if it is negative or missing
 abbrev pub natural_part : Option ℤ → ℕ
 natural_part None = 0
 natural_part (Some (pos n)) = n
@@ -109,7 +110,7 @@ shape_size at (Text text) = length text
 shape_size at (Zeros e) = natural_part (signed e)
 shape_size at (Padding e) = padding at (natural_part (signed e))
 
--- a row that doesn't take its registers
+-- the row of an instruction does not allow its registers
 abbrev pub is_register_fit : Option Fit → Bool
 is_register_fit None = false
 is_register_fit (Some fit.Register) = true
@@ -161,7 +162,7 @@ has_bad_count (Zeros e) = is_off 0 1048576 (signed e)
 has_bad_count (Padding e) = is_off 1 8 (signed e)
 has_bad_count s = false
 
--- what the statement is, or the first of the causes 4, 5, 6, 7 and 11
+-- the shape of the statement, or the first of the causes 4, 5, 6, 7 and 11
 unfoldable pub checked : Option Shape → Result (Option Shape) Cause
 checked None = Err cause.BadOperands
 checked (Some s) =
@@ -179,6 +180,6 @@ abbrev pub named : Option Mnemonic → List ℕ → Result (Option Shape) Cause
 named None rest = Err cause.UnknownMnemonic
 named (Some m) rest = checked (shaped_by m (operands (operand_pieces rest)))
 
--- None where there is no statement
+-- the shape of a statement; None if there is no statement
 unfoldable pub statement_of : List ℕ → Result (Option Shape) Cause
 statement_of text = if is_nil text then Ok None else named (mnemonic (first_word text)) (behind_word text)

@@ -1,4 +1,4 @@
--- The mnemonics, and for each the syntaxes with what they mean.
+-- The mnemonics, and the syntaxes of each with their meaning.
 use Rattle.std.specs.Prelude.{ℕ, Bool, true, false, nat_eq, nat_le, if◌then◌else◌, List, [], ◌∷◌, map, Option, Some, None, ◌||◌, codes, bytes_eq, ℤ}
 use Rattle.thumb_insn.specs.declared.Reg.{Reg}
 use Rattle.thumb_insn.specs.declared.Cond.TheVariants as cond
@@ -52,31 +52,31 @@ mnemonics7 = (codes "dsb", Fence barrier.Dsb) ∷ (codes "dmb", Fence barrier.Dm
 unfoldable pub mnemonic : List ℕ → Option Mnemonic
 mnemonic text = let word = map lower text in entry_at mnemonics1 word or entry_at mnemonics2 word or entry_at mnemonics3 word or entry_at mnemonics4 word or entry_at mnemonics5 word or entry_at mnemonics6 word or entry_at mnemonics7 word
 
--- What a statement is, with its expressions as they are written.
+-- The shape of a statement, with its expressions as text.
 pub data Shape : Type 0 where
-  -- an instruction that holds no value
+  -- an instruction without an expression
   Fixed : Insn → Shape
-  -- one that holds the value of an expression
+  -- an instruction with the value of an expression
   Filled : List ℕ → (ℕ → Insn) → Shape
-  -- the same, where the value has bounds of its own
+  -- the same for a value that has bounds
   Within : ℕ → ℕ → List ℕ → (ℕ → Insn) → Shape
-  -- one that holds how far a target lies from the address plus 4
+  -- an instruction with the distance of a target from the address plus 4
   Aimed : List ℕ → (ℤ → Insn) → Shape
-  -- the same, from the address plus 4 aligned down to a multiple of 4
+  -- the same with the distance from the address plus 4 aligned down to a multiple of 4
   Near : List ℕ → (ℕ → Insn) → Shape
-  -- one with a register that only SP may be
+  -- an instruction with another register where only SP is allowed
   Misplaced : Shape
-  -- `push` or, where this loads, `pop` of a list
+  -- `push` of a list; `pop` if it loads
   Listed : Bool → List (ℕ × ℕ) → Shape
-  -- a base, whether it is raised, whether this loads, and a list
+  -- `stm` or `ldm`: a base, whether it is raised, whether the instruction loads, and a list
   Block : Reg → Bool → Bool → List (ℕ × ℕ) → Shape
-  -- values of so many bytes, text, zero bytes by number and by alignment
+  -- data: values of k bytes each, text, and zero bytes by number and by alignment
   Data : ℕ → List (List ℕ) → Shape
   Text : List ℕ → Shape
   Zeros : List ℕ → Shape
   Padding : List ℕ → Shape
 
--- an instruction, and no data
+-- the shape is an instruction, not data
 abbrev pub is_insn : Shape → Bool
 is_insn (Data k es) = false
 is_insn (Text text) = false
@@ -91,14 +91,14 @@ is_high r = nat_le 8 r
 abbrev pub at_sp : Reg → Shape → Shape
 at_sp r s = if nat_eq r.number 13 then s else Misplaced
 
--- a word that stands for itself, in any case
+-- an operand that is a keyword, in upper or lower case
 abbrev pub keyword : List ℕ → List ℕ → Shape → Option Shape
 keyword text word s = if bytes_eq (map lower text) word then Some s else None
 
 abbrev pub compared : Reg → Reg → Insn
 compared n m = if is_high n.number || is_high m.number then insn.CmpHigh n m else insn.Data op.Cmp n m
 
--- The kinds of operands that a syntax has, with what they hold
+-- the kinds of operands in a syntax, with their contents
 abbrev pub as_register : Operand → Option Reg
 as_register (Register r) = Some r
 as_register o = None
@@ -191,12 +191,12 @@ abbrev pub ◌▹◌ : {A B : Type 0} → Option A → (A → B) → Option B
 (Some x) ▹ f = Some (f x)
 None ▹ f = None
 
--- values of so many bytes, at least one
+-- values of k bytes each, at least one
 abbrev pub values : ℕ → List (List ℕ) → Option Shape
 values k [] = None
 values k (e ∷ es) = Some (Data k (e ∷ es))
 
--- `[rn, #e]` of a load and of a store: SP has rows of its own
+-- a store to `[rn, #e]` and a load from it; SP as a base has separate rows
 abbrev pub stored : Size → Reg → Reg → (ℕ → Insn)
 stored size.Word t n = if nat_eq n.number 13 then insn.StoreSp t else insn.StoreImm size.Word t n
 stored size.Half t n = insn.StoreImm size.Half t n
@@ -207,7 +207,7 @@ loaded size.Word t n = if nat_eq n.number 13 then insn.LoadSp t else insn.LoadIm
 loaded size.Half t n = insn.LoadImm size.Half t n
 loaded size.Byte t n = insn.LoadImm size.Byte t n
 
--- the bounds of a shift's count
+-- the upper bound of the count of a shift
 abbrev pub top_shift : ShiftKind → ℕ
 top_shift shift.Lsl = 31
 top_shift shift.Lsr = 32
@@ -218,7 +218,7 @@ shift_op shift.Lsl = op.Lsls
 shift_op shift.Lsr = op.Lsrs
 shift_op shift.Asr = op.Asrs
 
--- a literal is a word
+-- a load of a literal, which is a word
 abbrev pub literal : Size → List Operand → Option Shape
 literal size.Word os = reg_expr os ▹ λ r. Near r.1 (insn.LdrLiteral r.0)
 literal size.Half os = None
@@ -232,11 +232,11 @@ plain_load (load.Whole s) os =
 plain_load load.SignedHalf os = None
 plain_load load.SignedByte os = None
 
--- `sy`
+-- a barrier, with the operand `sy`
 abbrev pub system : Barrier → List Operand → Option Shape
 system b os = one as_expression os >>= λ e. keyword e (codes "sy") (Fixed (insn.Fence b 15))
 
--- One line for each syntax. None: there is none of this number and kind of operands.
+-- One line for each syntax. None: no syntax has these operands.
 unfoldable pub shaped : Mnemonic → List Operand → Option Shape
 shaped (Shift s) os =
     (three as_register as_register as_immediate os ▹ λ r. Within 1 (top_shift s) r.2 (insn.ShiftImm s r.0 r.1)) or

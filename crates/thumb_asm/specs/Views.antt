@@ -1,4 +1,4 @@
--- Values of the program without where their texts lie in memory.
+-- The values that the code has, as those of the definitions: texts as lists of bytes.
 use Rattle.std.specs.Prelude.{◌≡◌, ℕ, ℤ, true, false, List, Option, option_map, Result, Ok, Err}
 use Rattle.thumb_insn.specs.declared.Insn.{Insn}
 use Rattle.thumb_insn.specs.declared.Insn.TheVariants as insn
@@ -73,7 +73,7 @@ shape_of (held.Text text) = Text (good_text false text.now)
 shape_of (held.Zeros e) = Zeros e.now
 shape_of (held.Padding e) = Padding e.now
 
--- a statement with an instruction's code
+-- a statement is an instruction
 abbrev pub HoldsInsn : Held → Type 0
 HoldsInsn s = is_insn (shape_of s) ≡ true
 

@@ -15,7 +15,7 @@ use super::lists::{has_stray, is_no_list, is_raised_wrong};
 use super::parts::Pieces;
 use super::shape::Shape;
 
-/// A number of bytes or an alignment that is out of its range.
+/// Whether a number of bytes or an alignment is out of range.
 #[tactic(auto, unfolding(crate::specs::Sizes::has_bad_count))]
 fn has_bad_count(shape: &Shape<'_>) -> bool
     ensures { result ≡ has_bad_count (shape_of shape.now) }
@@ -47,7 +47,7 @@ fn is_off(low: i64, top: i64, number: Option<i64>) -> bool
     }
 }
 
-/// A number that is none.
+/// Whether text that has to be a number or an expression is not one.
 #[tactic(auto, unfolding(crate::specs::Sizes::has_bad_number))]
 fn has_bad_number(shape: &Shape<'_>) -> bool
     ensures { result ≡ has_bad_number (shape_of shape.now) }
@@ -83,7 +83,7 @@ fn is_no_number(piece: &[u8]) -> bool
     }
 }
 
-/// Is one of these no expression?
+/// Whether one of these operands is not an expression.
 fn has_no_expr(text: &[u8]) -> bool
     ensures { result ≡ list_any (λ e. is_no_expr (expression e)) (operand_pieces text.now) }
 {
@@ -96,7 +96,7 @@ fn has_no_expr(text: &[u8]) -> bool
     false
 }
 
-/// A register that the row doesn't take.
+/// Whether the row does not allow a register.
 #[tactic(auto, unfolding(crate::specs::Sizes::has_bad_register))]
 fn has_bad_register(shape: &Shape<'_>) -> bool
     ensures { result ≡ has_bad_register (shape_of shape.now) }
@@ -117,7 +117,7 @@ fn has_bad_register(shape: &Shape<'_>) -> bool
     }
 }
 
-/// A list that is none.
+/// Whether a list of registers is not valid.
 #[tactic(auto, unfolding(crate::specs::Sizes::has_bad_list))]
 fn has_bad_list(shape: &Shape<'_>) -> bool
     ensures { result ≡ has_bad_list (shape_of shape.now) }
@@ -139,14 +139,14 @@ fn has_bad_list(shape: &Shape<'_>) -> bool
     }
 }
 
-/// The high register that the list of `push` or `pop` can hold.
+/// The high register that the list of `push` or `pop` can have.
 fn extra_of(loads: bool) -> u8
     ensures { result ≡ extra_of loads }
 {
     if loads { 15 } else { 14 }
 }
 
-/// The cause that is told first.
+/// The first cause that applies.
 #[inline(always)]
 fn first_cause(bad_register: bool, bad_number: bool, bad_list: bool) -> Option<Cause>
     ensures { result ≡ (if bad_register then Some BadRegister else if bad_number then Some BadNumber

@@ -145,7 +145,7 @@ pub(crate) fn aim(insn: Insn, distance: i32) -> Insn
     }
 }
 
-/// The instruction with this value, if it is a number of 32 bits.
+/// The instruction with this value, if the value is a number of 32 bits.
 pub(crate) fn with_value(insn: Insn, value: i64) -> Result<Insn, Cause>
     ensures { Finds result (filled (fill insn) value) }
 {
@@ -155,7 +155,7 @@ pub(crate) fn with_value(insn: Insn, value: i64) -> Result<Insn, Cause>
     }
 }
 
-/// The instruction with this value, if it is within its bounds.
+/// The instruction with this value, if the value is within its bounds.
 pub(crate) fn with_bounded(insn: Insn, low: u32, top: u32, value: i64) -> Result<Insn, Cause>
     ensures { Finds result (within low top (fill insn) value) }
 {
@@ -169,7 +169,7 @@ pub(crate) fn with_bounded(insn: Insn, low: u32, top: u32, value: i64) -> Result
     }
 }
 
-/// The instruction with this distance, if it is a signed number of 32 bits.
+/// The instruction with this distance, if the distance is a signed number of 32 bits.
 pub(crate) fn with_distance(insn: Insn, distance: i64) -> Result<Insn, Cause>
     ensures { Finds result (aimed (aim insn) distance) }
 {
@@ -203,7 +203,7 @@ fn push_half(out: &mut Vec<u8>, half: u16) -> Result<(), Stop>
     }
 }
 
-/// The code of an instruction, which takes as many bytes as the instruction is long.
+/// The code of an instruction. It has as many bytes as the instruction's size.
 fn code_of(insn: &Insn) -> Result<Code, Fit>
     ensures coded { IfOk result (λ c. (insn_of c ≡ Some insn.now) × IsCode c
         × (length (code_bytes c) ≡ insn_size insn.now)) }
@@ -229,7 +229,7 @@ fn push_code(out: &mut Vec<u8>, code: Code) -> Result<(), Stop>
     }
 }
 
-/// Does a row refuse its registers?
+/// Whether the row of an instruction refuses its registers.
 pub(crate) fn is_misfit(insn: &Insn) -> bool
     ensures { result ≡ is_register_fit (fit_of insn.now) }
 {
@@ -243,7 +243,7 @@ pub(crate) fn is_misfit(insn: &Insn) -> bool
     }
 }
 
-/// Puts the code of an instruction at the end.
+/// Appends the code of an instruction.
 pub(crate) fn emit_insn(at: u32, insn: Insn, out: &mut Vec<u8>) -> Result<(), Stop>
     ensures ok { OnOk result (Coded insn at out.old.items out.new.items) }
     ensures err { IfErr result (λ e. Stops e (insn_cause at (fitting insn))) }
@@ -257,7 +257,7 @@ pub(crate) fn emit_insn(at: u32, insn: Insn, out: &mut Vec<u8>) -> Result<(), St
     }
 }
 
-/// Puts an instruction that was found, or tells why there is none.
+/// Appends the code of an instruction that was found, or returns why there is none.
 #[tactic(auto, using(crate::proofs::Coding::put_ok, crate::proofs::Coding::put_err))]
 pub(crate) fn emit_found(at: u32, found: Result<Insn, Cause>, out: &mut Vec<u8>) -> Result<(), Stop>
     ensures ok { (r : Result Instruction Why) → Finds found r →

@@ -1,4 +1,4 @@
-//! Values, and zero bytes.
+//! Data: values and zero bytes.
 
 ghost use Rattle.std.specs.Prelude.{◌≡◌, ◌++◌, ◌<◌, ◌+◌, ◌-◌, ◌*◌, ◌%◌, ◌^◌, false, ◌∷◌, [], true, nat_abs, pos, nat_eq, not, OnOk, IfErr, Option, Some, None};
 ghost use Rattle.std.specs.List.{list_any, repeat};
@@ -27,7 +27,7 @@ fn push(byte: u8, out: &mut Vec<u8>) -> Result<(), Stop>
     }
 }
 
-/// Puts zero bytes at the end.
+/// Appends zero bytes.
 pub(crate) fn push_zeros(count: u32, out: &mut Vec<u8>) -> Result<(), Stop>
     ensures ok { OnOk result (out.new.items ≡ out.old.items ++ repeat count (0 ∷ [])) }
     ensures err { IfErr result (λ e. (cause : Option Why) → Stops e cause) }
@@ -51,7 +51,7 @@ fn is_unknown(piece: &[u8], names: &KnownNames<'_>) -> bool
     }
 }
 
-/// How many values a number of bytes has.
+/// The number of values that a size can have.
 fn limit(size: Size) -> i64
     ensures { result ≡ pos (256 ^ scale size) }
 {
@@ -62,7 +62,7 @@ fn limit(size: Size) -> i64
     }
 }
 
-/// Is a value outside the signed and the unsigned range of its bytes?
+/// Whether a value is outside both the signed and the unsigned range of its size.
 fn is_beyond(size: Size, number: i64) -> bool
     requires { nat_abs number < 2 ^ 34 }
     ensures { result ≡ is_beyond (scale size) (Some number) }
@@ -111,7 +111,7 @@ fn has_beyond(size: Size, pieces: &[u8], names: &KnownNames<'_>) -> bool
     false
 }
 
-/// The bytes of a number, the lowest first.
+/// Appends the low bytes of a number, little-endian.
 fn push_low(size: Size, number: u32, out: &mut Vec<u8>) -> Result<(), Stop>
     ensures ok { OnOk result (out.new.items ≡ out.old.items ++ low_first (scale size) number) }
     ensures err { IfErr result (λ e. (cause : Option Why) → Stops e cause) }
@@ -129,7 +129,7 @@ fn push_low(size: Size, number: u32, out: &mut Vec<u8>) -> Result<(), Stop>
     }
 }
 
-/// The two low bytes of a number.
+/// Appends the two low bytes of a number.
 fn push_half(number: u32, out: &mut Vec<u8>) -> Result<(), Stop>
     ensures ok { OnOk result (out.new.items ≡ out.old.items ++ low_first 2 number) }
     ensures err { IfErr result (λ e. (cause : Option Why) → Stops e cause) }
@@ -141,7 +141,7 @@ fn push_half(number: u32, out: &mut Vec<u8>) -> Result<(), Stop>
     push((number / 256 % 256) as u8, out)
 }
 
-/// A value as a number without sign.
+/// A value as an unsigned number of its size.
 fn unsigned(size: Size, number: i64) -> u32
     requires small { nat_abs number < 2 ^ 34 }
     requires within { is_beyond (scale size) (Some number) ≡ false }
@@ -154,7 +154,7 @@ fn unsigned(size: Size, number: i64) -> u32
     }
 }
 
-/// Puts a value at the end.
+/// Appends a value.
 fn push_value(size: Size, number: i64, out: &mut Vec<u8>) -> Result<(), Stop>
     requires small { nat_abs number < 2 ^ 34 }
     requires within { is_beyond (scale size) (Some number) ≡ false }
@@ -164,7 +164,7 @@ fn push_value(size: Size, number: i64, out: &mut Vec<u8>) -> Result<(), Stop>
     push_low(size, unsigned(size, number), out)
 }
 
-/// Puts the value of a piece at the end.
+/// Appends the value of a piece.
 fn push_piece(
     size: Size,
     piece: &[u8],
@@ -186,7 +186,7 @@ fn push_piece(
     }
 }
 
-/// Puts values at the end, which are known and in range.
+/// Appends values that are known and in range.
 fn push_all(
     size: Size,
     pieces: &[u8],
@@ -214,7 +214,7 @@ fn push_all(
     Ok(())
 }
 
-/// Is an address no multiple of the values' width?
+/// Whether an address is not a multiple of the size of the values.
 fn is_misplaced(at: u32, size: Size) -> bool
     ensures { result ≡ not (nat_eq (at % scale size) 0) }
 {
@@ -225,7 +225,7 @@ fn is_misplaced(at: u32, size: Size) -> bool
     }
 }
 
-/// Puts values at the end, or tells why they can't stand there.
+/// Appends values, or returns why they are refused.
 #[tactic(auto, unfolding(crate::specs::Causes::shape_cause))]
 pub(crate) fn emit(
     at: u32,

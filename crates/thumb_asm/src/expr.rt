@@ -12,14 +12,14 @@ use super::index::{KnownNames, is_same};
 use super::words::{is_name, strip};
 use text_lines::{hex_number, number};
 
-/// A name to look up, and what is added.
+/// An expression: a name to look up, if there is one, and a number that is added.
 #[derive(Clone, Copy)]
 pub(crate) struct Expr<'a> {
     pub(crate) name: Option<&'a [u8]>,
     pub(crate) number: i64,
 }
 
-/// The first byte, and what is behind it.
+/// The first byte, and what comes after it.
 pub(crate) fn head(text: &[u8]) -> Option<(u8, &[u8])>
     ensures { MatchOption result (text.now ≡ []) (λ p. text.now ≡ p.0 ∷ p.1.now) }
 {
@@ -39,7 +39,7 @@ fn is_hexadecimal(piece: &[u8]) -> bool
     }
 }
 
-/// A number of 32 bits, in decimal or behind `0x`.
+/// A number of 32 bits, in decimal or after `0x`.
 #[tactic(auto, unfolding(crate::specs::Operands::natural))]
 fn natural(piece: &[u8]) -> Option<u32>
     ensures { result ≡ natural piece.now }
@@ -54,7 +54,7 @@ fn natural(piece: &[u8]) -> Option<u32>
     }
 }
 
-/// A number behind its first byte.
+/// A number, from its first byte and the rest.
 #[tactic(auto, unfolding(crate::specs::Operands::signed))]
 fn signed_at(first: u8, rest: &[u8], piece: &[u8]) -> Option<i64>
     requires { piece.now ≡ first ∷ rest.now }
@@ -74,7 +74,7 @@ fn signed_at(first: u8, rest: &[u8], piece: &[u8]) -> Option<i64>
     }
 }
 
-/// A number, perhaps behind `-`.
+/// A number, perhaps after `-`.
 #[tactic(auto, unfolding(crate::specs::Operands::signed))]
 pub(crate) fn signed(piece: &[u8]) -> Option<i64>
     ensures value { result ≡ signed piece.now }
@@ -92,7 +92,7 @@ fn is_sign(c: u8) -> bool
     c == b'+' || c == b'-'
 }
 
-/// Where the first sign stands, or the length.
+/// The index of the first sign, or the length.
 fn sign_place(text: &[u8]) -> usize
     ensures { IsFirst is_sign text.now result }
 {
@@ -131,7 +131,7 @@ fn turned(sign: u8, number: i64) -> i64
     if sign == b'+' { number } else { 0 - number }
 }
 
-/// A sign and a number added.
+/// Adds a sign and a number to an expression.
 fn added_at<'a>(expr: Option<Expr<'a>>, sign: u8, rest: &[u8]) -> Option<Expr<'a>>
     requires small { IfSome expr (λ e. nat_abs e.number < 2 ^ 32) }
     requires name { IfSome expr (λ e. IfSome e.name (λ n. is_name n.now ≡ true)) }
@@ -165,7 +165,7 @@ fn added<'a>(expr: Option<Expr<'a>>, tail: &[u8]) -> Option<Expr<'a>>
     }
 }
 
-/// An expression behind its first byte.
+/// An expression, from its first byte and the rest.
 fn sum_at<'a>(first: u8, rest: &'a [u8], piece: &'a [u8]) -> Option<Expr<'a>>
     requires { piece.now ≡ first ∷ rest.now }
     ensures value { option_map expr_of result ≡ sum_of (first ∷ rest.now) }
@@ -176,7 +176,7 @@ fn sum_at<'a>(first: u8, rest: &'a [u8], piece: &'a [u8]) -> Option<Expr<'a>>
     added(term(strip(front_of(piece, end))), &rest[end..])
 }
 
-/// So many bytes, and one more.
+/// The first `end` bytes of a piece, and one more.
 fn front_of(piece: &[u8], end: usize) -> &[u8]
     requires { end < length piece.now }
     ensures { (c : ℕ) (cs : List ℕ) → piece.now ≡ c ∷ cs → result.now ≡ c ∷ take end cs }
@@ -198,7 +198,7 @@ pub(crate) fn expression(piece: &[u8]) -> Option<Expr<'_>>
     }
 }
 
-/// The value of an expression, unless it has an unknown name.
+/// The value of an expression, or None if it has an unknown name.
 #[tactic(auto, unfolding(crate::specs::Meaning::value))]
 pub(crate) fn value(piece: &[u8], names: &KnownNames<'_>) -> Option<i64>
     ensures value { result ≡ value (env_in names.now.labels.now names.now.symbols.now) piece.now }

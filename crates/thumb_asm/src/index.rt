@@ -8,20 +8,21 @@ ghost use Rattle.thumb_asm.specs.Passes.{names_of, symbol_values, env_in, given_
 use std::alloc::{AllocError, Global};
 use std::collections::BTreeMap;
 
-/// An index of symbols by their names. Made once, it serves any number of texts (`assemble_with`).
+/// An index of symbols by their names. It is made once and can be used for many texts
+/// (`assemble_with`).
 #[derive(Drop)]
 pub struct Symbols {
     pub(crate) values: BTreeMap<String, u32>,
 }
 
-/// The symbols that a text is given: its own ones, and those that it shares with other texts.
+/// The symbols that are given for a text: its own, and those that it shares with other texts.
 #[derive(Clone, Copy)]
 pub(crate) struct GivenSymbols<'a> {
     pub(crate) own: &'a Symbols,
     pub(crate) shared: &'a Symbols,
 }
 
-/// Labels, and symbols that were given.
+/// The labels of a text, and the symbols that are given for it.
 #[derive(Clone, Copy)]
 pub(crate) struct KnownNames<'a> {
     pub(crate) labels: &'a BTreeMap<String, u32>,
@@ -46,7 +47,7 @@ pub(crate) fn find(index: &BTreeMap<String, u32>, name: &[u8]) -> Option<u32>
 }
 
 impl GivenSymbols<'_> {
-    /// The value of an own symbol, or else of a shared one.
+    /// The value of the text's own symbol, or else of the shared one.
     pub(crate) fn value(&self, name: &[u8]) -> Option<u32>
         requires { is_name name.now ≡ true }
         ensures { result ≡ given_in self.now name.now }
@@ -71,7 +72,7 @@ impl KnownNames<'_> {
     }
 }
 
-/// Gives a name a value, in place of the one that it had.
+/// Gives a name a value, which replaces the one that it had.
 #[tactic(auto, using(std::proofs::lemmas::Map::Text::text_keys))]
 fn insert(index: &mut BTreeMap<String, u32>, name: String, value: u32) -> Result<(), AllocError>
     ensures { OnOk result ((q : List ℕ) →
@@ -82,7 +83,7 @@ fn insert(index: &mut BTreeMap<String, u32>, name: String, value: u32) -> Result
     Ok(())
 }
 
-/// A name as a text.
+/// A name as a string.
 pub(crate) fn text(alloc: Global, name: &[u8]) -> Result<String, AllocError>
     requires { is_name name.now ≡ true }
     ensures { IfOk result (λ t. string_bytes t ≡ name.now) }
@@ -130,7 +131,7 @@ fn add_symbol(
     }
 }
 
-/// The symbols by their names; of two with one name the first counts.
+/// The symbols by their names; of two with the same name the first counts.
 fn of_symbols(alloc: Global, symbols: &[(String, u32)]) -> Result<BTreeMap<String, u32>, AllocError>
     ensures { IfOk result (λ index. Indexes index (names_of symbols.now)) }
 {
@@ -150,7 +151,7 @@ impl Symbols {
         Symbols { values }
     }
 
-    /// An index of these symbols; of two with one name the first counts.
+    /// An index of these symbols; of two with the same name the first counts.
     pub fn of(alloc: Global, symbols: &[(String, u32)]) -> Result<Symbols, AllocError>
         ensures { IfOk result (λ s. values_of s ≡ symbol_values symbols.now) }
     {

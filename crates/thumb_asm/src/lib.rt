@@ -1,7 +1,8 @@
-//! The assembler (docs/FORMATS.md, Assembler): lines of text become the bytes of instructions and
-//! data, or the first cause why they do not. The language is defined in `specs/`: `Parts` cuts a
-//! line, `Operands` reads its operands, `Syntax` has one line for each syntax, `Meaning` says which
-//! bytes and labels lines have, and `Causes` what is refused and in which order.
+//! The assembler (docs/FORMATS.md, Assembler): it turns lines of text into the bytes of
+//! instructions and data, or gives the first cause why they are refused. The language is defined in
+//! `specs/`: `Parts` cuts a line, `Operands` reads its operands, `Syntax` has one line for each
+//! syntax, `Meaning` says which bytes and labels lines have, and `Causes` what is refused and in
+//! which order.
 #![tactic(auto)]
 
 ghost use Rattle.std.specs.Prelude.{◌≡◌};
@@ -33,7 +34,7 @@ use std::fmt;
 use thiserror::Error;
 use thumb_insn::{Barrier, Bytes, Cond, Load, Op, Shift, Size};
 
-/// What the first word of a statement names.
+/// What the first word of a statement means.
 #[derive(Clone, Copy)]
 pub(crate) enum Mnemonic {
     Shift(Shift),
@@ -117,7 +118,7 @@ impl Cause {
         }
     }
 
-    /// What is told of a cause.
+    /// The text of a cause.
     fn text(self) -> &'static str {
         match self {
             Cause::BadByte => "a byte that is not allowed",
@@ -149,7 +150,7 @@ impl std::error::Error for Cause {}
 /// Why a text is not assembled.
 #[derive(Debug, Drop, Error)]
 pub enum AsmFault {
-    /// There was not enough memory.
+    /// Memory runs out.
     #[error("out of memory")]
     Memory,
     /// A cause, and its line, counted from 1.
@@ -157,7 +158,7 @@ pub enum AsmFault {
     Refused(Cause, usize),
 }
 
-/// Why a line is not emitted.
+/// Why the bytes of a line are not appended.
 #[derive(Drop)]
 pub(crate) enum Stop {
     Memory,

@@ -1,4 +1,4 @@
-//! Where each line of a text lies.
+//! The address of each line of a text.
 
 ghost use Rattle.std.specs.Prelude.{◌≡◌, ◌<◌, ◌≤◌, ◌+◌, ◌^◌, ◌++◌, ◌∷◌, [], length, IfOk, OnOk, IfSome, MatchOption};
 ghost use Rattle.text_lines.specs.Text.{lines_of};
@@ -38,7 +38,8 @@ pub(crate) struct Placed<'a> {
     pub(crate) text: &'a [u8],
 }
 
-/// The lines of a text that have not been given yet, behind so many lines and bytes of it.
+/// An iterator over the lines of a text with their numbers and addresses: the rest of the lines,
+/// and how many lines and bytes come before them.
 #[derive(Clone, Copy)]
 pub(crate) struct PlacedLines<'a> {
     pub(crate) lines: Lines<'a>,
@@ -47,7 +48,7 @@ pub(crate) struct PlacedLines<'a> {
     pub(crate) number: usize,
 }
 
-/// How many bytes a line takes behind those used, where it ends within 1048576 bytes.
+/// How many bytes a line takes after those that are used, if it ends within 1048576 bytes.
 #[tactic(auto, unfolding(crate::specs::Causes::line_size))]
 fn room_for(line: &[u8], base: u32, used: u32) -> Option<u32>
     requires base { base + 1048576 < 2 ^ 32 }
@@ -63,7 +64,7 @@ fn room_for(line: &[u8], base: u32, used: u32) -> Option<u32>
 }
 
 impl<'a> PlacedLines<'a> {
-    /// All lines of a text whose first line stands at a base.
+    /// All lines of a text whose first line is at the address `base`.
     fn of(text: &'a [u8], base: u32) -> PlacedLines<'a>
         requires { base + 1048576 < 2 ^ 32 }
         ensures lines { lines_left result ≡ placed base (lines_of text.now) }
@@ -77,7 +78,7 @@ impl<'a> PlacedLines<'a> {
         }
     }
 
-    /// The next line, unless it would end behind 1048576 bytes.
+    /// The next line, unless it would end after 1048576 bytes.
     #[tactic(auto, using(crate::proofs::Placing::left_none, crate::proofs::Placing::left_stops, crate::proofs::Placing::left_next))]
     fn next(&mut self) -> Option<Placed<'a>>
         requires room { HaveRoom self.old }
@@ -100,7 +101,7 @@ impl<'a> PlacedLines<'a> {
     }
 }
 
-/// An instruction, and no data.
+/// Whether a statement is an instruction, not data.
 fn is_insn(shape: Shape<'_>) -> bool
     ensures { result ≡ is_insn (shape_of shape.entry) }
 {
@@ -126,14 +127,14 @@ fn is_instruction(line: &[u8]) -> bool
     }
 }
 
-/// The lines of a text that are instructions, where its first line stands at `base`. A line of
-/// data, of a label alone or of nothing is none. A text that `assemble` accepts is listed whole, by
-/// `accepted_texts_are_listed_whole`; of another one the lines are listed up to the first that
-/// would end behind 1048576 bytes.
+/// The lines of a text that are instructions, if its first line is at the address `base`. A line of
+/// data, of only a label or of nothing is not one. For a text that `assemble` accepts, all of them
+/// are listed (`accepted_texts_are_listed_whole`). For any other text they are listed up to the
+/// first line that would end after 1048576 bytes.
 ///
 /// # Errors
 ///
-/// Only want of memory.
+/// Only if memory runs out.
 #[tactic(auto, using(crate::proofs::Placing::insn_found, crate::proofs::Placing::insn_passed, crate::proofs::Placing::insn_ends))]
 pub fn instruction_lines(alloc: Global, text: &[u8], base: u32) -> Result<Vec<InsnLine>, AllocError>
     requires { base + 1048576 < 2 ^ 32 }
@@ -172,13 +173,13 @@ fn push_label(alloc: Global, labels: &mut Vec<Label>, line: &Placed<'_>) -> Resu
     }
 }
 
-/// The labels of a text in order of its lines, where its first line stands at `base`; what stands
-/// before a colon and is no name is none. Of the lines, those count that `instruction_lines` looks
-/// at.
+/// The labels of a text in the order of its lines, if its first line is at the address `base`. Text
+/// before a colon that is not a name is not a label. The lines are those that `instruction_lines`
+/// looks at.
 ///
 /// # Errors
 ///
-/// Only want of memory.
+/// Only if memory runs out.
 #[tactic(auto, using(crate::proofs::Placing::label_found, crate::proofs::Placing::label_ends))]
 pub fn label_lines(alloc: Global, text: &[u8], base: u32) -> Result<Vec<Label>, AllocError>
     requires { base + 1048576 < 2 ^ 32 }
@@ -192,8 +193,8 @@ pub fn label_lines(alloc: Global, text: &[u8], base: u32) -> Result<Vec<Label>, 
     Ok(labels)
 }
 
-/// A text that `assemble` accepts has an address for each line, and `label_lines` gives the labels
-/// that it gives.
+/// In a text that `assemble` accepts each line has an address, and `label_lines` gives the same
+/// labels as `assemble`.
 pub fn accepted_texts_are_listed_whole()
     ensures lines { EachLineIsPlaced }
     ensures labels { EachLabelIsListed }

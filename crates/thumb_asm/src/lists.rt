@@ -1,4 +1,4 @@
-//! Lists of registers, as they are written.
+//! Lists of registers, read from their text.
 
 ghost use Rattle.std.specs.Prelude.{◌≡◌, ◌∷◌, ◌<◌, ◌+◌, ◌&&◌, ◌||◌, ◌≤◌, if◌then◌else◌, is_some, IfSome, MatchOption, Some, None, []};
 ghost use Rattle.std.specs.List.{list_any};
@@ -11,7 +11,7 @@ ghost use Rattle.thumb_asm.specs.Sizes.{is_in, is_listed, is_double, is_named, a
 use super::operand::split_by;
 use super::words::{is_nil, register, strip};
 
-/// What is left of a list.
+/// An iterator over the ranges of a list: the text that is left.
 #[derive(Clone, Copy)]
 pub(crate) struct Ranges<'a> {
     rest: Option<&'a [u8]>,
@@ -29,7 +29,7 @@ impl<'a> Ranges<'a> {
         }
     }
 
-    /// The next range, by its ends.
+    /// The next range, as its two ends.
     #[tactic(auto, unfolding(crate::specs::Kinds::good_ranges))]
     fn next(&mut self) -> Option<(u8, u8)>
         ensures range { MatchOption result (ranges_left (ranges_text self.old) ≡ [])
@@ -54,7 +54,7 @@ impl<'a> Ranges<'a> {
     }
 }
 
-/// The ends of a range, or a register twice.
+/// The ends of a range; for a single register, that register twice.
 fn ends(piece: &[u8]) -> Option<(u8, u8)>
     ensures value { result ≡ ends (stripped_by 45 piece.now) }
     ensures bounds { IfSome result (λ r. (r.0 < 16) × (r.1 < 16)) }
@@ -75,7 +75,7 @@ fn ends(piece: &[u8]) -> Option<(u8, u8)>
     }
 }
 
-/// The ends by their names.
+/// The ends of a range, from their names.
 fn range(low: &[u8], top: &[u8]) -> Option<(u8, u8)>
     ensures value { result ≡ ends (low.now ∷ top.now ∷ []) }
     ensures bounds { IfSome result (λ r. (r.0 < 16) × (r.1 < 16)) }
@@ -89,7 +89,7 @@ fn range(low: &[u8], top: &[u8]) -> Option<(u8, u8)>
     }
 }
 
-/// Is each piece between commas a register or a range?
+/// Whether each piece between commas is a register or a range.
 pub(crate) fn is_list(text: &[u8]) -> bool
     ensures { result ≡ is_some (register_list text.now) }
 {
@@ -192,7 +192,7 @@ fn has_double(text: &[u8]) -> bool
     false
 }
 
-/// Is a register below this one listed?
+/// Whether a register below this one is in the list.
 fn has_lower(text: &[u8], n: u8) -> bool
     ensures { result ≡ any_below (is_listed (ranges_in text.now)) n }
 {
@@ -210,7 +210,7 @@ fn is_stray(text: &[u8], extra: u8, r: u8) -> bool
     r >= 8 && r != extra && is_named(text, r)
 }
 
-/// Has it a high register but this one?
+/// Whether the list has a high register other than this one.
 pub(crate) fn has_stray(extra: u8, text: &[u8]) -> bool
     ensures { result ≡ has_stray extra (ranges_in text.now) }
 {
@@ -222,14 +222,14 @@ pub(crate) fn has_stray(extra: u8, text: &[u8]) -> bool
     false
 }
 
-/// Is it empty, has it a falling range, or a register twice?
+/// Whether the list is empty, has a falling range, or has a register twice.
 pub(crate) fn is_no_list(text: &[u8]) -> bool
     ensures { result ≡ is_no_list (ranges_in text.now) }
 {
     is_empty(text) || has_falling(text) || has_double(text)
 }
 
-/// Is `!` missing, or wrong?
+/// Whether the `!` of a base is missing or wrong.
 pub(crate) fn is_raised_wrong(n: u8, raised: bool, loads: bool, text: &[u8]) -> bool
     ensures { result ≡ is_raised_wrong n raised loads (ranges_in text.now) }
 {
@@ -244,7 +244,7 @@ pub(crate) fn is_raised_wrong(n: u8, raised: bool, loads: bool, text: &[u8]) -> 
     }
 }
 
-/// The low registers as a mask.
+/// The low registers of a list as a mask.
 #[tactic(auto, unfolding(crate::specs::Sizes::mask_below))]
 pub(crate) fn mask(text: &[u8]) -> u8
     ensures { result ≡ mask_of (ranges_in text.now) }
@@ -259,7 +259,7 @@ pub(crate) fn mask(text: &[u8]) -> u8
         + bit(text, 7, 128)
 }
 
-/// A register's bit.
+/// The bit of a register, if it is in the list; else 0.
 fn bit(text: &[u8], r: u8, value: u8) -> u8
     ensures value { result ≡ (if is_listed (ranges_in text.now) r then value else 0) }
     ensures bound { result ≤ value }

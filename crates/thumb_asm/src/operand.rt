@@ -13,7 +13,7 @@ use super::quotes::is_closed;
 use super::words::{register, strip};
 use thumb_insn::Reg;
 
-/// An operand of a statement. Texts are kept as they are written.
+/// An operand of a statement. Expressions, lists and quoted texts are kept as text.
 #[derive(Clone, Copy)]
 pub(crate) enum Operand<'a> {
     Register(Reg),
@@ -23,13 +23,13 @@ pub(crate) enum Operand<'a> {
     Memory(Reg),
     MemoryRegister(Reg, Reg),
     MemoryImmediate(Reg, &'a [u8]),
-    /// What stands in braces.
+    /// The text in braces.
     Registers(&'a [u8]),
-    /// What stands behind the first quote.
+    /// The text after the first quote.
     Quoted(&'a [u8]),
 }
 
-/// What stands before a mark at the end.
+/// The text before a mark, if the text ends with that mark.
 fn closed_by(mark: u8, text: &[u8]) -> Option<&[u8]>
     ensures { option_map (λ r. r.now) result ≡ closed_by mark text.now }
 {
@@ -60,7 +60,7 @@ fn immediate(text: &[u8]) -> Option<Operand<'_>>
     }
 }
 
-/// The register of a name.
+/// The register with this name.
 fn reg(word: &[u8]) -> Option<Reg>
     ensures { result ≡ as_reg word.now }
 {
@@ -79,7 +79,7 @@ fn raised(piece: &[u8]) -> Option<Reg>
     }
 }
 
-/// A register, one with `!`, or an expression.
+/// A register, a register with `!`, or an expression.
 fn bare(piece: &[u8]) -> Option<Operand<'_>>
     ensures { option_map operand_of result ≡ bare piece.now }
 {
@@ -124,7 +124,7 @@ fn offset(base: Reg, piece: &[u8]) -> Option<Operand<'_>>
     }
 }
 
-/// What stands before the first mark, and what behind it.
+/// The text before the first mark, and the text after it.
 pub(crate) fn split_by(mark: u8, text: &[u8]) -> (&[u8], Option<&[u8]>)
     ensures cuts { stripped_by mark text.now ≡ result.0.now ∷ cuts_left mark
         (option_map (λ r. r.now) result.1) }
@@ -138,7 +138,7 @@ pub(crate) fn split_by(mark: u8, text: &[u8]) -> (&[u8], Option<&[u8]>)
     (strip(text), None)
 }
 
-/// What is in brackets.
+/// The operand in brackets.
 fn memory(inner: &[u8]) -> Option<Operand<'_>>
     ensures { option_map operand_of result ≡ memory (stripped_by 44 inner.now) }
 {
@@ -167,7 +167,7 @@ fn bracketed(text: &[u8]) -> Option<Operand<'_>>
     }
 }
 
-/// What is in braces.
+/// The operand in braces.
 #[tactic(auto, using(crate::proofs::Texts::listed_good, crate::proofs::Texts::listed_bad))]
 fn braced(text: &[u8]) -> Option<Operand<'_>>
     ensures { option_map operand_of result ≡ in_braces text.now }
@@ -182,7 +182,7 @@ fn braced(text: &[u8]) -> Option<Operand<'_>>
     }
 }
 
-/// What is behind a quote.
+/// The operand after a quote.
 #[tactic(auto, using(crate::proofs::Texts::quoted_good, crate::proofs::Texts::quoted_bad))]
 fn quoted(text: &[u8]) -> Option<Operand<'_>>
     ensures { option_map operand_of result ≡ in_quotes text.now }
@@ -212,7 +212,7 @@ fn operand_at<'a>(first: u8, rest: &'a [u8], piece: &'a [u8]) -> Option<Operand<
     }
 }
 
-/// The kind of an operand is known by its first character.
+/// An operand. Its first character decides its kind.
 #[tactic(auto, unfolding(crate::specs::Operands::operand))]
 pub(crate) fn parse(piece: &[u8]) -> Option<Operand<'_>>
     ensures { option_map operand_of result ≡ operand piece.now }

@@ -1,4 +1,4 @@
-//! The two passes.
+//! The two passes of the assembler.
 
 ghost use Rattle.std.specs.Prelude.{ℕ, Option, ◌≡◌, ◌<◌, ◌≤◌, ◌+◌, ◌^◌, ◌-◌, [], option_map, OnOk, IfOk, IfErr, None, Some};
 ghost use Rattle.std.specs.BTreeMap.{get_by_text};
@@ -19,16 +19,16 @@ use std::alloc::Global;
 use std::collections::BTreeMap;
 use text_lines::Lines;
 
-/// What a text is assembled to.
+/// The result of assembling a text.
 #[derive(Drop)]
 pub struct Object {
-    /// The bytes of the lines one behind the other, the first at the base.
+    /// The bytes of the lines one after another, the first one at the base.
     pub bytes: Vec<u8>,
     /// Each label with the address of its line.
     pub labels: BTreeMap<String, u32>,
 }
 
-/// What the first pass finds.
+/// The result of the first pass.
 #[derive(Drop)]
 struct Survey {
     labels: BTreeMap<String, u32>,
@@ -84,7 +84,7 @@ fn survey_line(line: &[u8], base: u32, used: u32, names: &KnownNames<'_>) -> Res
     }
 }
 
-/// The first pass: labels and lengths.
+/// The first pass: labels and sizes.
 fn place_lines(
     alloc: Global,
     text: &[u8],
@@ -122,7 +122,7 @@ fn place_lines(
     Ok(Survey { labels, size: used })
 }
 
-/// The bytes of a line.
+/// Appends the bytes of a line.
 fn emit_line(at: u32, line: &[u8], names: &KnownNames<'_>, out: &mut Vec<u8>) -> Result<(), Stop>
     ensures ok { OnOk result (Emitted (env_in names.now.labels.now names.now.symbols.now) at
         line.now out.old.items out.new.items) }
@@ -149,7 +149,7 @@ fn fault_at(stop: Stop, line: usize) -> AsmFault
     }
 }
 
-/// The second pass: bytes.
+/// The second pass: the bytes of all lines.
 fn emit(alloc: Global, text: &[u8], base: u32, names: &KnownNames<'_>) -> Result<Vec<u8>, AsmFault>
     requires base { base + 1048576 < 2 ^ 32 }
     requires size { size_from base (lines_of text.now) ≤ 1048576 }
@@ -172,7 +172,7 @@ fn emit(alloc: Global, text: &[u8], base: u32, names: &KnownNames<'_>) -> Result
     Ok(out)
 }
 
-/// The same with the symbols by their names.
+/// The same, with indexes of the symbols.
 #[tactic(auto, unfolding(crate::specs::Causes::first_cause))]
 fn assemble_given(
     alloc: Global,
@@ -208,9 +208,9 @@ fn assemble_given(
     }
 }
 
-/// `assemble` for many texts that share symbols: `own` and then `shared` give names values besides
-/// the labels. The index of the shared ones is made once (`Symbols::of`), and a label is the name
-/// of none of either.
+/// `assemble` for many texts that share symbols. Besides labels, a name gets its value from `own`,
+/// or else from `shared`. The index of the shared symbols is made once (`Symbols::of`). A label may
+/// not have the name of a symbol of either.
 pub fn assemble_with(
     alloc: Global,
     text: &[u8],
@@ -234,10 +234,10 @@ pub fn assemble_with(
     }
 }
 
-/// The bytes and labels of a text whose first line stands at `base`, or the first cause why it has
-/// none, by the order of docs/FORMATS.md, Assembler. `symbols` give names values besides the
-/// labels; of two with one name the first counts. The last byte of a text stands below address
-/// 2^32.
+/// The bytes and labels of a text whose first line is at the address `base`; or the first cause why
+/// the text is refused, in the order of docs/FORMATS.md, Assembler. Besides labels, a name gets its
+/// value from `symbols`; of two with the same name the first counts. The last byte of a text has an
+/// address below 2^32.
 pub fn assemble(
     alloc: Global,
     text: &[u8],

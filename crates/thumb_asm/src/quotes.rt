@@ -10,13 +10,14 @@ use super::Stop;
 use super::expr::head;
 use super::index::is_same;
 
-/// What is left of a text behind its first quote.
+/// An iterator over the bytes that a quoted text means: the text that is left after its first
+/// quote.
 #[derive(Clone, Copy)]
 struct Quoted<'a> {
     rest: &'a [u8],
 }
 
-/// The byte of an escape.
+/// The byte that an escape means.
 fn escape(c: u8) -> Option<u8>
     ensures { result ≡ escape c }
 {
@@ -29,8 +30,8 @@ fn escape(c: u8) -> Option<u8>
 }
 
 impl<'a> Quoted<'a> {
-    /// The next byte that the text says. None: at the closing quote, at an escape that is none, or
-    /// at the end.
+    /// The next byte that the text means. None at the closing quote, at a bad escape, or at the
+    /// end.
     #[tactic(auto, unfolding(crate::specs::Kinds::good_text), using(crate::proofs::Texts::next_steps))]
     fn next(&mut self) -> Option<u8>
         ensures byte { MatchOption result (good_text false self.old.rest.now ≡ [])
@@ -62,7 +63,7 @@ impl<'a> Quoted<'a> {
     }
 }
 
-/// The byte behind a backslash, and what follows it.
+/// The byte that an escape means, and the text after it.
 #[tactic(auto, unfolding(crate::specs::Kinds::good_text), using(crate::proofs::Texts::escape_steps))]
 fn escaped(rest: &[u8]) -> Option<(u8, &[u8])>
     ensures byte { MatchOption result (good_text true rest.now ≡ [])
@@ -80,7 +81,7 @@ fn escaped(rest: &[u8]) -> Option<(u8, &[u8])>
     }
 }
 
-/// Does a text end with its closing quote, and has it no bad escape?
+/// Whether a text ends with its closing quote and has no bad escape.
 pub(crate) fn is_closed(text: &[u8]) -> bool
     ensures { result ≡ ends_well false text.now }
 {
@@ -89,7 +90,7 @@ pub(crate) fn is_closed(text: &[u8]) -> bool
     is_same(left.rest, b"\"")
 }
 
-/// How many bytes a text says.
+/// How many bytes a quoted text means.
 pub(crate) fn count(text: &[u8]) -> usize
     ensures value { result ≡ length (good_text false text.now) }
     ensures bound { result ≤ length text.now }
@@ -102,7 +103,7 @@ pub(crate) fn count(text: &[u8]) -> usize
     count
 }
 
-/// Puts what a text says at the end.
+/// Appends the bytes that a quoted text means.
 pub(crate) fn push(text: &[u8], out: &mut Vec<u8>) -> Result<(), Stop>
     ensures ok { OnOk result (out.new.items ≡ out.old.items ++ good_text false text.now) }
     ensures err { IfErr result (λ e. (cause : Option Why) → Stops e cause) }

@@ -25,7 +25,7 @@ use super::words::is_nil;
 use super::{Cause, Mnemonic, Stop, quotes};
 use thumb_insn::{Insn, Reg, Size};
 
-/// A statement, with its expressions as they are written.
+/// The shape of a statement, with its expressions as text.
 #[derive(Clone, Copy)]
 pub(crate) enum Shape<'a> {
     Fixed(Insn),
@@ -42,7 +42,7 @@ pub(crate) enum Shape<'a> {
     Padding(&'a [u8]),
 }
 
-/// What a statement is.
+/// The shape of a statement; None if there is no statement.
 #[tactic(auto, unfolding(crate::specs::Sizes::statement_of))]
 pub(crate) fn statement(text: &[u8]) -> Result<Option<Shape<'_>>, Cause>
     ensures value { shown result ≡ statement_of text.now }
@@ -119,7 +119,7 @@ fn width(size: Size) -> usize
     }
 }
 
-/// How many zero bytes are asked for.
+/// How many zero bytes a statement asks for.
 fn zeros(piece: &[u8]) -> u32
     ensures { result ≡ natural_part (signed piece.now) }
 {
@@ -129,7 +129,7 @@ fn zeros(piece: &[u8]) -> u32
     }
 }
 
-/// How many zero bytes lead to a multiple of a power of two.
+/// How many zero bytes there are up to a multiple of a power of two.
 fn padding(at: u32, power: u32) -> u32
     requires { power ≤ 8 }
     ensures { result ≡ padding at power }
@@ -151,7 +151,7 @@ fn data_size(size: Size, pieces: &[u8]) -> Option<u32>
     }
 }
 
-/// How many bytes a text says, unless they are too many.
+/// How many bytes a quoted text means, unless they are too many.
 fn text_size(text: &[u8]) -> Option<u32>
     ensures { MatchOption result (1048576 < length (good_text false text.now))
         (λ n. n ≡ length (good_text false text.now)) }
@@ -164,7 +164,7 @@ fn text_size(text: &[u8]) -> Option<u32>
     }
 }
 
-/// How many bytes a statement takes. None: more than a text may have.
+/// How many bytes a statement takes; None if there are more than a text may have.
 #[tactic(auto, unfolding(crate::specs::Sizes::shape_size, crate::specs::Sizes::has_bad_count))]
 pub(crate) fn size(at: u32, shape: &Shape<'_>) -> Option<u32>
     requires { has_bad_count (shape_of shape.now) ≡ false }
@@ -186,8 +186,8 @@ pub(crate) fn size(at: u32, shape: &Shape<'_>) -> Option<u32>
     }
 }
 
-/// How many bytes a line with this statement, or with none, takes behind those used, where it ends
-/// within 1048576 bytes.
+/// How many bytes a line with this statement, or with none, takes after those that are used, if it
+/// ends within 1048576 bytes.
 pub(crate) fn room_for(found: &Option<Shape<'_>>, base: u32, used: u32) -> Option<u32>
     requires counted { IfSome found.now (λ s. has_bad_count (shape_of s) ≡ false) }
     requires base { base + 1048576 < 2 ^ 32 }
@@ -208,7 +208,7 @@ pub(crate) fn room_for(found: &Option<Shape<'_>>, base: u32, used: u32) -> Optio
     }
 }
 
-/// The value's instruction, or why there is none.
+/// The instruction with the value of an expression, or why there is none.
 #[tactic(auto, unfolding(crate::specs::Meaning::insn_at))]
 fn filled(at: u32, piece: &[u8], insn: Insn, names: &KnownNames<'_>) -> Result<Insn, Cause>
     ensures { Finds result (insn_at (env_in names.now.labels.now names.now.symbols.now) at
@@ -220,7 +220,7 @@ fn filled(at: u32, piece: &[u8], insn: Insn, names: &KnownNames<'_>) -> Result<I
     }
 }
 
-/// The same for a value with bounds of its own.
+/// The same for a value that has bounds.
 #[tactic(auto, unfolding(crate::specs::Meaning::insn_at))]
 fn within(
     at: u32,
@@ -239,7 +239,7 @@ fn within(
     }
 }
 
-/// How far a target lies from the address plus 4.
+/// The distance of a target from the address plus 4.
 #[inline(always)]
 fn distance(at: u32, target: i64) -> i64
     requires { nat_abs target < 2 ^ 34 }
@@ -261,7 +261,7 @@ fn aimed(at: u32, piece: &[u8], insn: Insn, names: &KnownNames<'_>) -> Result<In
     }
 }
 
-/// How far a target lies from the address plus 4, aligned down to a multiple of 4.
+/// The distance of a target from the address plus 4 aligned down to a multiple of 4.
 fn aligned_distance(at: u32, target: i64) -> i64
     requires { nat_abs target < 2 ^ 34 }
     ensures { result ≡ target -ℤ pos ((at + 4) / 4 * 4) }
@@ -269,7 +269,7 @@ fn aligned_distance(at: u32, target: i64) -> i64
     target - (i64::from(at) + 4) / 4 * 4
 }
 
-/// The same from the address aligned down.
+/// The same for a distance from the address plus 4 aligned down.
 #[tactic(auto, unfolding(crate::specs::Meaning::insn_at))]
 fn near(at: u32, piece: &[u8], insn: Insn, names: &KnownNames<'_>) -> Result<Insn, Cause>
     ensures { Finds result (insn_at (env_in names.now.labels.now names.now.symbols.now) at
@@ -281,7 +281,7 @@ fn near(at: u32, piece: &[u8], insn: Insn, names: &KnownNames<'_>) -> Result<Ins
     }
 }
 
-/// The instruction of a list.
+/// The instruction of a list: `push` or `pop`.
 fn list_insn(loads: bool, text: &[u8]) -> Insn
     ensures { result ≡ list_insn loads (ranges_in text.now) }
 {
@@ -328,7 +328,7 @@ fn insn_at(at: u32, shape: &Shape<'_>, names: &KnownNames<'_>) -> Result<Insn, C
     }
 }
 
-/// Puts the code of a statement's instruction at the end.
+/// Appends the code of a statement's instruction.
 fn emit_code(
     at: u32,
     shape: &Shape<'_>,
@@ -344,7 +344,7 @@ fn emit_code(
     emit_found(at, insn_at(at, shape, names), out)
 }
 
-/// Puts a statement's bytes at the end.
+/// Appends the bytes of a statement.
 #[tactic(auto, unfolding(crate::specs::Sizes::has_bad_count, crate::specs::Causes::shape_cause))]
 pub(crate) fn emit(
     at: u32,

@@ -32,7 +32,7 @@ pub(crate) fn shaped(m: Mnemonic, rest: &[u8]) -> Option<Shape<'_>>
     }
 }
 
-/// The same behind one operand.
+/// The same after one operand.
 #[tactic(auto, unfolding(crate::specs::Operands::operands))]
 fn behind_one<'a>(m: Mnemonic, a: Operand<'a>, mut pieces: Pieces<'a>) -> Option<Shape<'a>>
     requires { IsPlain m }
@@ -46,7 +46,7 @@ fn behind_one<'a>(m: Mnemonic, a: Operand<'a>, mut pieces: Pieces<'a>) -> Option
     }
 }
 
-/// The same behind two.
+/// The same after two operands.
 #[tactic(auto, unfolding(crate::specs::Operands::operands))]
 fn behind_two<'a>(
     m: Mnemonic,
@@ -65,7 +65,7 @@ fn behind_two<'a>(
     }
 }
 
-/// The same behind three. No syntax has more.
+/// The same after three operands. No syntax has more.
 #[tactic(auto, unfolding(crate::specs::Operands::operands), using(crate::proofs::Counts::too_many))]
 fn behind_three<'a>(
     m: Mnemonic,
@@ -85,7 +85,7 @@ fn behind_three<'a>(
     }
 }
 
-/// Values, each an expression, at least one.
+/// The shape of values: at least one, and each an expression.
 #[tactic(auto, using(crate::proofs::Expressions::values_some, crate::proofs::Expressions::values_none))]
 pub(crate) fn values(size: Size, rest: &[u8]) -> Option<Shape<'_>>
     ensures { option_map shape_of result ≡ shaped_by (Values size)
@@ -98,7 +98,7 @@ pub(crate) fn values(size: Size, rest: &[u8]) -> Option<Shape<'_>>
     }
 }
 
-/// Is each operand an expression, and is there one?
+/// Whether there is an operand, and each is an expression.
 fn are_expressions(rest: &[u8]) -> bool
     ensures { result ≡ are_expressions (operand_pieces rest.now) }
 {

@@ -50,7 +50,7 @@ pub(crate) fn is_nil(text: &[u8]) -> bool
     text.len() == 0
 }
 
-/// Without the blanks at the front.
+/// The text without the blanks at its front.
 pub(crate) fn strip_front(text: &[u8]) -> &[u8]
     ensures { result.now ≡ strip_front text.now }
 {
@@ -62,7 +62,7 @@ pub(crate) fn strip_front(text: &[u8]) -> &[u8]
     &text[text.len()..]
 }
 
-/// Without the blanks at the end.
+/// The text without the blanks at its end.
 fn strip_end(text: &[u8]) -> &[u8]
     ensures { result.now ≡ strip_end text.now }
 {
@@ -95,7 +95,7 @@ fn has_words(word: &[u8]) -> bool
     word.iter().all(|c| is_word(*c))
 }
 
-/// A letter or `_`, then letters, digits, `_`, at most 64.
+/// Whether a word is a name: a letter or `_`, then letters, digits and `_`, at most 64 bytes.
 pub(crate) fn is_name(word: &[u8]) -> bool
     ensures { result ≡ is_name word.now }
 {
@@ -114,7 +114,7 @@ fn same_letter(c: u8, d: u8) -> bool
     lower(c) == d
 }
 
-/// Is the word this one in lower case?
+/// Whether a word is this name, in upper or lower case. The name is in lower case.
 pub(crate) fn is_any_case(word: &[u8], name: &[u8]) -> bool
     ensures { result ≡ bytes_eq (map lower word.now) name.now }
 {
@@ -129,7 +129,7 @@ pub(crate) fn is_any_case(word: &[u8], name: &[u8]) -> bool
     true
 }
 
-/// What a table has at the word, in any case.
+/// The entry of a table for a word, in upper or lower case.
 #[tactic(auto, unfolding(crate::specs::Chars::entry_at))]
 pub(crate) fn lookup<T: Copy>(mut table: &[(&[u8], T)], word: &[u8]) -> Option<T>
     ensures { result ≡ entry_at (map (λ e. (e.0.now, e.1)) table.entry.now) (map lower word.now) }
@@ -166,7 +166,7 @@ const REGISTERS: &[(&[u8], u8)] = &[
     (b"pc", 15),
 ];
 
-/// The register of a name, in any case.
+/// The register with this name, in upper or lower case.
 pub(crate) fn register(word: &[u8]) -> Option<Reg>
     ensures value { option_map (λ r. r.number) result ≡ register word.now }
     ensures bound { IfSome result (λ r. r.number < 16) }

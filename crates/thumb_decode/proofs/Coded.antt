@@ -1,4 +1,4 @@
--- What the table gives for a code has that code.
+-- An instruction that the table gives for a code has that code.
 use Rattle.std.proofs.Common.{◌≡◌, ℕ, ◌+◌, ◌*◌, ◌^◌, ◌<◌, Some, refl, subst}
 use Rattle.std.specs.Prelude.{Option, None}
 use Rattle.thumb_insn.specs.Table.{narrow_of, narrow_result, wide_of}
@@ -17,6 +17,6 @@ pub narrow_gives_coded : (h : ℕ) (o : Option Insn) → narrow_of h ≡ o → h
 narrow_gives_coded h None e f = tt
 narrow_gives_coded h (Some i) e f = narrow_coded h i e f
 
--- what a taker is handed has a code
+-- an instruction that a taker is handed has a code
 pub coded_of : (h : ℕ) (i : Insn) → narrow_result (narrow_of h) ≡ Narrow i → h < 2 ^ 16 → IsCoded i
 coded_of h i e f = subst (λ d. GivesCoded d) e (narrow_gives_coded h (narrow_of h) refl f)

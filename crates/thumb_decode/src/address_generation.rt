@@ -23,7 +23,7 @@ pub(crate) fn adr<T: Taker>(h: u16, to: &mut T) -> bool
     )
 }
 
-/// ADD (SP and an immediate), its result in a low register.
+/// ADD (SP and an immediate) with its result in a low register.
 #[tactic(auto, using(thumb_insn::proofs::Rows::top_rows))]
 #[inline(always)]
 pub(crate) fn add_sp_immediate<T: Taker>(h: u16, to: &mut T) -> bool

@@ -19,8 +19,8 @@ fn target(h: u16, width: u8) -> i32
     (i32::from(bits(h, 0, width)) << (32 - width)) >> (31 - width)
 }
 
-/// The same of the eleven bits of B. The other five are those of its row: one XOR clears them and
-/// turns the sign round.
+/// The same for the eleven bits of B. The other five bits are fixed by its row, so one XOR clears
+/// them and inverts the sign bit.
 #[inline(always)]
 fn jump_target(h: u16) -> i32
     requires { h / 2048 ≡ 28 }

@@ -5,7 +5,7 @@ ghost use Rattle.thumb_insn.specs.Fields.{field, low_reg, any_reg, split_reg};
 
 use thumb_insn::Reg;
 
-/// The bits from bit `from` on.
+/// `width` bits, from bit `from` on.
 #[inline(always)]
 pub(crate) fn bits(h: u16, from: u8, width: u8) -> u16
     requires low { from < 16 }
@@ -46,7 +46,7 @@ pub(crate) fn any_reg(h: u16, from: u8) -> Reg
     }
 }
 
-/// A register of four bits, the top one apart.
+/// A register field of four bits, whose top bit is bit 7.
 #[inline(always)]
 pub(crate) fn split_reg(h: u16) -> Reg
     ensures { result ≡ split_reg h }

@@ -7,7 +7,7 @@ use crate::Taker;
 use crate::fields::{bits, low_reg};
 use thumb_insn::Insn;
 
-/// A register of the list comes before register n, which is in it.
+/// Whether register n is in the list, and a lower register too.
 #[inline(always)]
 fn is_later(list: u8, n: u8) -> bool
     requires { n < 8 }

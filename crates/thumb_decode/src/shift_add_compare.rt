@@ -8,7 +8,7 @@ use crate::Taker;
 use crate::fields::{low_reg, value};
 use thumb_insn::{Insn, Shift};
 
-/// A code of 0 stands for 32.
+/// The count of a shift to the right: a field of 0 means 32.
 #[inline(always)]
 fn counted(by: u32) -> u32
     ensures { result ≡ count by }

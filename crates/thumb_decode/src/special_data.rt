@@ -15,7 +15,7 @@ pub(crate) fn special_data_or_exchange<T: Taker>(h: u16, to: &mut T) -> bool
     ensures { T.did to.old (narrow_result (narrow_of h)) result to.new }
 {
     let m = any_reg(h, 3);
-    // MOV, by far the most frequent of them, is looked for first, for speed.
+    // For speed the first test is for MOV, which is by far the most frequent of them.
     if h >> 8 == 70 {
         return to.take(h, Insn::MovHigh { d: split_reg(h), m });
     }

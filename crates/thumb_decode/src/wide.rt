@@ -15,14 +15,14 @@ fn field_of(c: u32, from: u8, width: u8) -> u32
     (c >> from) % (1 << width)
 }
 
-/// Bit J of a long branch, by its sign.
+/// Bit I1 or I2 of a long branch, from its bit J1 or J2 and its sign.
 fn unfold_bit(j: u32, s: u32) -> u32
     ensures { result ≡ branch_bit j s }
 {
     if j == s { 1 } else { 0 }
 }
 
-/// Twice a number of 24 bits with a sign.
+/// Twice a signed number of 24 bits.
 fn long_double(x: u32) -> i32
     requires { x < 2 ^ 24 }
     ensures { result ≡ double (signed_field 24 x) }

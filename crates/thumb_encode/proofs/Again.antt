@@ -1,4 +1,4 @@
--- The code of a code's instruction.
+-- The code of the instruction that a code has.
 use Rattle.std.proofs.Common.{bit_and, ◌≡◌, ℕ, ◌*◌, ◌%◌, ◌<◌, true, not, ◌&&◌, ◌||◌, nat_eq, nat_lt, Some, None, arith, ap, subst}
 use Rattle.std.proofs.lemmas.Bool.Decides.{nat_tests}
 use Rattle.thumb_insn.specs.Table.{narrow_of, is_later, rows}

@@ -1,4 +1,4 @@
--- The instruction of an instruction's code, for each.
+-- The instruction that the code of an instruction has, for every instruction.
 use Rattle.std.proofs.Common.{◌≡◌, Some, None}
 use Rattle.thumb_insn.specs.Range.{insn_of}
 use Rattle.thumb_insn.specs.declared.Cond.TheVariants as cond

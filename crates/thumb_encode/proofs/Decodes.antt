@@ -1,4 +1,4 @@
--- What the decoder says of a code, and that an instruction has one code.
+-- What the decoder answers for a code, and that an instruction has only one code.
 use Rattle.std.proofs.Common.{◌≡◌, ℕ, ◌+◌, ◌*◌, ◌/◌, ◌^◌, ◌<◌, ◌≤◌, Bool, true, false, nat_eq, Option, Some, None, arith, refl, if◌then◌else◌}
 use Rattle.std.proofs.lemmas.Bool.{eqb-true}
 use Rattle.std.proofs.lemmas.Bool.Decides.{nat_tests}
@@ -15,7 +15,7 @@ use Rattle.thumb_encode.specs.Codes.{fit_of, code_of, DecodesTo, code_size, insn
 use Rattle.thumb_encode.proofs.Again.{code_again}
 use Rattle.thumb_encode.proofs.Wide.{two_again}
 
--- no halfword with the prefix of two is an instruction of its own
+-- no first halfword of a wide code is itself an instruction
 prefix_none : (h : ℕ) → h < 65536 → is_wide h ≡ true → narrow_of h ≡ None
 unfolding rows
 prefix_none h f w =
@@ -47,7 +47,7 @@ pub again : (i : Insn) (c : Code) → IsCode c → insn_of c ≡ Some i → (fit
 again i (One h) f e = code_again h i f e
 again i (Two first second) f e = let w = two_again first second i f.0 f.1 e in (w.0, w.1)
 
--- What the decoder read is in the table.
+-- An instruction that the decoder gives is in the table.
 
 narrow_inner : (o : Option Insn) (i : Insn) → narrow_result o ≡ decoded.Narrow i → o ≡ Some i
 narrow_inner (Some j) i e = cc

@@ -1,4 +1,4 @@
--- Codes of two halfwords, both ways.
+-- Codes of two halfwords, in both directions.
 use Rattle.std.proofs.Common.{bit_and, ◌≡◌, ℕ, suc, ◌+◌, ◌-◌, ◌*◌, ◌/◌, ◌%◌, ◌<◌, true, false, not, ◌||◌, nat_eq, Some, None, ℤ, pos, negsuc, arith, refl, ap, ◌∙◌, sym, subst}
 use Rattle.std.proofs.lemmas.Bool.{eq-eqb}
 use Rattle.std.proofs.lemmas.Bool.Decides.{nat_tests}
@@ -21,7 +21,7 @@ wide_apart : all_apart wide_rows ≡ true
 unfolding wide_rows
 wide_apart = refl
 
--- the row at k is the row of each code that has its pattern
+-- row k decides for each code that has its pattern
 by_wide : (k : ℕ) (r : Row) (c : ℕ) → nth wide_rows k ≡ Some r → bit_and c r.mask ≡ r.value → wide_of c ≡ r.fields c
 unfolding wide_of
 by_wide k r c e m = found wide_rows k r c wide_apart e (eq-eqb _ _ m)
@@ -46,7 +46,7 @@ mask_msr f s h = and_block 16 f 65520 s 65535 h (omega arith) ∙ ap (λ (x : �
 mask_fence : (c : ℕ) → bit_and c 4294967280 ≡ (c / 16 % 268435456) * 16
 mask_fence c = and_high c 28 4
 
--- a code by its halves
+-- a code, from its halves
 halves : (c m : ℕ) → bit_and c m ≡ bit_and (c / 65536 * 65536 + c % 65536) m
 halves c m = ap (λ (x : ℕ). bit_and x m) (sym (shr_split c 16))
 

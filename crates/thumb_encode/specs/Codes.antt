@@ -1,4 +1,5 @@
--- The table of instructions the other way: the code of an instruction, and why one has none (docs/FORMATS.md, the table and its ranges).
+-- The table of instructions read in the other direction: the code of an instruction, and why an instruction has
+-- none (docs/FORMATS.md, the table and its ranges).
 use Rattle.std.specs.Prelude.{◌≡◌, ℕ, ◌+◌, ◌*◌, ◌/◌, ◌%◌, ◌^◌, ◌<◌, Bool, true, false, ℤ, pos, negsuc, nat_eq, nat_lt, nat_le, if◌then◌else◌, Option, Some, None, Result, Ok, ◌&&◌, ◌||◌, not}
 use Rattle.std.specs.Int.{cast_unsigned, w32}
 use Rattle.thumb_encode.specs.declared.Fit.{Fit}
@@ -28,7 +29,7 @@ use Rattle.thumb_insn.specs.declared.Insn.TheVariants.{ShiftImm, AddsReg, SubsRe
 
 -- Why an instruction has no code.
 
--- the first cause that holds: a register, then a value out of range, then one that is no multiple
+-- the first cause that applies: a register, then a value out of range, then a value that is not a multiple
 abbrev pub misfit : Bool → Bool → Bool → Option Fit
 misfit register offset align = if register then Some Register else if offset then Some Offset else if align then Some Align else None
 
@@ -62,7 +63,7 @@ scale size.Word = 4
 scale size.Half = 2
 scale size.Byte = 1
 
--- a shift to the right is by 1 to 32, one to the left by 0 to 31
+-- a shift to the right is by 1 to 32, a shift to the left by 0 to 31
 abbrev pub is_no_shift : Shift → ℕ → Bool
 is_no_shift shift.Lsl by = nat_lt 31 by
 is_no_shift shift.Lsr by = nat_eq by 0 || nat_lt 32 by
@@ -170,7 +171,7 @@ load_code (load.Whole size.Byte) = 0x5C00
 load_code load.SignedByte = 0x5600
 load_code load.SignedHalf = 0x5E00
 
--- of a store; that of a load is 0x800 more
+-- the code of a store; that of a load is 0x800 more
 abbrev pub imm_code : Size → ℕ
 imm_code size.Word = 0x6000
 imm_code size.Half = 0x8000
@@ -185,7 +186,7 @@ bytes_code bytes.Rev = 0xBA00
 bytes_code bytes.Rev16 = 0xBA40
 bytes_code bytes.Revsh = 0xBAC0
 
--- a bit
+-- a truth value as a bit
 abbrev pub flag : Bool → ℕ
 flag b = if b then 1 else 0
 
@@ -210,7 +211,7 @@ barrier_code barrier.Dsb = 0x8F40
 barrier_code barrier.Dmb = 0x8F50
 barrier_code barrier.Isb = 0x8F60
 
--- the halfwords of a long branch by half its offset, 24 bits S:I1:I2:i10:i11
+-- the halfwords of a long branch, from half its offset as 24 bits S:I1:I2:i10:i11
 abbrev pub long_first : ℕ → ℕ
 long_first x = 0xF000 + x / 2 ^ 23 * 1024 + x / 2 ^ 11 % 1024
 
@@ -287,21 +288,21 @@ abbrev pub code_size : Code → ℕ
 code_size (One h) = 2
 code_size (Two first second) = 4
 
--- What the encoder's answer has to do with the table and the decoder.
+-- How the answer of the encoder relates to the table and the decoder.
 
--- the decoder reads the code as the instruction, whatever halfword stands behind a narrow one
+-- the decoder reads the code as the instruction, whatever halfword comes after a narrow code
 abbrev pub DecodesTo : Insn → Code → Type 0
 DecodesTo i (One h) = (second : Option ℕ) → decoded_of h second ≡ decoded.Narrow i
 DecodesTo i (Two first second) = decoded_of first (Some second) ≡ decoded.Wide i
 
--- whichever code the table pairs with the instruction, it is the answer
+-- if the table pairs a code with the instruction, that code is the answer
 abbrev pub IsOnlyCode : Insn → Result Code Fit → Type 0
 IsOnlyCode i answer = (c : Code) → IsCode c → insn_of c ≡ Some i → answer ≡ Ok c
 
--- a halfword that the decoder reads as the instruction is the answer
+-- if the decoder reads a halfword as the instruction, that halfword is the answer
 abbrev pub UndoesNarrow : Insn → Result Code Fit → Type 0
 UndoesNarrow i answer = (h : ℕ) (second : Option ℕ) → h < 2 ^ 16 → decoded_of h second ≡ decoded.Narrow i → answer ≡ Ok (One h)
 
--- two halfwords that the decoder reads as the instruction are the answer
+-- if the decoder reads two halfwords as the instruction, these are the answer
 abbrev pub UndoesWide : Insn → Result Code Fit → Type 0
 UndoesWide i answer = (first second : ℕ) → first < 2 ^ 16 → second < 2 ^ 16 → decoded_of first (Some second) ≡ decoded.Wide i → answer ≡ Ok (Two first second)

@@ -1,5 +1,5 @@
-//! From instructions to codes: the table of instructions the other way (docs/FORMATS.md, after the
-//! ARMv6-M Architecture Reference Manual, chapter A5 and section A6.7).
+//! From instructions to codes: the table of instructions read in the other direction
+//! (docs/FORMATS.md, after the ARMv6-M Architecture Reference Manual, chapter A5 and section A6.7).
 #![tactic(auto)]
 
 ghost use Rattle.std.specs.Prelude.{◌≡◌, ◌<◌, ◌≤◌, ◌*◌, ◌/◌, ◌^◌, None, Some, pos, ◌<ℤ◌, ◌≤ℤ◌, nat_abs, IfOk, IfErr, OnOk, ◌||◌};
@@ -9,21 +9,21 @@ ghost use Rattle.thumb_insn.specs.Table.{is_later, branch_bit};
 
 use thumb_insn::{Barrier, Bytes, Code, Insn, Load, Reg, Shift, Size};
 
-/// Why an instruction has no code. Where several hold, the first in the order `Register`,
-/// `Offset`, `Align` is answered.
+/// Why an instruction has no code. If several causes apply, the answer is the first one in the
+/// order `Register`, `Offset`, `Align`.
 #[derive(Clone, Copy, PartialEq, Eq, Debug)]
 pub enum Fit {
     /// An immediate or a branch's offset is outside the range of its row.
     Offset,
-    /// A register or a list of registers is one that the row does not take.
+    /// The row does not allow a register or a list of registers.
     Register,
-    /// An immediate or a branch's offset is no multiple of what its row counts in.
+    /// An immediate or a branch's offset is not a multiple of the unit of its row.
     Align,
 }
 
-/// The code of an instruction, or why it has none. The ranges are those of docs/FORMATS.md:
-/// `b` -2048 to 2046, conditional branches -256 to 254, `bl` -16777216 to 16777214, all even;
-/// other immediates as their row has it.
+/// The code of an instruction, or why it has none. The ranges are those of docs/FORMATS.md. The
+/// offset of `b` is from -2048 to 2046, that of a conditional branch from -256 to 254, that of `bl`
+/// from -16777216 to 16777214, and all are even. Other immediates are as their row says.
 pub fn encode(insn: &Insn) -> Result<Code, Fit>
     ensures coded { IfOk result (λ c. insn_of c ≡ Some insn.now) }
     ensures halfwords { IfOk result IsCode }
@@ -149,7 +149,7 @@ fn shift_code(shift: Shift) -> u16
     }
 }
 
-/// An immediate by its size, at bit 6.
+/// An immediate offset in units of its size, at bit 6.
 fn scaled(size: Size, offset: u32) -> u16
     requires { offset / scale size < 32 }
     ensures value { result ≡ offset / scale size * 64 }

@@ -1,4 +1,4 @@
--- What an instruction that stores nothing makes of a bus.
+-- What an instruction that stores nothing does to a bus.
 use Rattle.std.proofs.Common.{◌≡◌, ◌≢◌, ℕ, [], ◌∷◌, refl}
 use Rattle.thumb_exec.specs.declared.cpu.Cpu.{Cpu}
 use Rattle.thumb_exec.specs.declared.cpu.Outcome.{Outcome}

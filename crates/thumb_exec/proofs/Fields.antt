@@ -1,4 +1,4 @@
--- What the table says of the fields that reach PC or SP, besides their range.
+-- What the table says, besides their range, of the fields that change PC or SP.
 use Rattle.std.specs.Prelude.{◌≡◌, ◌≢◌, ◌<◌, ℕ, ◌+◌, ◌-◌, ◌*◌, ◌/◌, ◌%◌, ◌^◌, Bool, true, false, ℤ, pos, negsuc, nat_eq, Some, ◌||◌, not}
 use Rattle.std.proofs.Common.{arith, refl, ap, sym, subst, ◌∙◌}
 use Rattle.std.proofs.lemmas.Bool.{false≢true, eq-eqb}
@@ -17,7 +17,7 @@ use Rattle.thumb_exec.specs.Effect.{word_of}
 abbrev pub IsPlain : ℕ → Type 0
 IsPlain i = (i ≢ 13) × (i ≢ 15)
 
--- offsets are even, what is added to SP is a multiple of 4, lists are bytes, and no status goes to SP or PC
+-- offsets are even, a value that is added to SP is a multiple of 4, lists are bytes, and MRS does not write SP or PC
 abbrev pub IsExtra : Insn → Type 0
 IsExtra (ShiftImm a b d e) = Unit {0}
 IsExtra (AddsReg a b d) = Unit {0}

@@ -1,4 +1,4 @@
--- An instruction keeps PC even and SP aligned, stores what it may, and raises its own faults.
+-- An instruction keeps PC even and SP aligned, stores only what it may, and raises only its own faults.
 use Rattle.std.proofs.Common.{◌≡◌, ◌≢◌, ◌+◌, ◌-◌, ◌*◌, ◌/◌, ◌%◌, ◌^◌, ◌<◌, ◌≤◌, ap, inl, inr, ℕ, zero, suc, Bool, true, false, cond, List, [], ◌∷◌, length, Option, Some, None, refl, sym, arith, get_or, length-set, get_or-set_same, get_or-set_other, ◌∙◌}
 use Rattle.std.specs.Prelude.{Contains, nat_eq}
 use Rattle.std.proofs.lemmas.Bool.{eq-eqb, eqb-true, false≢true}
@@ -38,7 +38,7 @@ words_aligned mask k (suc n) addr w al h = go (nat_eq (mask / 2 ^ k % 2) 1) h (w
     go true (zero, lt, same) p q = let z : ◌≡◌ {A = ℕ × ℕ} (k, addr) w = same in rw (← z) al
     go true (suc i, lt, same) p q = q (i, omega arith, same)
 
--- each store of several words is of a whole word that may be written, each load of one that may be read
+-- each store of several words is of whole words that may be written, each load of words that may be read
 pub stores_permitted : (refuses : Refusals) (rs : Regs) (ws : List (ℕ × ℕ)) → first_refused refuses right.Write ws ≡ None → ((w : ℕ × ℕ) → Contains ws w → w.1 % 4 ≡ 0) → (x : Move) → Contains (stores_of rs ws) x → IsPermitted refuses x
 unfolding stores_of
 stores_permitted refuses rs [] e al x h = absurd (omega (arith, h.1))
@@ -57,7 +57,7 @@ loads_permitted refuses (w ∷ ws) e al x (zero, lt, same) =
     rw (← z) record { size = inr (inr refl); aligned = al w (zero, omega arith, refl); allowed = free }
 loads_permitted refuses (w ∷ ws) e al x (suc k, lt, same) = loads_permitted refuses ws (allowed_later refuses right.Read w.0 w.1 ws e) (λ y here. al y (suc here.0, omega (arith, here.1), here.2)) x (k, omega arith, same)
 
--- there are as many as words, and these are sixteen at most
+-- there are as many moves as words, and at most sixteen
 stores_length : (rs : Regs) (ws : List (ℕ × ℕ)) → length (stores_of rs ws) ≡ length ws
 unfolding stores_of
 stores_length rs [] = refl
@@ -117,7 +117,7 @@ whole_past n c e h = whole_to c ((pc c + n) % 2 ^ 32) (even_sum (pc c) n h.even 
     even_sum : (a b : ℕ) → a % 2 ≡ 0 → b % 2 ≡ 0 → (a + b) % 2 ^ 32 % 2 ≡ 0
     even_sum a b x y = omega arith
 
--- moves that are permitted, and few
+-- moves that are permitted, and at most sixteen
 abbrev AreGood : Refusals → List Move → Type 0
 AreGood refuses ms = ((x : Move) → Contains ms x → IsPermitted refuses x) × (length ms ≤ 16)
 
@@ -224,7 +224,7 @@ module _ (refuses : Refusals) where
 
 -- ## the rows
 
--- what the table says besides of fields that reach SP or PC
+-- what the table also says of fields that change SP or PC
 abbrev pub IsEven : Insn → Type 0
 IsEven (ShiftImm shift d m by) = IsPlain d.number
 IsEven (AddsReg d n m) = IsPlain d.number
@@ -280,7 +280,7 @@ words_bit mask k (suc n) addr w h = go (nat_eq (mask / 2 ^ k % 2) 1) refl h (wor
     go true e (zero, lt, same) p q = let z : ◌≡◌ {A = ℕ × ℕ} (k, addr) w = same in rw (← z) (eqb-true _ _ e)
     go true e (suc i, lt, same) p q = q (i, omega arith, same)
 
--- a register that no word goes to stays
+-- a register to which no word goes does not change
 loaded_stays : (holds : Contents) (rs : Regs) (ws : List (ℕ × ℕ)) (r : ℕ) → ((w : ℕ × ℕ) → Contains ws w → r ≢ w.0) → get_or (loaded_all holds rs ws).words r 0 ≡ get_or rs.words r 0
 unfolding loaded_all
 loaded_stays holds rs [] r no' = refl
@@ -298,7 +298,7 @@ not_bit mask addr r w clear here = λ e. clear (rw e (words_bit mask 0 16 addr w
 clear_low : (mask : ℕ) → mask < 256 → (mask / 2 ^ 13 % 2 ≡ 1 → ⊥) × (mask / 2 ^ 15 % 2 ≡ 1 → ⊥)
 clear_low mask lt = (λ e. absurd (omega arith), λ e. absurd (omega arith))
 
--- the processor once words are loaded, none to SP or PC
+-- the processor after words are loaded, none of them to SP or PC
 loaded_whole : (holds : Contents) (c : Cpu) (mask addr : ℕ) → (mask / 2 ^ 13 % 2 ≡ 1 → ⊥) → (mask / 2 ^ 15 % 2 ≡ 1 → ⊥) → IsWholeCpu c → IsWholeCpu (with_regs c (loaded_all holds c.regs (transfers mask addr)))
 loaded_whole holds c mask addr sp pc' h = record {
   sixteen = loaded_length holds c.regs (transfers mask addr) ∙ h.sixteen;
@@ -306,7 +306,7 @@ loaded_whole holds c mask addr sp pc' h = record {
   aligned = rw (loaded_stays holds c.regs (transfers mask addr) 13 (λ w here. not_bit mask addr 13 w sp here)) h.aligned;
 }
 
--- a branch needs no even PC before
+-- a branch does not need an even PC before it
 branch_whole : (refuses : Refusals) (c : Cpu) (v : ℕ) (ms : List Move) → AreGood refuses ms → length c.regs.words ≡ 16 → get_or c.regs.words 13 0 % 4 ≡ 0 → Keeps refuses (branch_after c v ms)
 branch_whole refuses c v ms good sixteen al = go (nat_eq (v % 2) 1) refl
   where

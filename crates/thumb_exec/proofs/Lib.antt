@@ -6,3 +6,4 @@ pub mod Fields
 pub mod Keeping
 pub mod Acting
 pub mod Permitting
+pub mod Overflows

@@ -1,4 +1,4 @@
--- How many registers a mask has, and what is left without its lowest.
+-- How many registers a mask has, and what is left of it without its lowest one.
 use Rattle.std.proofs.Common.{◌≡◌, ◌≢◌, ℕ, zero, suc, ◌+◌, ◌-◌, ◌*◌, ◌/◌, ◌%◌, ◌^◌, ◌<◌, ◌≤◌, [], ◌∷◌, List, arith, refl, ap, sym, ◌∙◌}
 use Rattle.std.specs.Prelude.{count_ones, bit_and}
 use Rattle.std.specs.Int.Bits.{and_self}
@@ -20,7 +20,7 @@ bit_counted (suc (suc b)) h = absurd (let g : ⊥ = omega (arith, h) in g)
 bit_more : (mask k : ℕ) → mask % 2 ^ (k + 1) ≡ mask / 2 ^ k % 2 * 2 ^ k + mask % 2 ^ k
 bit_more mask k = let turned : k + 1 ≡ 1 + k = omega arith in ap (λ (j : ℕ). mask % 2 ^ j) turned ∙ mod-pow-add mask 1 k
 
--- what is counted bit by bit
+-- counting bit by bit
 ones_low : (mask k : ℕ) → ones mask k ≡ count_ones (mask % 2 ^ k)
 ones_low mask zero =
     let none : mask % 2 ^ 0 ≡ 0 = omega arith in
@@ -46,7 +46,7 @@ low_none mask (suc k) none =
     let fewer = low_none mask k (λ i h. none i (omega (arith, h))) in
     rw (sym next) (bit_more mask k ∙ rw (none k (omega arith), fewer) (omega arith))
 
--- in two parts, of which the lower is its lowest bit
+-- a mask in two parts; the lower one is its lowest bit
 lowest_part : (mask k : ℕ) → mask / 2 ^ k % 2 ≡ 1 → mask % 2 ^ k ≡ 0 → mask ≡ mask / 2 ^ (k + 1) * 2 ^ (k + 1) + 2 ^ k
 lowest_part mask k one none =
     let split = shr_split mask (k + 1) in
@@ -65,7 +65,7 @@ without_part a k =
 without_lowest : (mask k : ℕ) → mask / 2 ^ k % 2 ≡ 1 → mask % 2 ^ k ≡ 0 → bit_and mask (mask - 1) ≡ mask / 2 ^ (k + 1) * 2 ^ (k + 1) + 0
 without_lowest mask k one none = ap (λ (n : ℕ). bit_and n (n - 1)) (lowest_part mask k one none) ∙ without_part (mask / 2 ^ (k + 1)) k
 
--- past bits that are not set
+-- bits that are not set do not count
 words_skip : (mask at k : ℕ) → k ≤ 16 → ((i : ℕ) → i < k → mask / 2 ^ i % 2 ≡ 0) → transfers mask at ≡ words mask k (16 - k) at
 words_skip mask at zero h none = sym (words_all mask at)
 words_skip mask at (suc k) h none =
@@ -75,7 +75,7 @@ words_skip mask at (suc k) h none =
     ∙ words_clear mask k at (omega (arith, h)) clear
     ∙ ap (λ (j : ℕ). words mask j (16 - j) at) next
 
--- only the bits from k on tell
+-- only the bits from k on count
 words_same : (a b n k at : ℕ) → ((i : ℕ) → k ≤ i → a / 2 ^ i % 2 ≡ b / 2 ^ i % 2) → words a k n at ≡ words b k n at
 unfolding words
 words_same a b zero k at h = refl
@@ -89,7 +89,7 @@ words_without mask rest at k h one none cleared same =
     ∙ words_set mask k at h one
     ∙ ap (λ (ws : List (ℕ × ℕ)). (k, at) ∷ ws) (words_same mask rest (16 - (k + 1)) (k + 1) ((at + 4) % 4294967296) same ∙ sym (words_skip rest ((at + 4) % 4294967296) (k + 1) (omega (arith, h)) cleared))
 
--- the lowest register comes first, and then those that are left without it
+-- the lowest register comes first, and then the others
 pub lowest_first : (mask k at : ℕ) → k < 16 → mask / 2 ^ k % 2 ≡ 1 → ((i : ℕ) → i < k → mask / 2 ^ i % 2 ≡ 0) → transfers mask at ≡ (k, at) ∷ transfers (bit_and mask (mask - 1)) ((at + 4) % 4294967296)
 lowest_first mask k at h one none =
     let clear = low_none mask k none in

@@ -19,11 +19,11 @@ use Rattle.thumb_exec.specs.Keeps.{Widens}
 use Rattle.thumb_exec.proofs.Agreeing.{effect_same}
 use Rattle.thumb_exec.proofs.Transfers.{allowed_here, allowed_later, refused_later, refused_none}
 
--- what one list of refusals grants the other grants too
+-- the second list of refusals grants what the first one grants
 abbrev Grants : Refusals → Refusals → Type 0
 Grants R R' = (a n : ℕ) (r : Right) → R a n r ≡ None → R' a n r ≡ None
 
--- a goes on as d and ss say only where b does so too
+-- if a goes on with d and ss, so does b
 abbrev Follows : Effect → Effect → Type 0
 Follows a b = (d : Cpu) (ss : List Move) → a ≡ Next d ss → b ≡ Next d ss
 

@@ -1,6 +1,6 @@
--- What one instruction does: the table of instructions in docs/FORMATS.md, one line for each form of an instruction.
--- Where they come from: ARMv6-M Architecture Reference Manual, sections A6.7 (instructions) and A2.2.1 (shifts, sums).
--- Addresses and words are whole numbers below 2 ^ 32, sums are modulo 2 ^ 32.
+-- What one instruction does: the table of instructions in docs/FORMATS.md, one line for each form of an
+-- instruction. Source: ARMv6-M Architecture Reference Manual, sections A6.7 (instructions) and A2.2.1 (shifts,
+-- sums). Addresses and words are whole numbers below 2 ^ 32, sums are modulo 2 ^ 32.
 use Rattle.std.specs.Prelude.{◌≡◌, ℕ, zero, suc, ◌+◌, ◌-◌, ◌*◌, ◌/◌, ◌%◌, ◌^◌, Bool, true, false, ℤ, pos, negsuc, nat_eq, if◌then◌else◌, List, [], ◌∷◌, bit_and, bit_or, bit_xor, Option, Some, None, ◌&&◌, not}
 use Rattle.words_core.specs.declared.Flags.{Flags}
 use Rattle.words_core.specs.declared.Regs.{Regs}
@@ -31,19 +31,20 @@ use Rattle.thumb_insn.specs.declared.Bytes.TheVariants as bytes
 use Rattle.thumb_insn.specs.declared.Insn.{Insn}
 use Rattle.thumb_insn.specs.declared.Insn.TheVariants.{ShiftImm, AddsReg, SubsReg, AddsImm3, SubsImm3, MovsImm, CmpImm, AddsImm8, SubsImm8, Data, AddHigh, CmpHigh, MovHigh, Bx, Blx, LdrLiteral, StoreReg, LoadReg, StoreImm, LoadImm, StoreSp, LoadSp, Adr, AddSp, RaiseSp, LowerSp, Change, Push, Pop, Cpsie, Cpsid, Bkpt, Hint, Stm, Ldm, BranchIf, Svc, Branch, Bl, Fence, Mrs, Msr}
 
--- A store: its address, how many bytes, and their value, the lowest byte first.
+-- A store: its address, its number of bytes, and their value, little-endian.
 pub record Store : Type 0 where
   pub addr : ℕ
   pub bytes : ℕ
   pub value : ℕ
 
--- What an instruction does beside its registers: it stores, or it has loaded so many bytes from an address, which then gives up
--- what it gave where it is a device's.
+-- What an instruction does besides changing registers: it stores; or it has loaded bytes from an address, and a
+-- device there removes what the load took.
 pub data Move : Type 0 where
   Puts : Store → Move
   Takes : ℕ → ℕ → Move  -- address, how many bytes
 
--- An instruction goes on with a new processor and moves in order; or is a system call, which leaves the processor as it is; or faults.
+-- An instruction goes on, with a new processor and moves in order; or it is a system call, which does not change
+-- the processor; or it faults.
 pub data Effect : Type 0 where
   Next : Cpu → List Move → Effect
   Syscall : Effect
@@ -73,7 +74,7 @@ with_flags c f = record c { flags = f }
 abbrev pub go_past : ℕ → Cpu → Cpu
 go_past n c = put c program_counter ((pc c + n) % 2 ^ 32)
 
--- N and Z follow the result
+-- N and Z of the result
 abbrev pub nz : Flags → ℕ → Flags
 nz f v = record f { n = negative v; z = is_zero v }
 
@@ -85,19 +86,19 @@ FollowsSum s = (s.1.n ≡ negative s.0) × (s.1.z ≡ is_zero s.0)
 abbrev pub nzc : Flags → ℕ → Bool → Flags
 nzc f v c = record f { n = negative v; z = is_zero v; c = c }
 
--- A result with flags goes to a register.
+-- A result goes to a register, with its flags.
 abbrev pub result : Cpu → Reg → ℕ → Flags → Effect
 result c d v f = Next (go_past 2 (with_flags (put c d.number v) f)) []
 
--- Flags alone.
+-- Only the flags change.
 abbrev pub tested : Cpu → Flags → Effect
 tested c f = Next (go_past 2 (with_flags c f)) []
 
--- A sum with its flags.
+-- A sum goes to a register, with its flags.
 abbrev pub sum_to : Cpu → Reg → ℕ × Flags → Effect
 sum_to c d s = result c d s.0 s.1
 
--- a shift with N, Z and C
+-- a shifted word goes to a register, with N, Z and C
 abbrev pub shift_to : Cpu → Reg → ℕ × Bool → Effect
 shift_to c d s = result c d s.0 (nzc c.flags s.0 s.1)
 
@@ -107,11 +108,11 @@ shifted shift.Lsl x by c = lsl_of x by c
 shifted shift.Lsr x by c = lsr_of x by c
 shifted shift.Asr x by c = asr_of x by c
 
--- the low byte, by which registers are shifted
+-- the low byte, which is the count of a shift by a register
 abbrev pub low_byte : ℕ → ℕ
 low_byte x = x % 2 ^ 8
 
--- what is computed of two low registers
+-- an operation on two low registers
 abbrev pub data_effect : Op → Cpu → Reg → Reg → Effect
 data_effect op.Ands c d m = result c d (bit_and (get c d) (get c m)) (nz c.flags (bit_and (get c d) (get c m)))
 data_effect op.Eors c d m = result c d (bit_xor (get c d) (get c m)) (nz c.flags (bit_xor (get c d) (get c m)))
@@ -132,11 +133,11 @@ data_effect op.Mvns c d m = result c d (complement (get c m)) (nz c.flags (compl
 
 -- ## One load or store
 
--- The first byte, of so many from an address on, that lacks a right.
+-- Address, number of bytes, right: the first of these bytes that lacks the right.
 abbrev pub Refusals : Type 0
 Refusals = ℕ → ℕ → Right → Option ℕ
 
--- What so many bytes from an address on hold, as a number, the lowest byte first.
+-- Address, number of bytes: what these bytes hold, as a little-endian number.
 abbrev pub Contents : Type 0
 Contents = ℕ → ℕ → ℕ
 
@@ -146,16 +147,16 @@ size_of size.Word = 4
 size_of size.Half = 2
 size_of size.Byte = 1
 
--- a refused byte faults; else what follows
+-- a fault if a byte is refused, else the rest
 abbrev pub unless_refused : Option ℕ → Access → Effect → Effect
 unless_refused None kind next = next
 unless_refused (Some a) kind next = Trap (access_fault a kind)
 
--- an address that is no multiple of n faults; else what follows
+-- a fault if the address is not a multiple of n, else the rest
 abbrev pub unless_unaligned : ℕ → ℕ → Bool → Effect → Effect
 unless_unaligned addr n is_store next = if nat_eq (addr % n) 0 then next else Trap (unaligned_fault addr is_store)
 
--- n bytes are loaded, or stored: first the address, then the rights
+-- a load or a store of n bytes: first the address is tested, then the rights
 abbrev pub load_with : Refusals → ℕ → ℕ → Effect → Effect
 load_with refuses addr n next = unless_unaligned addr n false (unless_refused (refuses addr n right.Read) access.Load next)
 
@@ -173,7 +174,7 @@ widened (load.Whole s) v = v
 widened load.SignedHalf v = extend_of v 16 true
 widened load.SignedByte v = extend_of v 8 true
 
--- a load to a register, and a store of a register's low bytes
+-- a load to a register, and a store of the low bytes of a register
 abbrev pub load_effect : Refusals → Contents → Cpu → Load → Reg → ℕ → Effect
 load_effect refuses holds c kind t addr = load_with refuses addr (load_size kind) (Next (go_past 2 (put c t.number (widened kind (holds addr (load_size kind))))) (Takes addr (load_size kind) ∷ []))
 
@@ -186,7 +187,7 @@ sum x y = (x + y) % 2 ^ 32
 
 -- ## Branches
 
--- a condition of the flags
+-- whether a condition is true of the flags
 abbrev pub holds_if : Cond → Flags → Bool
 holds_if cond.Eq f = f.z
 holds_if cond.Ne f = not f.z
@@ -212,11 +213,11 @@ word_of (negsuc n) = 2 ^ 32 - 1 - n % 2 ^ 32
 abbrev pub target : Cpu → ℤ → ℕ
 target c offset = (pc c + 4 + word_of offset) % 2 ^ 32
 
--- on at another address
+-- the instruction goes on at another address
 abbrev pub jump : Cpu → ℕ → Effect
 jump c to = Next (put c program_counter to) []
 
--- a branch to a value with bit 0 set, after these moves; State without it
+-- a branch to a value, after these moves; a State fault if bit 0 of the value is not set
 abbrev pub branch_after : Cpu → ℕ → List Move → Effect
 branch_after c v moves = if nat_eq (v % 2) 1 then Next (put c program_counter (v - 1)) moves else Trap (state_fault v)
 
@@ -225,7 +226,8 @@ branch_to c v = branch_after c v []
 
 -- ## Several words
 
--- A mask has bit k for register k. The registers of a mask, of the n from register k on, each with its word's address, ascending.
+-- A mask has bit k for register k. Of the n registers from k on, those in the mask, each with the address of its
+-- word, ascending.
 unfoldable pub words : ℕ → ℕ → ℕ → ℕ → List (ℕ × ℕ)
 words mask k zero addr = []
 words mask k (suc n) addr = if nat_eq (mask / 2 ^ k % 2) 1 then (k, addr) ∷ words mask (k + 1) n ((addr + 4) % 2 ^ 32) else words mask (k + 1) n addr
@@ -259,7 +261,7 @@ unfoldable pub loaded_all : Contents → Regs → List (ℕ × ℕ) → Regs
 loaded_all holds rs [] = rs
 loaded_all holds rs (w ∷ ws) = loaded_all holds (with_reg rs w.0 (holds w.1 4)) ws
 
--- how many registers a mask has, of the first k, and in all
+-- how many of the first k registers a mask has, and how many registers it has
 unfoldable pub ones : ℕ → ℕ → ℕ
 ones mask zero = 0
 ones mask (suc k) = ones mask k + mask / 2 ^ k % 2
@@ -267,11 +269,11 @@ ones mask (suc k) = ones mask k + mask / 2 ^ k % 2
 unfoldable pub count : ℕ → ℕ
 count mask = ones mask 16
 
--- Stores of several words, of the registers of the mask from an address on; then the processor.
+-- Stores of the registers of a mask, from an address on; then the processor becomes this one.
 abbrev pub store_all : Refusals → Cpu → ℕ → ℕ → Cpu → Effect
 store_all refuses c mask addr c' = unless_unaligned addr 4 true (unless_refused (first_refused refuses right.Write (transfers mask addr)) access.Store (Next c' (stores_of c.regs (transfers mask addr))))
 
--- Loads of several words; what they leave in the registers goes on.
+-- Loads of the registers of a mask; then the instruction goes on with the new registers.
 abbrev pub load_all : Refusals → Contents → Cpu → ℕ → ℕ → (Regs → Effect) → Effect
 load_all refuses holds c mask addr next = unless_unaligned addr 4 false (unless_refused (first_refused refuses right.Read (transfers mask addr)) access.Load (next (loaded_all holds c.regs (transfers mask addr))))
 
@@ -283,22 +285,22 @@ with_regs c rs = record c { regs = rs }
 abbrev pub lowered : Cpu → ℕ → ℕ
 lowered c mask = (reg_at c.regs stack_pointer + (2 ^ 32 - 4 * count mask)) % 2 ^ 32
 
--- stored below SP, which is lowered
+-- PUSH: stores below SP, and lowers SP
 abbrev pub push_effect : Refusals → Cpu → ℕ → Effect
 push_effect refuses c mask = store_all refuses c mask (lowered c mask) (go_past 2 (put c stack_pointer (lowered c mask)))
 
--- stored from register n on, which is raised
+-- STM: stores from register n on, and raises it
 abbrev pub stm_effect : Refusals → Cpu → Reg → ℕ → Effect
 stm_effect refuses c n mask = store_all refuses c mask (get c n) (go_past 2 (put c n.number (sum (get c n) (4 * count mask))))
 
--- loaded from register n on, which is raised unless it is loaded itself
+-- LDM: loads from register n on, and raises it unless it is loaded too
 abbrev pub ldm_next : Cpu → Reg → ℕ → Regs → Effect
 ldm_next c n mask rs = Next (go_past 2 (if nat_eq (mask / 2 ^ n.number % 2) 1 then with_regs c rs else put (with_regs c rs) n.number (sum (get c n) (4 * count mask)))) (loads_of (transfers mask (get c n)))
 
 abbrev pub ldm_effect : Refusals → Contents → Cpu → Reg → ℕ → Effect
 ldm_effect refuses holds c n mask = load_all refuses holds c mask (get c n) (ldm_next c n mask)
 
--- loaded from SP on, which is raised; PC, bit 15 of the mask, is last, and a branch
+-- POP: loads from SP on, and raises SP; PC, bit 15 of the mask, is the last one, and is a branch
 abbrev pub popped : Cpu → ℕ → Regs → Cpu
 popped c mask rs = put (with_regs c rs) stack_pointer (sum (reg_at c.regs stack_pointer) (4 * count mask))
 
@@ -312,14 +314,14 @@ pop_effect refuses holds c mask has_pc = load_all refuses holds c mask (reg_at c
 
 -- ## Other forms
 
--- A result without flags: a branch where it goes to PC, and aligned where it goes to SP.
+-- A result without flags: a branch if it goes to PC, and aligned if it goes to SP.
 abbrev pub place : Cpu → Reg → ℕ → Effect
 place c d v =
     if nat_eq d.number program_counter then jump c (v / 2 * 2)
     else if nat_eq d.number stack_pointer then Next (go_past 2 (put c stack_pointer (v / 4 * 4))) []
     else Next (go_past 2 (put c d.number v)) []
 
--- with lr = the address of the next instruction with bit 0 set
+-- the processor with lr = the address of the next instruction, with bit 0 set
 abbrev pub linked : Cpu → ℕ → Cpu
 linked c n = put c link_register (sum (pc c) n / 2 * 2 + 1)
 
@@ -331,7 +333,7 @@ link_to c v = if nat_eq (v % 2) 1 then Next (put (linked c 2) program_counter (v
 abbrev pub base : Cpu → ℕ
 base c = sum (pc c) 4 / 4 * 4
 
--- a word taken apart and put together: extended, or its bytes in another order
+-- a word whose low part is extended, or whose bytes are in another order
 abbrev pub changed : Bytes → ℕ → ℕ
 changed bytes.Sxth v = extend_of v 16 true
 changed bytes.Sxtb v = extend_of v 8 true
@@ -341,7 +343,7 @@ changed bytes.Rev v = v % 256 * 2 ^ 24 + v / 2 ^ 8 % 256 * 2 ^ 16 + v / 2 ^ 16 %
 changed bytes.Rev16 v = v / 2 ^ 16 % 256 * 2 ^ 24 + v / 2 ^ 24 * 2 ^ 16 + v % 256 * 2 ^ 8 + v / 2 ^ 8 % 256
 changed bytes.Revsh v = extend_of (v % 256 * 2 ^ 8 + v / 2 ^ 8 % 256) 16 true
 
--- the flags as bits 31 to 28, and back
+-- the flags as bits 31 to 28, and the flags from these bits
 abbrev pub apsr : Flags → ℕ
 apsr f = (if f.n then 2 ^ 31 else 0) + (if f.z then 2 ^ 30 else 0) + (if f.c then 2 ^ 29 else 0) + (if f.v then 2 ^ 28 else 0)
 
@@ -354,7 +356,7 @@ with_bit list more k = if more then list + 2 ^ k else list
 
 -- ## The table
 
--- The effect of an instruction on a processor over memory.
+-- The effect of an instruction on a processor and memory.
 unfoldable pub effect : Refusals → Contents → Cpu → Insn → Effect
 effect refuses holds c (ShiftImm shift d m by) = shift_to c d (shifted shift (get c m) by c.flags.c)
 effect refuses holds c (AddsReg d n m) = sum_to c d (awc (get c n) (get c m) false)
@@ -399,21 +401,21 @@ effect refuses holds c (Fence barrier i) = Next (go_past 4 c) []
 effect refuses holds c (Mrs d) = Next (go_past 4 (put c d.number (apsr c.flags))) []
 effect refuses holds c (Msr n) = Next (go_past 4 (with_flags c (flags_from (get c n)))) []
 
--- ## What comes of an effect
+-- ## What an effect does to a processor and a bus
 
--- A bus after moves in order, where `stored` says what it is after a store, and `taken` once it was loaded from.
+-- A bus after moves, in order; `stored` says what it is after a store, and `taken` what it is after a load.
 abbrev pub Moves : {B : Type 0} → (B → ℕ → ℕ → ℕ → B → Type 0) → (B → ℕ → B → Type 0) → B → List Move → B → Type 0
 Moves stored taken b [] b' = b' ≡ b
 Moves {B} stored taken b (Puts s ∷ ms) b' = (m : B) × stored b s.addr s.bytes s.value m × Moves stored taken m ms b'
 Moves {B} stored taken b (Takes addr bytes ∷ ms) b' = (m : B) × taken b addr m × Moves stored taken m ms b'
 
--- What an effect makes of the processor c and the bus b, and the outcome that tells it. A system call and a fault change nothing.
+-- What an effect turns the processor c and the bus b into, and its outcome. A system call and a fault change nothing.
 abbrev pub Acts : {B : Type 0} → (B → ℕ → ℕ → ℕ → B → Type 0) → (B → ℕ → B → Type 0) → Cpu → Cpu → B → B → Outcome → Effect → Type 0
 Acts stored taken c c' b b' o (Next d ms) = (o ≡ outcome.Next) × (c' ≡ d) × Moves stored taken b ms b'
 Acts stored taken c c' b b' o Syscall = (o ≡ outcome.Call) × (c' ≡ c) × (b' ≡ b)
 Acts stored taken c c' b b' o (Trap f) = (o ≡ outcome.Trap f) × (c' ≡ c) × (b' ≡ b)
 
--- What comes of an effect that moves nothing, without a bus.
+-- The same without a bus, for an effect with no moves.
 abbrev pub Effects : Cpu → Cpu → Outcome → Effect → Type 0
 Effects c c' o (Next d []) = (o ≡ outcome.Next) × (c' ≡ d)
 Effects c c' o (Next d (m ∷ ms)) = ⊥

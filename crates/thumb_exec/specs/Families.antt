@@ -1,4 +1,4 @@
--- The families of instructions, each of which one function executes.
+-- The families of instructions. One function executes each family.
 use Rattle.thumb_insn.specs.declared.Insn.{Insn}
 use Rattle.thumb_insn.specs.declared.Insn.TheVariants.{AddsReg, SubsReg, AddsImm3, SubsImm3, AddsImm8, SubsImm8, CmpImm, CmpHigh, ShiftImm, MovsImm, Data, Change, Mrs, AddHigh, MovHigh, Adr, AddSp, RaiseSp, LowerSp, LdrLiteral, LoadReg, LoadImm, LoadSp, StoreReg, StoreImm, StoreSp, Push, Stm, Ldm, Pop, Svc, Bx, Blx, BranchIf, Branch, Bl, Cpsie, Cpsid, Hint, Fence, Msr}
 
@@ -12,7 +12,7 @@ IsSum (AddsImm8 d i) = Unit {0}
 IsSum (SubsImm8 d i) = Unit {0}
 IsSum i = ⊥
 
--- what computes otherwise, of low registers, immediates or flags
+-- other operations on low registers, immediates or flags
 abbrev pub IsData : Insn → Type 0
 IsData (ShiftImm shift d m by) = Unit {0}
 IsData (MovsImm d i) = Unit {0}
@@ -23,7 +23,7 @@ IsData (CmpImm n i) = Unit {0}
 IsData (CmpHigh n m) = Unit {0}
 IsData i = ⊥
 
--- what reads or writes SP, PC or a high register, without flags
+-- instructions that read or write SP, PC or a high register, and change no flags
 abbrev pub IsAddress : Insn → Type 0
 IsAddress (AddHigh d m) = Unit {0}
 IsAddress (MovHigh d m) = Unit {0}
@@ -67,7 +67,7 @@ IsJump (Bx m) = Unit {0}
 IsJump (Blx m) = Unit {0}
 IsJump i = ⊥
 
--- hints, barriers and the flags from a register
+-- hints, barriers, and the write of the flags from a register
 abbrev pub IsSystem : Insn → Type 0
 IsSystem Cpsie = Unit {0}
 IsSystem Cpsid = Unit {0}
@@ -76,7 +76,7 @@ IsSystem (Fence barrier i) = Unit {0}
 IsSystem (Msr n) = Unit {0}
 IsSystem i = ⊥
 
--- what branches to a register, or is rare
+-- branches to a register, and rare instructions
 abbrev pub IsRest : Insn → Type 0
 IsRest (AddsReg d n m) = ⊥
 IsRest (SubsReg d n m) = ⊥

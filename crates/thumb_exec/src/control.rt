@@ -1,4 +1,4 @@
-//! Branches, and what goes to any register.
+//! Branches, and results that go to any register.
 ghost use Rattle.std.specs.Prelude.{◌≡◌, ◌<◌, ◌/◌, ◌*◌, ◌%◌, ◌-◌, MatchOption, [], true, false};
 ghost use Rattle.thumb_exec.specs.Effect.{Next, operand, place, holds_if, target, branch_to, link_to, linked, base, changed, apsr, flags_from, Effects};
 
@@ -21,7 +21,8 @@ pub fn operand(cpu: &Cpu, r: Reg) -> u32
     }
 }
 
-/// Writes a result without flags and goes on: at PC a branch, at SP without the two low bits.
+/// Writes a result without flags and goes on. To PC it is a branch; to SP the two low bits are
+/// cleared.
 pub fn put_any(cpu: &mut Cpu, d: Reg, value: u32)
     requires { d.number < 16 }
     ensures { place cpu.old d value ≡ Next cpu.new [] }
@@ -37,8 +38,8 @@ pub fn put_any(cpu: &mut Cpu, d: Reg, value: u32)
     }
 }
 
-/// Whether the condition holds (section A6.3). The flags come by reference for speed: those that it
-/// does not ask for are not read.
+/// Whether the condition holds (section A6.3). For speed the flags are passed by reference: those
+/// that the condition does not need are not read.
 pub fn holds(cond: Cond, f: &LazyFlags) -> bool
     ensures { result ≡ holds_if cond f.now }
 {
@@ -60,7 +61,7 @@ pub fn holds(cond: Cond, f: &LazyFlags) -> bool
     }
 }
 
-/// The address that an offset from the address plus 4 names.
+/// The target of an offset, which counts from the address plus 4.
 pub fn target(cpu: &Cpu, offset: i32) -> u32
     ensures { result ≡ target cpu.now offset }
 {
@@ -70,7 +71,7 @@ pub fn target(cpu: &Cpu, offset: i32) -> u32
         .wrapping_add(offset.cast_unsigned())
 }
 
-/// Where a branch to a value goes; none without bit 0.
+/// The target of a branch to a value; None if bit 0 is not set.
 #[inline(always)]
 pub fn code_address(value: u32) -> Option<u32>
     ensures { MatchOption result (value % 2 ≡ 0) (λ to. (value % 2 ≡ 1) × (to ≡ value - 1)) }
@@ -93,7 +94,7 @@ pub fn branch_to(cpu: &mut Cpu, value: u32) -> Outcome
     Outcome::Next
 }
 
-/// Puts the address of the next instruction, n bytes on, into LR, with bit 0 set.
+/// Puts the address of the next instruction, n bytes further, into LR, with bit 0 set.
 pub fn link(cpu: &mut Cpu, n: u32)
     requires { n < 8 }
     ensures { cpu.new ≡ linked cpu.old n }
@@ -102,7 +103,7 @@ pub fn link(cpu: &mut Cpu, n: u32)
     cpu.regs.set(LINK_REGISTER, at / 2 * 2 + 1);
 }
 
-/// A branch to a value, which needs bit 0 set, with LR.
+/// A branch with link to a value, which needs bit 0 set.
 pub fn link_to(cpu: &mut Cpu, value: u32) -> Outcome
     ensures { Effects cpu.old cpu.new result (link_to cpu.old value) }
 {
@@ -121,7 +122,7 @@ pub fn base(cpu: &Cpu) -> u32
     cpu.regs.get(PROGRAM_COUNTER).wrapping_add(4) / 4 * 4
 }
 
-/// Extends a word's low part, or reverses bytes.
+/// Extends the low part of a word, or reverses bytes.
 pub fn change(bytes: Bytes, v: u32) -> u32
     ensures { result ≡ changed bytes v }
 {

@@ -1,4 +1,4 @@
-//! An instruction as it comes from memory.
+//! An instruction that was fetched from memory.
 use thumb_insn::Insn;
 
 /// An instruction that was fetched.
@@ -6,6 +6,6 @@ use thumb_insn::Insn;
 pub struct Fetched {
     pub insn: Insn,
 
-    /// Its halfword, or its two, the first in the high half.
+    /// Its halfword, or its two halfwords with the first one in the high half.
     pub code: u32,
 }

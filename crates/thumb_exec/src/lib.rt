@@ -1,6 +1,6 @@
 //! What one instruction does to the registers and flags of a task and to the memory that it may
-//! reach, as the table of instructions in docs/FORMATS.md says (ARMv6-M Architecture Reference
-//! Manual, section A6.7, at user level).
+//! access, by the table of instructions in docs/FORMATS.md (ARMv6-M Architecture Reference Manual,
+//! section A6.7, at user level).
 #![tactic(auto)]
 
 mod arith;

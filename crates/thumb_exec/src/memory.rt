@@ -32,7 +32,7 @@ fn loaded_bytes(load: Load) -> u32
     }
 }
 
-/// What was loaded as a word, by its sign or with zeros.
+/// The loaded bytes as a word, extended by their sign or with zeros.
 fn widen(load: Load, value: u32) -> u32
     ensures { result ≡ widened load value }
 {
@@ -76,7 +76,7 @@ pub fn load<B: Bus>(cpu: &mut Cpu, bus: &mut B, kind: Load, t: Reg, addr: u32) -
     }
 }
 
-/// Stores a register's low bytes and goes on.
+/// Stores the low bytes of a register and goes on.
 #[inline(always)]
 pub fn store<B: Bus>(cpu: &mut Cpu, bus: &mut B, size: Size, t: Reg, addr: u32) -> Outcome
     requires { t.number < 16 }

@@ -1,5 +1,5 @@
-//! Loads and stores of several words, all or nothing: each word is tested before the first moves.
-//! A mask has bit k for register k.
+//! Loads and stores of several words, all or nothing: each word is tested before the first one
+//! moves. A mask has bit k for register k.
 ghost use Rattle.std.specs.Prelude.{◌≡◌, ◌<◌, ◌≤◌, ◌+◌, ◌/◌, ◌%◌, ◌^◌, ℕ, nat_eq, ◌∷◌, true, false, if◌then◌else◌, None, IfSome, IfNone};
 ghost use Rattle.region_check.specs.declared.Right.{Right as Rights};
 ghost use Rattle.region_check.specs.declared.Right.TheVariants as rights;
@@ -98,7 +98,7 @@ fn load_words<B: Bus>(regs: &mut Regs, bus: &B, mask: u16, addr: u32)
     }
 }
 
-/// The words of a mask were loaded: a device gives up what it gave.
+/// Is called after the words of a mask were loaded: a device removes what the loads took.
 fn take_words<B: Bus>(bus: &mut B, mask: u16, addr: u32)
     ensures { Moves B.stored B.took bus.old (loads_of (transfers mask addr)) bus.new }
 {
@@ -131,8 +131,8 @@ fn store_words<B: Bus>(regs: &Regs, bus: &mut B, mask: u16, addr: u32)
     }
 }
 
-/// Stores the registers of a mask to ascending words; or tells the first byte that lacks the right,
-/// and stores nothing.
+/// Stores the registers of a mask to ascending words. If a byte lacks the right, it stores nothing
+/// and returns the first one.
 #[inline(always)]
 fn store_if_allowed<B: Bus>(regs: &Regs, bus: &mut B, mask: u16, addr: u32) -> Option<u32>
     requires { addr % 4 ≡ 0 }
@@ -148,7 +148,7 @@ fn store_if_allowed<B: Bus>(regs: &Regs, bus: &mut B, mask: u16, addr: u32) -> O
     refusal
 }
 
-/// The mask of a list of low registers and, by its bit, one more.
+/// The mask of a list of low registers, with the bit of one more register if `more`.
 pub fn mask_of(list: u8, more: bool, bit: u16) -> u16
     requires { bit ≤ 0x8000 }
     ensures { result ≡ (if more then list + bit else list) }
@@ -160,7 +160,7 @@ pub fn mask_of(list: u8, more: bool, bit: u16) -> u16
     }
 }
 
-/// Stores the registers of a mask from an address on; then a word goes to a register.
+/// Stores the registers of a mask from an address on, and then puts a word into a register.
 #[inline(never)]
 pub fn store_all<B: Bus>(
     cpu: &mut Cpu,
@@ -193,7 +193,8 @@ fn has(mask: u16, r: Reg) -> bool
     (mask >> r.number) % 2 == 1
 }
 
-/// Loads the registers of a mask from a register on, and raises it unless it is loaded.
+/// Loads the registers of a mask from the address in a base register on, and raises the base unless
+/// it is loaded too.
 #[tactic(auto, unfolding(crate::specs::Effect::effect))]
 #[inline(never)]
 pub fn ldm<B: Bus>(cpu: &mut Cpu, bus: &mut B, n: Reg, list: u8) -> Outcome
@@ -218,7 +219,7 @@ pub fn ldm<B: Bus>(cpu: &mut Cpu, bus: &mut B, n: Reg, list: u8) -> Outcome
     Outcome::Next
 }
 
-/// Loads the registers of a mask from SP on, and raises it; PC last, as a branch.
+/// Loads the registers of a mask from SP on, and raises SP. PC is the last one, and is a branch.
 #[tactic(auto, unfolding(crate::specs::Effect::effect))]
 #[inline(never)]
 pub fn pop<B: Bus>(cpu: &mut Cpu, bus: &mut B, list: u8, has_pc: bool) -> Outcome

@@ -1,11 +1,13 @@
-//! One instruction, row by row of the table, in families that each a function executes.
+//! One instruction, by the rows of the table. One function executes each family of instructions.
 ghost use Rattle.std.specs.Prelude.{◌≡◌, ◌<◌, [], true, false};
-ghost use Rattle.thumb_exec.specs.Effect.{Acts, Effects, Halts, Next, Refusals, Contents, effect, load_effect, store_effect, store_all, sum_to, put, go_past, shifted, sum, get, FollowsSum};
+ghost use Rattle.thumb_exec.specs.Effect.{Acts, Effects, Halts, Next, Refusals, Contents, effect, load_effect, store_effect, store_all, sum_to, put, go_past, shifted, sum, get};
 ghost use Rattle.thumb_exec.specs.declared.cpu.Outcome.TheVariants as outcome;
 ghost use Rattle.thumb_exec.specs.Families.{IsSum, IsData, IsAddress, IsBranch, IsJump, IsSystem, IsLoad, IsStore, IsStoreAll, IsRest};
 ghost use Rattle.thumb_insn.specs.Range.{InRange, IsCoded};
 
-use crate::arith::{carry, compare, data, finish_nz, finish_nzc, finish_sum, get, go_past, set};
+use crate::arith::{
+    carry, compare, data, finish_add, finish_nz, finish_nzc, finish_subtract, get, go_past, set,
+};
 use crate::bus::Bus;
 use crate::control::{
     base, branch_to, change, flags_of, flags_word, holds, link, link_to, operand, put_any, target,
@@ -16,9 +18,9 @@ use crate::memory::{load, store};
 use crate::several::{count_of, ldm, mask_of, pop, store_all};
 use kernel_abi::Fault;
 use thumb_insn::{Insn, Load, Reg, Shift, Size};
-use words_core::{Flags, PROGRAM_COUNTER, STACK_POINTER, add, asr, lsl, lsr, subtract};
+use words_core::{PROGRAM_COUNTER, STACK_POINTER, asr, lsl, lsr};
 
-/// SP as a register that an instruction names.
+/// SP, as a register of an instruction.
 const SP: Reg = Reg {
     number: STACK_POINTER as u8,
 };
@@ -35,29 +37,8 @@ fn shift(by: Shift, x: u32, n: u8, c: bool) -> (u32, bool)
     }
 }
 
-/// A sum or a difference with its flags, and where it goes.
-#[tactic(auto, unfolding(crate::specs::Effect::effect))]
-#[inline(always)]
-fn adding(cpu: &Cpu, insn: Insn) -> (Reg, (u32, Flags))
-    requires family { IsSum insn }
-    requires range { InRange insn }
-    ensures effect { (refuses : Refusals) (holds : Contents) →
-        effect refuses holds cpu.now insn ≡ sum_to cpu.now result.0 result.1 }
-    ensures register { result.0.number < 16 }
-    ensures follows { FollowsSum result.1 }
-{
-    match insn {
-        Insn::AddsReg { d, n, m } => (d, add(get(cpu, n), get(cpu, m))),
-        Insn::SubsReg { d, n, m } => (d, subtract(get(cpu, n), get(cpu, m))),
-        Insn::AddsImm3 { d, n, value } => (d, add(get(cpu, n), value)),
-        Insn::SubsImm3 { d, n, value } => (d, subtract(get(cpu, n), value)),
-        Insn::AddsImm8 { d, value } => (d, add(get(cpu, d), value)),
-        Insn::SubsImm8 { d, value } => (d, subtract(get(cpu, d), value)),
-        _ => unreachable!(),
-    }
-}
-
 /// Sums and differences.
+#[tactic(auto, unfolding(crate::specs::Effect::effect))]
 #[inline(always)]
 fn sum(cpu: &mut Cpu, insn: Insn)
     requires family { IsSum insn }
@@ -65,11 +46,18 @@ fn sum(cpu: &mut Cpu, insn: Insn)
     ensures { (refuses : Refusals) (holds : Contents) →
         effect refuses holds cpu.old insn ≡ Next cpu.new [] }
 {
-    let (d, sum) = adding(cpu, insn);
-    finish_sum(cpu, d, sum);
+    match insn {
+        Insn::AddsReg { d, n, m } => finish_add(cpu, d, get(cpu, n), get(cpu, m)),
+        Insn::SubsReg { d, n, m } => finish_subtract(cpu, d, get(cpu, n), get(cpu, m)),
+        Insn::AddsImm3 { d, n, value } => finish_add(cpu, d, get(cpu, n), value),
+        Insn::SubsImm3 { d, n, value } => finish_subtract(cpu, d, get(cpu, n), value),
+        Insn::AddsImm8 { d, value } => finish_add(cpu, d, get(cpu, d), value),
+        Insn::SubsImm8 { d, value } => finish_subtract(cpu, d, get(cpu, d), value),
+        _ => unreachable!(),
+    }
 }
 
-/// What computes otherwise, of low registers, immediates or flags.
+/// Other operations on low registers, immediates or flags.
 #[tactic(auto, unfolding(crate::specs::Effect::effect))]
 #[inline(always)]
 fn compute(cpu: &mut Cpu, insn: Insn)
@@ -109,7 +97,7 @@ fn compute(cpu: &mut Cpu, insn: Insn)
     }
 }
 
-/// What reads or writes SP, PC or a high register, without flags.
+/// Instructions that read or write SP, PC or a high register, and change no flags.
 #[tactic(auto, unfolding(crate::specs::Effect::effect))]
 #[inline(always)]
 fn place(cpu: &mut Cpu, insn: Insn)
@@ -200,7 +188,7 @@ fn jump(cpu: &mut Cpu, insn: Insn) -> Outcome
     }
 }
 
-/// Hints, barriers and the flags from a register.
+/// Hints, barriers, and the write of the flags from a register.
 #[tactic(auto, unfolding(crate::specs::Effect::effect))]
 #[inline(always)]
 fn system(cpu: &mut Cpu, insn: Insn)
@@ -220,7 +208,7 @@ fn system(cpu: &mut Cpu, insn: Insn)
     }
 }
 
-/// The address that is so far from what a register holds.
+/// The address at an offset from the word in a register.
 #[inline(always)]
 fn address(cpu: &Cpu, n: Reg, offset: u32) -> u32
     requires { n.number < 16 }
@@ -229,7 +217,7 @@ fn address(cpu: &Cpu, n: Reg, offset: u32) -> u32
     get(cpu, n).wrapping_add(offset)
 }
 
-/// How a load of one unit loads, to which register and from where.
+/// A load of one unit: its kind, its register and its address.
 #[tactic(auto, unfolding(crate::specs::Effect::effect))]
 #[inline(always)]
 fn loading(cpu: &Cpu, insn: Insn) -> (Load, Reg, u32)
@@ -261,7 +249,7 @@ fn loading(cpu: &Cpu, insn: Insn) -> (Load, Reg, u32)
     }
 }
 
-/// How much a store of one unit stores, of which register and where.
+/// A store of one unit: its size, its register and its address.
 #[tactic(auto, unfolding(crate::specs::Effect::effect))]
 #[inline(always)]
 fn storing(cpu: &Cpu, insn: Insn) -> (Size, Reg, u32)
@@ -289,8 +277,8 @@ fn storing(cpu: &Cpu, insn: Insn) -> (Size, Reg, u32)
     }
 }
 
-/// Which registers a store of several words stores and where, and which register then has which
-/// word.
+/// A store of several words: the registers and the address, and then the register that changes and
+/// its word.
 #[tactic(auto, unfolding(crate::specs::Effect::effect))]
 #[inline(always)]
 fn storing_all(cpu: &Cpu, insn: Insn) -> (u16, u32, Reg, u32)
@@ -316,7 +304,7 @@ fn storing_all(cpu: &Cpu, insn: Insn) -> (u16, u32, Reg, u32)
     }
 }
 
-/// Executes what branches to a register, or is rare.
+/// Executes a branch to a register, or a rare instruction.
 #[tactic(auto, unfolding(crate::specs::Effect::effect))]
 #[inline(never)]
 fn rest(cpu: &mut Cpu, insn: Insn) -> Outcome
@@ -399,12 +387,12 @@ fn step<B: Bus>(cpu: &mut Cpu, insn: Insn, bus: &mut B) -> Outcome
     }
 }
 
-/// Executes an instruction at PC, one that some code means: exactly the effect that its row in the
-/// table of instructions tells (docs/FORMATS.md; ARMv6-M Architecture Reference Manual, A6.7).
+/// Executes an instruction at PC that has a code. Its effect is exactly that of its row in the
+/// table of instructions (docs/FORMATS.md; ARMv6-M Architecture Reference Manual, A6.7).
 ///
-/// A fault comes in this order: Unaligned, Access at the first byte in order of transfer that lacks
-/// its right, State, Breakpoint. A fault and a system call leave processor and bus as they are; the
-/// kernel moves PC past a system call.
+/// Faults are tested in this order: Unaligned, Access at the first byte in order of transfer that
+/// lacks its right, State, Breakpoint. A fault and a system call do not change processor and bus;
+/// the kernel moves PC past a system call.
 #[tactic(auto, using(thumb_insn::proofs::InRange::coded_in_range))]
 #[inline(never)]
 pub fn exec<B: Bus>(cpu: &mut Cpu, insn: &Insn, bus: &mut B) -> Outcome
@@ -415,8 +403,8 @@ pub fn exec<B: Bus>(cpu: &mut Cpu, insn: &Insn, bus: &mut B) -> Outcome
     step(cpu, *insn, bus)
 }
 
-/// Executes an instruction at PC, one that some code means, as `exec` does, where it goes on. Where
-/// it is a system call or faults nothing changes, and the answer is false.
+/// Executes an instruction at PC that has a code, as `exec` does, if it goes on. If it is a system
+/// call or faults, nothing changes and the answer is false.
 #[tactic(auto, using(thumb_insn::proofs::InRange::coded_in_range, crate::proofs::Acting::acts_halted))]
 #[inline(always)]
 pub fn proceed<B: Bus>(cpu: &mut Cpu, insn: &Insn, bus: &mut B) -> bool

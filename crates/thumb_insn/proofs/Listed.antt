@@ -1,4 +1,4 @@
--- A list of registers, as it grows by one.
+-- The text of a list of registers when one more register is added.
 use Rattle.std.proofs.Common.{◌≡◌, ◌≢◌, ℕ, ◌+◌, ◌/◌, ◌%◌, ◌^◌, ◌<◌, ◌≤◌, Bool, true, false, nat_eq, if◌then◌else◌, List, [], ◌∷◌, ◌++◌, map, arith, refl, ap, ◌∙◌, sym, append_assoc, add-one}
 use Rattle.std.specs.Prelude.{codes}
 use Rattle.std.proofs.Math.Pow.{pow_mono}
@@ -21,7 +21,7 @@ map_empty : (xs : List ℕ) → is_empty (map register_name xs) ≡ is_empty xs
 map_empty [] = refl
 map_empty (x ∷ xs) = refl
 
--- one register more, behind a comma where it is not the first
+-- the text of a list with one more register, after a comma unless it is the first
 pub joined_names : (xs : List ℕ) (k : ℕ) → joined (map register_name (xs ++ k ∷ [])) ≡ joined (map register_name xs) ++ (if is_empty xs then register_name k else codes ", " ++ register_name k)
 joined_names xs k = ap joined (map_more xs k) ∙ joined_more (map register_name xs) (register_name k) ∙ ap (λ (b : Bool). joined (map register_name xs) ++ (if b then register_name k else codes ", " ++ register_name k)) (map_empty xs)
 
@@ -33,7 +33,7 @@ pub start : (list : ℕ) → registers_below list 0 ≡ []
 unfolding registers_below
 start list = refl
 
--- a register that is listed
+-- if register k is listed, it comes after the registers below k
 next : (list k : ℕ) → is_listed list k ≡ true → registers_below list (k + 1) ≡ registers_below list k ++ k ∷ []
 unfolding registers_below
 next list k e = rw add-one (ap (λ (b : Bool). registers_below list k ++ (if b then k ∷ [] else [])) e)
@@ -44,7 +44,7 @@ one_more list k e = ap (λ (xs : List ℕ). joined (map register_name xs)) (next
 pub not_first : (list k : ℕ) → is_listed list k ≡ true → is_empty (registers_below list (k + 1)) ≡ false
 not_first list k e = ap is_empty (next list k e) ∙ not_empty (registers_below list k) k
 
--- a register that is not
+-- if register k is not listed, the registers below k + 1 are those below k
 pub none_more : (list k : ℕ) → is_listed list k ≡ false → registers_below list (k + 1) ≡ registers_below list k
 unfolding registers_below
 none_more list k e = rw add-one (ap (λ (b : Bool). registers_below list k ++ (if b then k ∷ [] else [])) e ∙ append-nil (registers_below list k))
@@ -55,7 +55,7 @@ tested n e = grind (arith, nat_tests)
 pub refused : (n : ℕ) → n ≢ 1 → nat_eq n 1 ≡ false
 refused n e = grind (arith, nat_tests)
 
--- the text of the registers below k, and of k where it is listed
+-- the text of the registers below k + 1, if k is listed
 pub grows : (text out : List ℕ) (list k : ℕ) (first : Bool) → list / 2 ^ k % 2 ≡ 1 → out ≡ text ++ joined (map register_name (registers_below list k)) → first ≡ is_empty (registers_below list k) → out ++ (if first then register_name k else codes ", " ++ register_name k) ≡ text ++ joined (map register_name (registers_below list (k + 1)))
 grows text out list k first e f g =
     let h = one_more list k (tested _ e) in
@@ -67,14 +67,14 @@ stays list k e = none_more list k (refused _ e)
 pub goes_on : (list k : ℕ) → list / 2 ^ k % 2 ≡ 1 → is_empty (registers_below list (k + 1)) ≡ false
 goes_on list k e = not_first list k (tested _ e)
 
--- a list with one register behind the others
+-- the text of a list with one more register at its end
 pub ends : (text low out : List ℕ) (xs : List ℕ) (first : Bool) (k : ℕ) → low ≡ (text ++ codes "{") ++ joined (map register_name xs) → first ≡ is_empty xs → out ≡ (low ++ (if first then register_name k else codes ", " ++ register_name k)) ++ codes "}" → out ≡ text ++ braces (xs ++ k ∷ [])
 ends text low out xs first k e f g =
     let h = joined_names xs k in
     let more : List ℕ = if is_empty xs then register_name k else codes ", " ++ register_name k in
     g ∙ rw (e, f, h) (ap (λ (zs : List ℕ). zs ++ codes "}") (append_assoc (text ++ codes "{") (joined (map register_name xs)) more) ∙ append_assoc (text ++ codes "{") (joined (map register_name xs) ++ more) (codes "}") ∙ append_assoc text (codes "{") ((joined (map register_name xs) ++ more) ++ codes "}"))
 
--- a list has no register above r7
+-- no register above r7 is in a list
 pub high_is_unlisted : (list n : ℕ) → list < 2 ^ 8 → 8 ≤ n → is_listed list n ≡ false
 high_is_unlisted list n f g =
     let below : list < 2 ^ n = omega (arith, pow_mono {i = 8} {j = n} g) in

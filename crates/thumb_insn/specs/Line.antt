@@ -1,4 +1,4 @@
--- What the code's parts of a line are written as.
+-- The text of the parts of a line that the code has.
 use Rattle.std.specs.Prelude.{ℕ, ◌++◌, [], ◌∷◌, List, codes}
 use Rattle.thumb_insn.specs.declared.mnemonics.Name.{Name}
 use Rattle.thumb_insn.specs.declared.mnemonics.Name.TheVariants as name

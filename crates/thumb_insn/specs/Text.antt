@@ -1,4 +1,4 @@
--- The text of an instruction, as the syntax column of the table of instructions in docs/FORMATS.md has it.
+-- The text of an instruction, as in the syntax column of the table of instructions in docs/FORMATS.md.
 use Rattle.std.specs.Prelude.{ℕ, zero, suc, ◌+◌, ◌*◌, ◌/◌, ◌%◌, ◌^◌, Bool, true, false, ℤ, nat_eq, nat_lt, if◌then◌else◌, List, [], ◌∷◌, ◌++◌, map, codes, decimal}
 use Rattle.std.specs.Int.{cast_unsigned, w32}
 use Rattle.thumb_insn.specs.Fields.{is_listed}
@@ -22,11 +22,11 @@ use Rattle.thumb_insn.specs.declared.Insn.TheVariants.{ShiftImm, AddsReg, SubsRe
 
 -- Places.
 
--- where a branch goes: the address plus 4 plus the offset, modulo 2^32
+-- the target of a branch: the address plus 4 plus the offset, modulo 2^32
 abbrev pub branch_target : ℕ → ℤ → ℕ
 branch_target at offset = (at + 4 + cast_unsigned w32 offset) % 2 ^ 32
 
--- the place of a literal or of ADR: the address plus 4, aligned down to 4, plus the offset, modulo 2^32
+-- the address of a literal or of ADR: the address plus 4, aligned down to 4, plus the offset, modulo 2^32
 abbrev pub literal_target : ℕ → ℕ → ℕ
 literal_target at offset = ((at + 4) % 2 ^ 32 / 4 * 4 + offset) % 2 ^ 32
 
@@ -54,17 +54,17 @@ hex_digit d = if nat_lt d 10 then 48 + d else 87 + d
 unfoldable pub hex_word : ℕ → List ℕ
 hex_word n = hex_digit (n / 16 ^ 7 % 16) ∷ hex_digit (n / 16 ^ 6 % 16) ∷ hex_digit (n / 16 ^ 5 % 16) ∷ hex_digit (n / 16 ^ 4 % 16) ∷ hex_digit (n / 16 ^ 3 % 16) ∷ hex_digit (n / 16 ^ 2 % 16) ∷ hex_digit (n / 16 % 16) ∷ hex_digit (n % 16) ∷ []
 
--- a target, as an address
+-- an address: `0x` and eight hexadecimal digits
 abbrev pub place : ℕ → List ℕ
 place n = codes "0x" ++ hex_word n
 
--- the texts in a row, with a comma and one space between each two
+-- the texts one after another, with a comma and one space between each two
 abbrev pub joined : List (List ℕ) → List ℕ
 joined [] = []
 joined (x ∷ []) = x
 joined (x ∷ y ∷ ys) = x ++ codes ", " ++ joined (y ∷ ys)
 
--- an address in memory: a register and what is added to it
+-- an address in memory: a register, and what is added to it, in brackets
 abbrev pub at_sum : List ℕ → List ℕ → List ℕ
 at_sum base more = codes "[" ++ joined (base ∷ more ∷ []) ++ codes "]"
 
@@ -81,11 +81,11 @@ is_empty (x ∷ xs) = false
 abbrev pub low_registers : ℕ → List ℕ
 low_registers list = registers_below list 8
 
--- one more register behind the others
+-- one more register after the others, if the list has it
 abbrev pub and_also : Bool → ℕ → List ℕ
 and_also has k = if has then k ∷ [] else []
 
--- a list of registers, each by name
+-- a list of registers by their names, in braces
 abbrev pub braces : List ℕ → List ℕ
 braces registers = codes "{" ++ joined (map register_name registers) ++ codes "}"
 
@@ -162,13 +162,13 @@ barrier_name barrier.Isb = codes "isb"
 abbrev pub line : List ℕ → List (List ℕ) → List ℕ
 line name operands = name ++ codes " " ++ joined operands
 
--- a shift by an immediate; to the left by 0 it is a move
+-- a shift by an immediate; a shift to the left by 0 is a move
 abbrev pub shift_text : Shift → Reg → Reg → ℕ → List ℕ
 shift_text shift.Lsl d m by = if nat_eq by 0 then line (codes "movs") (reg_text d ∷ reg_text m ∷ []) else line (codes "lsls") (reg_text d ∷ reg_text m ∷ imm by ∷ [])
 shift_text shift.Lsr d m by = line (codes "lsrs") (reg_text d ∷ reg_text m ∷ imm by ∷ [])
 shift_text shift.Asr d m by = line (codes "asrs") (reg_text d ∷ reg_text m ∷ imm by ∷ [])
 
--- what is computed of two low registers; `rsbs` names its zero
+-- an operation on two low registers; `rsbs` also shows its immediate 0
 abbrev pub op_text : Op → Reg → Reg → List ℕ
 op_text op.Rsbs d m = line (codes "rsbs") (reg_text d ∷ reg_text m ∷ imm 0 ∷ [])
 op_text op d m = line (op_name op) (reg_text d ∷ reg_text m ∷ [])
@@ -183,7 +183,7 @@ hint_text h =
     else if nat_eq h 4 then codes "sev"
     else line (codes "hint") (imm h ∷ [])
 
--- a base register: with `!` where it is raised
+-- a base register that the instruction raises, so with `!`
 abbrev pub raised : Reg → List ℕ
 raised n = reg_text n ++ codes "!"
 

@@ -5,7 +5,7 @@ ghost use Rattle.thumb_insn.specs.Line.{name_text};
 
 use crate::{Barrier, Bytes, Cond, Load, Op, Shift, Size};
 
-/// A mnemonic of its own, or one for each value of a part.
+/// A mnemonic: a fixed one, or one that a part of the instruction chooses, such as its shift.
 #[derive(Clone, Copy)]
 pub enum Name {
     Movs,

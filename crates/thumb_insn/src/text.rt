@@ -11,7 +11,7 @@ use crate::{Insn, Load, Op, Reg, Shift};
 use arrayvec::ArrayString;
 use itoa::Buffer;
 
-/// An operand as it is written.
+/// An operand, as the text shows it.
 #[derive(Clone, Copy)]
 enum Operand {
     Register(Reg),
@@ -23,8 +23,9 @@ enum Operand {
     Interrupts,
 }
 
-/// What is written of an instruction: its mnemonic and its operands. The last four have a list of
-/// registers: alone, with one register behind, behind a base, and behind a base that is raised.
+/// What the text of an instruction consists of: its mnemonic and its operands. The last four have a
+/// list of registers: alone, with one more register at its end, after a base register, and after a
+/// base register with `!`.
 #[derive(Clone, Copy)]
 enum Line {
     Bare(Name),
@@ -40,7 +41,8 @@ enum Line {
 
 const SP: Reg = Reg { number: 13 };
 
-/// A number of one digit: mostly registers and immediates are, and are no work for the formatter.
+/// A number of one digit. Most registers and immediates have one digit, and so do not need the
+/// formatter.
 fn push_one(out: &mut ArrayString<64>, n: u32)
     requires one { n < 10 }
     requires room { array_string_len out.old < 64 }
@@ -103,7 +105,7 @@ fn push_place(out: &mut ArrayString<64>, n: u32)
     push_digit(out, n % 16);
 }
 
-/// A register by its name, with three digits at most.
+/// The name of a register. The longest one has `r` and three digits.
 fn push_register(out: &mut ArrayString<64>, k: u8)
     requires { array_string_len out.old + 4 ≤ 64 }
     ensures bytes { out.new.bytes ≡ out.old.bytes ++ register_name k }
@@ -134,7 +136,7 @@ fn push_imm(out: &mut ArrayString<64>, i: u32)
     push_decimal(out, i);
 }
 
-/// One more register of a list, behind a comma where it is not the first.
+/// One more register of a list, after a comma unless it is the first one.
 fn push_listed(out: &mut ArrayString<64>, first: bool, k: u8)
     requires { array_string_len out.old + 6 ≤ 64 }
     ensures bytes { out.new.bytes ≡ out.old.bytes
@@ -147,7 +149,7 @@ fn push_listed(out: &mut ArrayString<64>, first: bool, k: u8)
     push_register(out, k);
 }
 
-/// The registers r0 to r7 of a list. The result says whether there was none.
+/// The registers r0 to r7 of a list. The result is true if the list has none of them.
 fn push_registers(out: &mut ArrayString<64>, list: u8) -> bool
     requires { array_string_len out.old + 48 ≤ 64 }
     ensures bytes { out.new.bytes ≡ out.old.bytes
@@ -175,7 +177,7 @@ fn push_list(out: &mut ArrayString<64>, list: u8)
     out.push_str("}");
 }
 
-/// A list with one register behind r0 to r7.
+/// A list of registers: those of r0 to r7 that are listed, and one more.
 #[tactic(auto, using(crate::proofs::Listed::ends))]
 fn push_list_and(out: &mut ArrayString<64>, list: u8, k: u8)
     requires { array_string_len out.old + 56 ≤ 64 }
@@ -226,7 +228,7 @@ fn push_name(out: &mut ArrayString<64>, name: Name)
     out.push_str(name_of(name));
 }
 
-/// A mnemonic and the space behind it.
+/// A mnemonic and the space after it.
 fn open_line(out: &mut ArrayString<64>, name: Name)
     requires { out.old.bytes ≡ [] }
     ensures bytes { out.new.bytes ≡ name_text name ++ codes " " }
@@ -246,7 +248,7 @@ fn push_first(out: &mut ArrayString<64>, name: Name, d: Reg)
     push_register(out, d.number);
 }
 
-/// One more operand, behind a comma.
+/// One more operand, after a comma.
 fn push_next(out: &mut ArrayString<64>, x: Operand)
     requires { array_string_len out.old + 21 ≤ 64 }
     ensures bytes { out.new.bytes ≡ (out.old.bytes ++ codes ", ") ++ operand_text x }
@@ -331,7 +333,7 @@ fn hint(h: u32) -> Line
     }
 }
 
-/// Whether interrupts are enabled, which are written `i`.
+/// CPSIE or CPSID: its operand, the interrupts, is `i` in the text.
 fn of_interrupts(name: Name) -> Line
     ensures { line_text result ≡ line (name_text name) (codes "i" ∷ []) }
 {
@@ -350,7 +352,7 @@ fn literal(at: u32, offset: u32) -> Operand
     Operand::Place((at.wrapping_add(4) / 4 * 4).wrapping_add(offset))
 }
 
-/// A list, with register k behind it where it has that one too.
+/// A list of registers, with register k at its end if it has that one too.
 fn list_with(name: Name, list: u8, has: bool, k: u8) -> Line
     ensures { line_text result ≡ line (name_text name)
         (braces (low_registers list ++ and_also has k) ∷ []) }
@@ -370,7 +372,7 @@ fn is_listed(list: u8, n: u8) -> bool
     if n < 8 { (list >> n) % 2 == 1 } else { false }
 }
 
-/// A load of several registers, whose base is raised unless it is among them.
+/// A load of several registers. Its base is raised, and has a `!`, unless it is in the list.
 fn loaded(n: Reg, list: u8) -> Line
     ensures { line_text result ≡ line (codes "ldm")
         ((if is_listed list n.number then reg_text n else raised n) ∷ braces (low_registers list) ∷

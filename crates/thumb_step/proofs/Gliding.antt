@@ -1,4 +1,4 @@
--- An instruction of the flash, and what comes of it.
+-- An instruction in the flash, and what it does.
 use Rattle.std.proofs.Common.{◌≡◌, ◌≤◌, ◌<◌, ◌+◌, ◌*◌, ◌/◌, ◌^◌, ℕ, zero, suc, Bool, true, false, List, [], ◌∷◌, length, Some, None, Result, Ok, Err, fold, refl, sym, ◌∙◌, ap, arith, inl, inr, ◌⊎◌}
 use Rattle.std.specs.Prelude.{nat_le}
 use Rattle.std.proofs.lemmas.Bool.{cases_lt, leb-true, lt-leb, and_parts, false_from_ne_true}
@@ -63,7 +63,7 @@ moves_inside (Takes a n ∷ ms) w w' e x (zero, lt, same) = let is : ◌≡◌ {
 moves_inside (Puts s ∷ ms) w w' e x (suc i, lt, same) = inside_again (view_of w) (view_of e.0) x e.1.keeps (moves_inside ms e.0 w' e.2 x (i, omega arith, same))
 moves_inside (Takes a n ∷ ms) w w' e x (suc i, lt, same) = inside_again (view_of w) (view_of e.0) x (kept (view_of w) (view_of e.0) (ap view_of e.1)) (moves_inside ms e.0 w' e.2 x (i, omega arith, same))
 
--- what an effect that goes on leaves
+-- what an effect that goes on does to the window
 pub record Went (c' : Cpu) (w w' : Window) (e : Effect) : Type 0 where
   pub moves : List Move
   pub is : e ≡ Next c' moves
@@ -79,7 +79,7 @@ went_on c c' w w' (Trap f) h = absurd (cc h.0)
 pub goes_so : (c c' : Cpu) (w w' : Window) (e : Effect) → step_effect (refused_by (view_of w)) (held_by (view_of w)) c ≡ e → Acts IsStored IsTaken c c' w w' outcome.Next e → GoesOn (view_of w) c (view_of w') c'
 goes_so c c' w w' e is h = let g = went_on c c' w w' e h in record { moves = g.moves; effect = is ∙ g.is; inside = g.inside; after = g.put }
 
--- by the answer
+-- what the runner did, by its answer
 pub keeps_by : (c c' : Cpu) (w w' : Window) (e : Effect) (r : Bool) → (r ≡ true → Acts IsStored IsTaken c c' w w' outcome.Next e) → (r ≡ false → w' ≡ w) → Keeps (view_of w) (view_of w')
 keeps_by c c' w w' e true goes stays = (went_on c c' w w' e (goes refl)).keeps
 keeps_by c c' w w' e false goes stays = kept (view_of w) (view_of w') (ap view_of (stays refl))
@@ -102,7 +102,7 @@ in_stretch v a n h =
     let two = and_parts (nat_le v.code_base a) (nat_le (a + n) (v.code_base + v.code_size)) range in
     (leb-true v.code_base a two.0, leb-true (a + n) (v.code_base + v.code_size) two.1)
 
--- the flash is no part of the RAM
+-- the flash and the RAM do not overlap
 pub held_flash : (v : View) (a : ℕ) → v.flash_base + length v.flash ≤ v.ram_base → has v.flash_base v.flash a 2 ≡ true → held_by v a 2 ≡ number_in v.flash_base v.flash a 2
 held_flash v a apart h =
     let two = within v.flash_base v.flash a 2 h in
@@ -138,7 +138,7 @@ module _ (v : View) (c : Cpu) (at first : ℕ) (apart : IsApart v) (here : at �
       let narrow : is_wide first ≡ false = lt-leb _ _ (omega (arith, high)) in
       record { value = field first 0 8; code = first; is = rw (← here, fetched_may v at first f, ← fetched_is v at first apart f, narrow, row_df00 first small high) refl }
 
--- ## Where it was fetched from
+-- ## Where an instruction was fetched from
 
 pub fetched_from : (v : View) (at : ℕ) (f : Fetched) → fetched (refused_by v) (held_by v) at ≡ Ok f → has_code v at 2 ≡ true
 fetched_from v at f is = by (has_code v at 2) is
@@ -164,7 +164,7 @@ module _ (a b : Runner) (at code : ℕ) where
   did_goes Illegal e h = absurd h
   did_goes NeedsSecond e h = absurd h
 
--- only a narrow instruction went on
+-- if the answer is true, the instruction was narrow
 pub went_narrow : (first : ℕ) → (29 ≤ first / 2048 → ⊥) → first / 2048 < 29
 went_narrow first second = by (cases_lt (first / 2048) 29)
   where

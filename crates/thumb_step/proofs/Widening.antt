@@ -10,7 +10,7 @@ use Rattle.thumb_exec.proofs.Widening.{effect_wider}
 use Rattle.thumb_exec.specs.declared.fetch.Fetched.{Fetched}
 use Rattle.thumb_exec.specs.Fetch.{WidensFetch, instruction, unless_barred, after, fetched_wide, fetched_by, fetched, executed, step_effect}
 
--- a gives an instruction only where b gives the same
+-- if a gives an instruction, b gives the same
 abbrev Gives : Result Fetched Fault → Result Fetched Fault → Type 0
 Gives a b = (f : Fetched) → a ≡ Ok f → b ≡ Ok f
 
@@ -31,7 +31,7 @@ wide_wider R R' H H' w at first = granted (R (after at) 2 Execute) (R' (after at
 by_wider : (R R' : Refusals) (H H' : Contents) → WidensFetch R R' H H' → (at first : ℕ) → Gives (fetched_by R H at first) (fetched_by R' H' at first)
 by_wider R R' H H' w at first = either (is_wide first) _ _ _ (wide_wider R R' H H' w at first)
 
--- what is fetched is fetched with more rights
+-- an instruction that is fetched is also fetched with more rights
 pub fetched_wider : (R R' : Refusals) (H H' : Contents) → WidensFetch R R' H H' → (at : ℕ) → Gives (fetched R H at) (fetched R' H' at)
 fetched_wider R R' H H' w at = granted (R at 2 Execute) (R' at 2 Execute) at _ _ (w.widens.granted at 2 Execute) (λ e. rw (sym (w.fetches at e)) (by_wider R R' H H' w at (H at 2)))
 

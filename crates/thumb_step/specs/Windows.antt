@@ -1,4 +1,4 @@
--- Instructions on end of a processor that reaches four runs of bytes, and no others.
+-- Instructions one after another, of a processor that may access four byte ranges and nothing else.
 use Rattle.std.specs.Prelude.{◌≡◌, ◌≤◌, ℕ, zero, suc, ◌+◌, ◌-◌, ◌/◌, Bool, true, false, ◌&&◌, ◌||◌, if◌then◌else◌, nat_eq, nat_le, Ok, List, length, take, drop, fold, Option, Some, None, Contains}
 use Rattle.mem_banks.specs.Memory.{number_of, pasted}
 use Rattle.region_check.specs.declared.Right.TheVariants.{Read, Write, Execute}
@@ -11,8 +11,9 @@ use Rattle.thumb_insn.specs.declared.Insn.TheVariants.{Svc}
 use Rattle.words_core.specs.Regs.{reg_at, program_counter}
 use Rattle.thumb_step.specs.declared.window.Window.{Window}
 
--- what a processor reaches: bytes of the flash from an address on, of which it may execute a stretch, and perhaps read all, bytes that
--- it may read and write, and two areas that it may read, and perhaps write
+-- The memory that a processor may access, each part from an address on: the flash, of which it may execute a
+-- stretch and perhaps read all; the RAM, which it may read and write; and two areas, which it may read and perhaps
+-- write.
 pub record View : Type 0 where
   pub flash_base : ℕ
   pub flash : List ℕ
@@ -28,9 +29,9 @@ pub record View : Type 0 where
   pub second : List ℕ
   pub second_writable : Bool
 
--- ## What it may do with which bytes
+-- ## The rights to bytes
 
--- whether these bytes, from a base on, have all of n bytes
+-- whether all of n bytes from an address on are among these bytes, which begin at a base
 abbrev pub has : ℕ → List ℕ → ℕ → ℕ → Bool
 has base bytes a n = nat_le base a && nat_le (a + n) (base + length bytes)
 
@@ -38,15 +39,15 @@ has base bytes a n = nat_le base a && nat_le (a + n) (base + length bytes)
 abbrev pub has_code : View → ℕ → ℕ → Bool
 has_code v a n = has v.flash_base v.flash a n && (nat_le v.code_base a && nat_le (a + n) (v.code_base + v.code_size))
 
--- at how many places of the stretch a halfword can begin
+-- the number of addresses in the stretch at which a halfword can begin
 abbrev pub code_places : View → ℕ
 code_places v = v.code_size - 1
 
--- what n of them hold
+-- what n bytes from an address on hold, of bytes that begin at a base
 abbrev pub number_in : ℕ → List ℕ → ℕ → ℕ → ℕ
 number_in base bytes a n = number_of (take n (drop (a - base) bytes))
 
--- nothing is refused, or the first byte
+-- no byte is refused, or the first one is
 abbrev pub given : Bool → ℕ → Option ℕ
 given true a = None
 given false a = Some a
@@ -55,11 +56,11 @@ given false a = Some a
 abbrev pub may_write_area : View → ℕ → ℕ → Bool
 may_write_area v a n = if has v.area_base v.area a n then v.area_writable else has v.second_base v.second a n && v.second_writable
 
--- whether bytes that the RAM does not have may be read
+-- whether bytes outside the RAM may be read
 abbrev pub may_read_beyond : View → ℕ → ℕ → Bool
 may_read_beyond v a n = if has v.flash_base v.flash a n then v.readable else has v.area_base v.area a n || has v.second_base v.second a n
 
--- the first of RAM, flash and areas that has all of n bytes says whether they may be read, and what they hold
+-- The first of RAM, flash and areas that has all of n bytes decides whether they may be read, and what they hold.
 abbrev pub may_read : View → ℕ → ℕ → Bool
 may_read v a n = has v.ram_base v.ram a n || may_read_beyond v a n
 
@@ -87,13 +88,13 @@ pub record IsFetched (v : View) (a half : ℕ) : Type 0 where
 
 -- ## Moves
 
--- what it reaches after a store in one of the areas
+-- the memory after a store in one of the areas
 abbrev pub write_area : View → Store → View
 write_area v x =
     if has v.area_base v.area x.addr x.bytes then record v { area = pasted v.area (x.addr - v.area_base) (bytes_of x.value x.bytes) }
     else record v { second = pasted v.second (x.addr - v.second_base) (bytes_of x.value x.bytes) }
 
--- the same in the RAM, or else in an area; a load takes nothing there
+-- the memory after a store in the RAM, or else in an area; a load takes nothing
 abbrev pub write : View → Store → View
 write v x =
     if has v.ram_base v.ram x.addr x.bytes then record v { ram = pasted v.ram (x.addr - v.ram_base) (bytes_of x.value x.bytes) }
@@ -103,7 +104,7 @@ abbrev pub put : View → Move → View
 put v (Puts x) = write v x
 put v (Takes a n) = v
 
--- each store is one of 1, 2 or 4 bytes that it may write
+-- each store is of 1, 2 or 4 bytes that the processor may write
 abbrev pub IsInside : View → Move → Type 0
 IsInside v (Puts x) = IsSize x.bytes × (may_write v x.addr x.bytes ≡ true)
 IsInside v (Takes a n) = Unit {0}
@@ -120,7 +121,7 @@ pub record GoesOn (v : View) (c : Cpu) (v' : View) (c' : Cpu) : Type 0 where
   pub inside : AreInside v moves
   pub after : v' ≡ fold put v moves
 
--- n instructions on end go on
+-- n instructions one after another go on
 abbrev pub Glides : View → Cpu → ℕ → View → Cpu → Type 0
 Glides v c zero v' c' = (v' ≡ v) × (c' ≡ c)
 Glides v c (suc n) v' c' = (w : View) × (d : Cpu) × Glides v c n w d × GoesOn w d v' c'
@@ -135,7 +136,7 @@ pub record IsAtSyscall (v : View) (c : Cpu) : Type 0 where
   pub code : ℕ
   pub is : fetched (refused_by v) (held_by v) (reg_at c.regs program_counter) ≡ Ok record { insn = Svc value; code = code }
 
--- what no instruction changes
+-- the parts that no instruction changes
 pub record Keeps (v v' : View) : Type 0 where
   pub flash_base : v'.flash_base ≡ v.flash_base
   pub flash : v'.flash ≡ v.flash

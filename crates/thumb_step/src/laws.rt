@@ -1,11 +1,11 @@
-//! What holds of every step, for proofs about whole turns and runs. Nothing runs here.
+//! What is true of every step, for proofs about whole turns and runs. Nothing here is executed.
 ghost use Rattle.thumb_exec.specs.Effect.{Refusals, Contents};
 ghost use Rattle.thumb_exec.specs.declared.cpu.Cpu.{Cpu as Processor};
 ghost use Rattle.thumb_exec.specs.Keeps.{GoesOnAs};
 ghost use Rattle.thumb_exec.specs.Fetch.{WidensFetch, step_effect};
 
-/// A step that goes on does the same with more rights, over memory that holds the same where it may
-/// be read or executed.
+/// A step that goes on does the same if it has more rights and memory holds the same wherever it
+/// may be read or executed.
 pub fn what_goes_on_goes_on_with_more_rights()
     ensures { (refuses wider : Refusals) (holds held : Contents) →
         WidensFetch refuses wider holds held → (c : Processor) →

@@ -21,7 +21,8 @@ use thumb_insn::Decoded;
 pub use window::{Runner, Window};
 use words_core::PROGRAM_COUNTER;
 
-/// What was decoded at an address, with its code; what has no row in the table is Illegal.
+/// The instruction that was decoded at an address, with its code. A code with no row in the table
+/// is Illegal.
 #[inline(always)]
 fn instruction(at: u32, code: u32, decoded: Decoded) -> Result<Fetched, Fault>
     requires { GivesCoded decoded }
@@ -37,7 +38,7 @@ fn instruction(at: u32, code: u32, decoded: Decoded) -> Result<Fetched, Fault>
     }
 }
 
-/// The same of an instruction of two halfwords, of which the first is fetched.
+/// The same for an instruction of two halfwords, after the first one was fetched.
 fn fetch_wide<B: Bus>(bus: &B, at: u32, first: u16) -> Result<Fetched, Fault>
     requires { at % 2 ≡ 0 }
     ensures is { result ≡ fetched_wide (B.refuses bus.now) (B.holds bus.now) at first }
@@ -58,8 +59,8 @@ fn fetch_wide<B: Bus>(bus: &B, at: u32, first: u16) -> Result<Fetched, Fault>
 ///
 /// # Errors
 ///
-/// IllegalText at the first halfword of which a byte may not be executed, Illegal at the address
-/// where the code has no row in the table of instructions.
+/// IllegalText at the first halfword of which a byte may not be executed. Illegal at the address,
+/// if the code has no row in the table of instructions.
 #[inline(always)]
 pub fn fetch<B: Bus>(bus: &B, at: u32) -> Result<Fetched, Fault>
     requires { at % 2 ≡ 0 }
@@ -77,8 +78,8 @@ pub fn fetch<B: Bus>(bus: &B, at: u32) -> Result<Fetched, Fault>
     }
 }
 
-/// Fetches, decodes and executes the instruction at PC. A fault and a system call leave processor
-/// and bus as they are.
+/// Fetches, decodes and executes the instruction at PC. A fault and a system call do not change
+/// processor and bus.
 #[inline(always)]
 pub fn step<B: Bus>(cpu: &mut Cpu, bus: &mut B) -> Outcome
     requires { reg_at cpu.old.regs program_counter % 2 ≡ 0 }

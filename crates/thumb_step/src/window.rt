@@ -1,5 +1,5 @@
-//! Instructions on end of a processor whose flash, RAM and further areas lie in four vectors of
-//! bytes. An access is one test of its place, and no look-up.
+//! Executes instructions one after another for a processor whose flash, RAM and two areas lie in
+//! four vectors of bytes. An access tests its address once, and looks up nothing.
 ghost use Rattle.std.specs.Prelude.{◌≡◌, ◌+◌, ◌*◌, ◌/◌, ◌≤◌, ◌<◌, None, Some, true, false, MatchOption, MatchResult, IfOk, IfErr, length, take, drop, vec_len};
 ghost use Rattle.mem_banks.specs.Memory.{number_of, pasted};
 ghost use Rattle.region_check.specs.declared.Right.TheVariants.{Read, Write};
@@ -18,10 +18,10 @@ use thumb_exec::step::proceed;
 use thumb_insn::{Decoded, Insn};
 use words_core::PROGRAM_COUNTER;
 
-/// What a processor reaches: the flash, of which it may execute a stretch, and perhaps read all,
-/// the RAM, which it may read and write, and two areas, which it may read, and perhaps write, each
-/// from an address on. Only accesses beyond flash and RAM look at the areas, and only those beyond
-/// the first one at the second, so that the others have no test more.
+/// The memory that a processor may access, each part from an address on: the flash, of which it may
+/// execute a stretch and perhaps read all; the RAM, which it may read and write; and two areas,
+/// which it may read and perhaps write. Only accesses outside flash and RAM look at the first area,
+/// and only those outside that one at the second, so the other accesses need no further test.
 #[derive(Drop)]
 pub struct Window {
     pub flash: Vec<u8>,
@@ -47,14 +47,14 @@ pub struct Window {
     pub second_writable: bool,
 }
 
-/// A processor and what it reaches.
+/// A processor and the memory that it may access.
 #[derive(Drop)]
 pub struct Runner {
     pub processor: Cpu,
     pub window: Window,
 }
 
-/// Whether these bytes, from a base on, have all of n bytes.
+/// Whether all of n bytes from an address on are among these bytes, which begin at a base.
 #[inline(always)]
 fn has(base: u32, bytes: &[u8], addr: u32, n: u32) -> bool
     ensures { result ≡ has base bytes.now addr n }
@@ -62,9 +62,9 @@ fn has(base: u32, bytes: &[u8], addr: u32, n: u32) -> bool
     addr >= base && (addr - base) as usize + n as usize <= bytes.len()
 }
 
-/// The number that two bytes from a place on spell, the lowest first. The hint is not `always`:
-/// LLVM makes one load of it in the function itself, and no more once the decoder, which looks at
-/// the high byte alone, is around it.
+/// The number in two bytes from an index on, little-endian. The hint is not `always`: on its own
+/// LLVM makes one load of this function, but not after it is inlined into the decoder, which looks
+/// only at the high byte.
 #[inline]
 fn half(bytes: &[u8], at: usize) -> u16
     requires { at + 2 ≤ length bytes.now }
@@ -73,7 +73,7 @@ fn half(bytes: &[u8], at: usize) -> u16
     u16::from(bytes[at]) + 256 * u16::from(bytes[at + 1])
 }
 
-/// The number that four bytes from a place on spell, the lowest first.
+/// The number in four bytes from an index on, little-endian.
 #[inline(always)]
 fn word(bytes: &[u8], at: usize) -> u32
     requires { at + 4 ≤ length bytes.now }
@@ -84,7 +84,7 @@ fn word(bytes: &[u8], at: usize) -> u32
     low + 65536 * high
 }
 
-/// The number that 1, 2 or 4 bytes from a place on spell, the lowest first.
+/// The number in 1, 2 or 4 bytes from an index on, little-endian.
 #[inline(always)]
 fn number(bytes: &[u8], at: usize, n: u32) -> u32
     requires size { IsSize n }
@@ -98,7 +98,7 @@ fn number(bytes: &[u8], at: usize, n: u32) -> u32
     }
 }
 
-/// Writes bytes over those from a place on.
+/// Writes bytes over those from an index on.
 #[inline(always)]
 fn put(bytes: &mut Vec<u8>, at: usize, new: &[u8])
     requires { at + length new.now ≤ vec_len bytes.old }
@@ -141,7 +141,7 @@ impl Window {
         has(self.second_base, &self.second, addr, n)
     }
 
-    /// Whether bytes that the RAM does not have may be written.
+    /// Whether bytes outside the RAM may be written.
     #[inline(never)]
     fn writes_area(&self, addr: u32, n: u32) -> bool
         ensures { result ≡ may_write_area (view_of self.now) addr n }
@@ -163,7 +163,7 @@ impl Window {
             && (addr - self.code_base) as usize + n as usize <= self.code_size as usize
     }
 
-    /// At how many places of the stretch a halfword can begin.
+    /// The number of addresses in the stretch at which a halfword can begin.
     #[inline(always)]
     pub fn code_places(&self) -> u32
         ensures { result ≡ code_places (view_of self.now) }
@@ -175,8 +175,9 @@ impl Window {
         }
     }
 
-    /// The halfword at an address, where the stretch has it, by how many places it has for one. It
-    /// ends within the address space, since the flash ends below the RAM: so one comparison tells.
+    /// The halfword at an address, if the stretch has it. `places` is the number of addresses at
+    /// which a halfword can begin. The stretch ends within the address space, because the flash
+    /// ends below the RAM, so one comparison is enough.
     #[inline(always)]
     pub fn code_half(&self, addr: u32, places: u32) -> Option<u16>
         requires apart { IsApart (view_of self.now) }
@@ -184,8 +185,8 @@ impl Window {
         ensures { MatchOption result (has_code (view_of self.now) addr 2 ≡ false)
             (λ half. IsFetched (view_of self.now) addr half) }
     {
-        // Read for the proof alone, which needs that it is below 2^32: the range of a field is
-        // known once it is read.
+        // This read is only for the proof, which needs that the base is below 2^32: the range of a
+        // field is known after it is read.
         let _end = self.ram_base;
         if addr.wrapping_sub(self.code_base) < places {
             Some(half(&self.flash, (addr - self.flash_base) as usize))
@@ -194,8 +195,8 @@ impl Window {
         }
     }
 
-    /// Whether the instruction at a processor's PC is a system call in the stretch, by one look at
-    /// its halfword.
+    /// Whether the instruction at a processor's PC lies in the stretch and is a system call, by
+    /// reading only its halfword.
     #[inline(always)]
     pub fn is_at_syscall(&self, processor: &Cpu) -> bool
         requires apart { IsApart (view_of self.now) }
@@ -209,7 +210,7 @@ impl Window {
         }
     }
 
-    /// Whether bytes that the RAM does not have may be read.
+    /// Whether bytes outside the RAM may be read.
     #[inline(never)]
     fn reads_beyond(&self, addr: u32, n: u32) -> bool
         ensures { result ≡ may_read_beyond (view_of self.now) addr n }
@@ -221,7 +222,7 @@ impl Window {
         }
     }
 
-    /// A load of bytes that neither the RAM nor the flash has: of an area.
+    /// A load of bytes outside RAM and flash: from an area.
     #[inline(never)]
     fn load_area(&self, addr: u32, n: u32) -> Result<u32, u32>
         requires size { IsSize n }
@@ -240,8 +241,8 @@ impl Window {
         }
     }
 
-    /// A load of bytes that the RAM does not have: of the flash, or else of an area, which is a
-    /// function of its own, so that a load of the flash has no preparations for it.
+    /// A load of bytes outside the RAM: from the flash, or else from an area. The load from an area
+    /// is another function, so that a load from the flash does not have to prepare for it.
     #[inline(never)]
     fn load_flash(&self, addr: u32, n: u32) -> Result<u32, u32>
         requires size { IsSize n }
@@ -260,7 +261,7 @@ impl Window {
         }
     }
 
-    /// A store of bytes that the RAM does not have.
+    /// A store of bytes outside the RAM.
     #[inline(never)]
     fn store_area(&mut self, addr: u32, n: u32, value: u32) -> Result<(), u32>
         requires size { IsSize n }
@@ -336,7 +337,7 @@ impl Bus for Window {
         Ok(())
     }
 
-    /// There is no device in them.
+    /// A window has no device, so a load takes nothing.
     #[inline(always)]
     fn taken(&mut self, _addr: u32) {}
 
@@ -377,8 +378,9 @@ impl Taker for Runner {
 }
 
 impl Runner {
-    /// One instruction, where it is fetched from the stretch, which has so many places for a
-    /// halfword, and goes on within the window; else nothing changes, and the answer is false.
+    /// Executes one instruction, if it is fetched from the stretch and goes on within the window;
+    /// otherwise nothing changes, and the answer is false. `places` is the number of addresses in
+    /// the stretch at which a halfword can begin.
     #[inline(always)]
     fn step(&mut self, places: u32) -> bool
         requires apart { IsApart (view_of self.old.window) }
@@ -398,14 +400,14 @@ impl Runner {
         if narrow_to(first, self) {
             return true;
         }
-        // Wide ones are rare, and are looked for here for speed: others need no test of it.
+        // For speed the test for wide instructions, which are rare, is here: others need no test.
         if first / 2048 >= 29 {
             return self.step_wide(at, first, places);
         }
         false
     }
 
-    /// The same where this first halfword begins a wide instruction.
+    /// The same for a wide instruction that begins with this halfword.
     #[inline(never)]
     fn step_wide(&mut self, at: u32, first: u16, places: u32) -> bool
         requires apart { IsApart (view_of self.old.window) }
@@ -430,16 +432,16 @@ impl Runner {
         }
     }
 
-    /// Instructions on end, at most so many: as long as each is fetched from the stretch and goes
-    /// on within the window. How many there were.
+    /// Executes at most `most` instructions one after another, as long as each is fetched from the
+    /// stretch and goes on within the window. The result is how many it executed.
     pub fn glide(&mut self, most: u32) -> u32
         requires apart { IsApart (view_of self.old.window) }
         ensures glides { Glides (view_of self.old.window) self.old.processor result
             (view_of self.new.window) self.new.processor }
         ensures within { result ≤ most }
 
-        // It stops before that many only where the next one is a system call, faults or reaches
-        // beyond the window.
+        // It stops earlier only if the next instruction is a system call, faults or accesses bytes
+        // outside the window.
         ensures far { result < most → Halts
             (step_effect (refused_by (view_of self.new.window)) (held_by (view_of self.new.window))
             self.new.processor) }

@@ -1,4 +1,4 @@
--- The tasks that a tick need not look at.
+-- The tasks that a tick does not have to look at.
 use Rattle.std.proofs.Common.{◌≡◌, ◌+◌, ◌<◌, ◌≤◌, ℕ, zero, suc, Bool, true, false, cond, List, length, inl, inr, Option, Some, None, refl, sym, subst, ◌∙◌, ap, arith, leb, IfSome}
 use Rattle.std.specs.Prelude.{fold}
 use Rattle.std.specs.List.{range_with_len}
@@ -21,7 +21,7 @@ pub length-clocked : (t : Turn) → length (clocked t).state.tasks ≡ length t.
 unfolding clocked noted
 length-clocked t = refl
 
--- ## a timer that is ahead is not past once the time goes on by one
+-- ## a timer that is ahead has not passed after the time advances by one
 
 not_past : (o : Option Timer) (now : ℕ) → IfSome o (λ x. now < x.deadline) → IfSome o (λ x. now + 1 ≤ x.deadline)
 not_past None now ahead = tt
@@ -48,7 +48,7 @@ same_but-expired t i = by_timer (task_at t.state i).timer
         by_due true = let u = with_timer i None t in same_but_then i t.state u.state (posted i x.bits u).state (same_but-with_timer i None t) (same_but-posted i x.bits u)
         by_due false = same_but_here i t.state
 
--- the first m tasks are seen to: the time and the tasks from there on are as before
+-- the first m tasks are done: the time and the tasks from m on are as before
 record IsAfter (m : ℕ) (s u : State) : Type 0 where
   now : u.now ≡ s.now
   task : (i : ℕ) → m ≤ i → task_at u i ≡ task_at s i
@@ -64,7 +64,7 @@ after t (suc m) =
     let is : fold expired t (range_with_len 0 (suc m)) ≡ expired u m = ap (λ (k : ℕ). fold expired t (range_with_len 0 k)) more ∙ fold_range_more expired t m in
     subst (λ (v : Turn). IsAfter (suc m) t.state v.state) (sym is) next
 
--- ## a task whose timer is not due is passed over
+-- ## a task whose timer is not due is skipped
 
 not_due : (i : ℕ) (o : Option Timer) (u : Turn) → IfSome o (λ x. u.state.now < x.deadline) → expired_by i o u ≡ u
 not_due i None u later = refl
@@ -85,7 +85,7 @@ passed_over t words m reached due inside out =
     let same : task_at u.state m ≡ task_at t.state m = seen.task m (omega arith) in
     not_due m (task_at u.state m).timer u (rw (same, seen.now) ahead)
 
--- so are n tasks from m on of which none is in the set
+-- so are n tasks from m on, if none of them is in the set
 pub skipped : (t : Turn) (words : List ℕ) (m n : ℕ) → AreNotPast t.state → HasDue t.state words → m + n ≤ length t.state.tasks → ((i : ℕ) → m ≤ i → i < m + n → has words i ≡ false) → fold expired t (range_with_len 0 (m + n)) ≡ fold expired t (range_with_len 0 m)
 skipped t words m zero reached due inside none = let e : m + 0 ≡ m = omega arith in ap (λ (k : ℕ). fold expired t (range_with_len 0 k)) e
 skipped t words m (suc n) reached due inside none =

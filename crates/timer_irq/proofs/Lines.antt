@@ -7,7 +7,7 @@ use Rattle.std.specs.Option.{option_map}
 use Rattle.timer_irq.specs.Midway.{with_next}
 use Rattle.task_table.proofs.model.Clients.{no_some}
 
--- one more place at the end of a range
+-- one more index at the end of a range
 fold_range_suc : {B : Type 0} (f : B → ℕ → B) (b : B) (a n : ℕ) → fold f b (range_with_len a (suc n)) ≡ f (fold f b (range_with_len a n)) (a + n)
 fold_range_suc f b a zero = let e : a ≡ a + 0 = omega arith in ap (f b) e
 fold_range_suc f b a (suc n) = let e : a + 1 + n ≡ a + suc n = omega arith in fold_range_suc f (f b a) (a + 1) n ∙ ap (f (fold f (f b a) (range_with_len (a + 1) n))) e
@@ -20,7 +20,7 @@ get_none [] i d h = refl
 get_none (y ∷ ys) zero d h = no_some (sym h)
 get_none (y ∷ ys) (suc i) d h = get_none ys i d h
 
--- the first that passes, seen by what is kept of it
+-- the first item that passes, in a list of what is kept of the items
 pub find_mapped : {A B : Type 0} (f : A → B) (p : B → Bool) (xs : List A) → find p (map f xs) ≡ option_map f (find (λ x. p (f x)) xs)
 find_mapped f p [] = refl
 find_mapped f p (x ∷ xs) = go (p (f x)) (find_mapped f p xs)
@@ -33,7 +33,7 @@ pub any_mapped : {A B : Type 0} (f : A → B) (p : B → Bool) (xs : List A) →
 any_mapped f p [] = refl
 any_mapped f p (x ∷ xs) = rw (any_mapped f p xs) refl
 
--- one more item of a list that is folded over where it passes
+-- one more item of a fold over the items that pass
 next_folded : {A B : Type 0} (f : B → A → B) (p : A → Bool) (b : B) (xs : List A) (i : ℕ) → fold f b (filter p (take (suc i) xs)) ≡ with_next f p (slice_get xs i) (fold f b (filter p (take i xs)))
 next_folded f p b [] zero = refl
 next_folded f p b [] (suc i) = refl
@@ -58,7 +58,7 @@ get_mapped f [] i = refl
 get_mapped f (y ∷ ys) zero = refl
 get_mapped f (y ∷ ys) (suc i) = get_mapped f ys i
 
--- what passes after none that does is the first; after the last there is none
+-- an item that passes is the first one if none before it passes; if no item passes, there is none
 pub find_at : {A : Type 0} (p : A → Bool) (xs : List A) (i : ℕ) (d : A) → i < length xs → find p (take i xs) ≡ None → p (get_or xs i d) ≡ true → find p xs ≡ Some (get_or xs i d)
 find_at p [] i d below none here = absurd (omega arith)
 find_at p (x ∷ xs) zero d below none here = rw here refl

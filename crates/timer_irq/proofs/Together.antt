@@ -1,4 +1,4 @@
--- The lines that pass, taken together, one more of them at a time.
+-- The lines that pass, as one line, one more of them at a time.
 use Rattle.std.proofs.Common.{◌≡◌, ◌+◌, ◌<◌, ◌||◌, ℕ, zero, suc, Bool, true, false, cond, List, [], ◌∷◌, length, map, take, refl, ◌∙◌, ap, subst, arith, get_or}
 use Rattle.std.specs.Prelude.{filter}
 use Rattle.std.specs.List.{list_any}
@@ -19,7 +19,7 @@ or_assoc : (a b c : Bool) → ((a || b) || c) ≡ (a || (b || c))
 or_assoc true b c = refl
 or_assoc false b c = refl
 
--- one more item of a list of which some that pass are asked for
+-- one more item of a list in which items that pass are searched
 any_suc : {A : Type 0} (p q : A → Bool) (xs : List A) (i : ℕ) (d : A) → i < length xs → (list_any p (filter q (take i xs)) || cond (q (get_or xs i d)) (p (get_or xs i d)) false) ≡ list_any p (filter q (take (suc i) xs))
 any_suc p q [] i d below = absurd (omega arith)
 any_suc p q (x ∷ xs) zero d below = go (q x)
@@ -60,7 +60,7 @@ more_lines s q xs i d below =
     let pending = ap (λ b. list_any (λ (o : LineSetup). (line_at s o.line).pending) old || b) (part_of (λ l. l.pending) refl s q x) ∙ any_more (λ (o : LineSetup). (line_at s o.line).pending) q xs i d below in
     λ j. record { enabled = enabled j; pending = pending j }
 
--- the same of the owners of the code
+-- the same for the owners that the code keeps
 pub more_owners : (s : State) (q : LineSetup → Bool) (xs : List LineStart) (i : ℕ) (d : LineStart) → i < length xs → joined (lines_together s (filter q (take i (map line_setup xs)))) (cond (q (line_setup (get_or xs i d))) (line_at s (get_or xs i d).line) no_line) ≡ lines_together s (filter q (take (i + 1) (map line_setup xs)))
 more_owners s q xs i d below =
     let long = length-map xs line_setup in

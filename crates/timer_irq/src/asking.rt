@@ -14,8 +14,8 @@ use crate::owners::{is_owner, line_of, owns};
 use kernel_abi::{IrqArgs, Note, Usage};
 use task_table::{Kernel, Line, LineStart};
 
-/// The line of an owner, where it is this task with exactly these bits; else one that is disabled
-/// with nothing pending.
+/// The line of an owner, if the owner is this task with exactly these bits; else a line that is
+/// disabled with nothing pending.
 fn own_line(k: &Kernel, caller: usize, bits: u32, owner: &LineStart) -> Line
     ensures { (g : Setup) (t : Turn) → Holds g k.now t →
         result ≡ (if owns_with caller bits (line_setup owner.now) then line_at t.state
@@ -31,7 +31,7 @@ fn own_line(k: &Kernel, caller: usize, bits: u32, owner: &LineStart) -> Line
     }
 }
 
-/// Two lines as one: enabled where one of them is, pending where one of them is.
+/// Two lines as one: enabled if one of them is, pending if one of them is.
 fn both_lines(a: Line, b: Line) -> Line
     ensures { result ≡ joined a b }
 {
@@ -41,8 +41,8 @@ fn both_lines(a: Line, b: Line) -> Line
     }
 }
 
-/// The lines that a task owns with exactly these bits as one: enabled where one is, pending where
-/// one is.
+/// The lines that a task owns with exactly these bits, as one line: enabled if one of them is,
+/// pending if one of them is.
 fn own_lines(k: &Kernel, caller: usize, bits: u32) -> Line
     ensures { (g : Setup) (t : Turn) → Holds g k.now t →
         result ≡ lines_together t.state (filter (owns_with caller bits) g.lines) }
@@ -57,7 +57,7 @@ fn own_lines(k: &Kernel, caller: usize, bits: u32) -> Line
     together
 }
 
-/// What counts where something is so.
+/// `value` if the condition is true, else 0.
 fn value_if(is: bool, value: u32) -> u32
     ensures value { result ≡ (if is then value else 0) }
     ensures most { result ≤ value }
@@ -65,15 +65,15 @@ fn value_if(is: bool, value: u32) -> u32
     if is { value } else { 0 }
 }
 
-/// 1 for enabled, 2 for pending and 4 for posted bits.
+/// The sum of 1 if enabled, 2 if pending and 4 if bits are posted.
 fn sum_of(lines: Line, posted: u32) -> u32
     ensures { result ≡ status_sum lines posted }
 {
     value_if(lines.enabled, 1) + value_if(lines.pending, 2) + value_if(posted != 0, 4)
 }
 
-/// How the lines that a task owns with exactly these bits are, and whether some of the bits are
-/// posted to it.
+/// The status of the lines that a task owns with exactly these bits, and whether some of the bits
+/// are posted to it.
 fn status_of(k: &Kernel, caller: usize, bits: u32) -> u32
     requires { caller < task_count k.now }
     ensures { (g : Setup) (t : Turn) → Holds g k.now t →
@@ -82,7 +82,7 @@ fn status_of(k: &Kernel, caller: usize, bits: u32) -> u32
     sum_of(own_lines(k, caller, bits), k.posted_bits(caller) & bits)
 }
 
-/// IRQ_STATUS, in whatever state.
+/// IRQ_STATUS, in any state.
 fn irq_status_rows(k: &mut Kernel, caller: usize)
     requires there { caller < task_count k.old }
     requires room { note_count k.old + syscall_notes ≤ turn_notes }
@@ -104,10 +104,10 @@ fn irq_status_rows(k: &mut Kernel, caller: usize)
     }
 }
 
-/// IRQ_STATUS: of the lines that the caller owns with exactly the bits in r4, r4 becomes the sum of
-/// 1 where one is enabled, 2 where on one an interrupt is pending, and 4 where some of these bits
-/// are posted to the caller. Where the caller owns no such line, it faults by usage 6, NoIrq (the
-/// call is this project's own).
+/// IRQ_STATUS: r4 becomes a sum over the lines that the caller owns with exactly the bits in r4: 1
+/// if one of them is enabled, 2 if an interrupt is pending on one of them, and 4 if some of these
+/// bits are posted to the caller. If the caller owns no such line, it faults with usage 6, NoIrq
+/// (the call is this project's own).
 pub fn irq_status(k: &mut Kernel, caller: usize)
     requires there { caller < task_count k.old }
     requires room { note_count k.old + syscall_notes ≤ turn_notes }

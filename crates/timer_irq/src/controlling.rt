@@ -14,7 +14,7 @@ use crate::owners::{disable, is_owner, line_of, owns};
 use kernel_abi::{IrqArgs, Usage};
 use task_table::{Kernel, Line, LineStart};
 
-/// One line of the caller is disabled, or enabled.
+/// Disables or enables one line of the caller.
 fn control(k: &mut Kernel, caller: usize, bits: u32, enable: bool, line: u8)
     requires there { caller < task_count k.old }
     requires room { note_count k.old + 2 ≤ turn_notes }
@@ -40,7 +40,7 @@ fn control(k: &mut Kernel, caller: usize, bits: u32, enable: bool, line: u8)
     }
 }
 
-/// One line is disabled, or enabled, where the caller owns it with exactly these bits.
+/// Disables or enables one line, if the caller owns it with exactly these bits.
 fn control_if(k: &mut Kernel, caller: usize, bits: u32, enable: bool, owner: &LineStart)
     requires there { caller < task_count k.old }
     requires room { note_count k.old + 2 ≤ turn_notes }
@@ -54,14 +54,14 @@ fn control_if(k: &mut Kernel, caller: usize, bits: u32, enable: bool, owner: &Li
     }
 }
 
-/// The owner at a place of a list, where there is one.
+/// The owner at an index of a list, if there is one.
 fn item(owners: &[LineStart], i: usize) -> Option<LineStart>
     ensures { result ≡ slice_get owners.now i }
 {
     owners.get(i).copied()
 }
 
-/// The i-th owner of a line, where there is one.
+/// The i-th owner of a line, if there is one.
 fn owner_at(k: &Kernel, i: usize) -> Option<LineStart>
     ensures { (g : Setup) (t : Turn) → Holds g k.now t →
         option_map line_setup result ≡ slice_get g.lines i }
@@ -69,7 +69,7 @@ fn owner_at(k: &Kernel, i: usize) -> Option<LineStart>
     item(k.owners(), i)
 }
 
-/// The line of the i-th owner is disabled, or enabled, where the caller owns it with these bits.
+/// Disables or enables the line of the i-th owner, if the caller owns it with these bits.
 fn control_at(k: &mut Kernel, caller: usize, bits: u32, enable: bool, i: usize)
     requires there { caller < task_count k.old }
     requires room { note_count k.old + 2 ≤ turn_notes }
@@ -83,7 +83,7 @@ fn control_at(k: &mut Kernel, caller: usize, bits: u32, enable: bool, i: usize)
     }
 }
 
-/// Each line that the caller owns with these bits is disabled, or enabled.
+/// Disables or enables each line that the caller owns with these bits.
 fn control_all(k: &mut Kernel, caller: usize, bits: u32, enable: bool)
     requires there { caller < task_count k.old }
     requires room { note_count k.old + 2 * board_lines ≤ turn_notes }
@@ -97,7 +97,7 @@ fn control_all(k: &mut Kernel, caller: usize, bits: u32, enable: bool)
     }
 }
 
-/// IRQ_CONTROL, in whatever state.
+/// IRQ_CONTROL, in any state.
 fn irq_control_rows(k: &mut Kernel, caller: usize)
     requires there { caller < task_count k.old }
     requires room { note_count k.old + syscall_notes ≤ turn_notes }
@@ -114,10 +114,10 @@ fn irq_control_rows(k: &mut Kernel, caller: usize)
     }
 }
 
-/// IRQ_CONTROL: each line that the caller owns with exactly the bits in r4, ascending, is disabled,
-/// or, where bit 0 of r5 is set, enabled; where an interrupt is pending on a line that is to be
-/// enabled, it is cleared, the bits are posted and the line is disabled again. Where the caller
-/// owns no such line, it faults by usage 6, NoIrq (Hubris Reference, on IRQ_CONTROL; that
+/// IRQ_CONTROL: disables each line that the caller owns with exactly the bits in r4, or enables it
+/// if bit 0 of r5 is set, in ascending order. If an interrupt is pending on a line that is to be
+/// enabled, the interrupt is cleared, the bits are posted and the line is disabled again. If the
+/// caller owns no such line, it faults with usage 6, NoIrq (Hubris Reference, on IRQ_CONTROL; that
 /// interrupts are held is this project's profile).
 pub fn irq_control(k: &mut Kernel, caller: usize)
     requires there { caller < task_count k.old }

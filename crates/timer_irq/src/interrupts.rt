@@ -11,7 +11,7 @@ use crate::owners::{disable, line_of, owner_of};
 use kernel_abi::{Handled, Note};
 use task_table::{Kernel, LineStart};
 
-/// An interrupt on a line that has this owner.
+/// An interrupt on a line with this owner.
 fn interrupt_owned(k: &mut Kernel, line: u8, owner: &LineStart)
     requires there { owner.now.task < task_count k.old }
     requires room { note_count k.old + syscall_notes ≤ turn_notes }
@@ -37,9 +37,8 @@ fn interrupt_owned(k: &mut Kernel, line: u8, owner: &LineStart)
     }
 }
 
-/// An interrupt on a line. Where the line is enabled, its owner is posted the line's bits and the
-/// line is disabled; where it is disabled, an interrupt is pending from then on; where no task owns
-/// it, nothing happens.
+/// An interrupt on a line. If the line is enabled, its bits are posted to its owner and the line is
+/// disabled. If it is disabled, an interrupt becomes pending. If no task owns it, nothing happens.
 pub fn interrupt(k: &mut Kernel, line: u8)
     requires stood { StandsForSome k.old }
     requires room { note_count k.old + syscall_notes ≤ turn_notes }

@@ -3,7 +3,8 @@
 //! SET_TIMER, GET_TIMER, IRQ_CONTROL and IRQ_STATUS (Hubris Reference: timers, interrupts;
 //! docs/FORMATS.md, Script, System calls).
 //!
-//! Each event and each system call asks for room for `SYSCALL_NOTES` notes and makes no more.
+//! Each event and each system call needs room for `SYSCALL_NOTES` notes, and makes at most that
+//! many.
 
 mod asking;
 mod controlling;

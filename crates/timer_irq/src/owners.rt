@@ -1,4 +1,4 @@
-//! The interrupt lines, and who owns them.
+//! The interrupt lines and their owners.
 ghost use Rattle.std.specs.Prelude.{◌≡◌, ◌*◌, ◌<◌, ◌==◌, ◌&&◌, Some, Option};
 ghost use Rattle.std.specs.Option.{option_map};
 ghost use Rattle.std.specs.List.{list_any};
@@ -26,7 +26,7 @@ pub(crate) fn owner_of(k: &Kernel, line: u8) -> Option<LineStart>
     None
 }
 
-/// How a line is; one that is not there is disabled with nothing pending.
+/// The state of a line; a line that does not exist counts as disabled, with nothing pending.
 pub(crate) fn line_of(k: &Kernel, number: usize) -> Line
     ensures { (g : Setup) (t : Turn) → Holds g k.now t → result ≡ line_at t.state number }
 {
@@ -39,7 +39,7 @@ pub(crate) fn line_of(k: &Kernel, number: usize) -> Line
     }
 }
 
-/// A line is disabled, with something pending or not.
+/// Disables a line, with an interrupt pending or not.
 pub(crate) fn disable(k: &mut Kernel, number: usize, pending: bool)
     ensures holds { (g : Setup) (t : Turn) → Holds g k.old t →
         Holds g k.new (with_line number (line_off pending) t) }

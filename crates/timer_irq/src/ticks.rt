@@ -11,7 +11,7 @@ ghost use Rattle.timer_irq.specs.Midway.{AreNotPast};
 use crate::timers::set_timer;
 use task_table::Kernel;
 
-/// The timer of a task, where it is due, is off, and its bits are posted.
+/// Turns off the timer of a task and posts its bits, if it is due.
 fn expire(k: &mut Kernel, task: usize)
     requires there { task < task_count k.old }
     requires room { note_count k.old + 2 ≤ turn_notes }
@@ -26,8 +26,8 @@ fn expire(k: &mut Kernel, task: usize)
     }
 }
 
-/// Each task in order whose timer is due is posted, where no deadline has gone by before now. So
-/// only those are looked at whose deadline may be just now.
+/// Posts to each task whose timer is due, in order. No deadline has passed before now, so it looks
+/// only at the tasks whose deadline may be now.
 fn expire_all(k: &mut Kernel)
     requires { note_count k.old + 2 * most_tasks ≤ turn_notes }
     ensures holds { (g : Setup) (t : Turn) → Holds g k.old t → AreNotPast t.state →
@@ -42,8 +42,8 @@ fn expire_all(k: &mut Kernel)
     }
 }
 
-/// A tick: the time rises by one; then each task in order whose deadline is at most that time has
-/// its timer off and is posted the timer's bits.
+/// A tick. The time advances by one. Then each task whose deadline is at most that time, in order,
+/// has its timer turned off and gets the timer's bits posted.
 pub fn tick(k: &mut Kernel)
     requires room { note_count k.old + syscall_notes ≤ turn_notes }
     requires small { clock_of k.old + 1 < 2 ^ 64 }

@@ -10,7 +10,7 @@ ghost use Rattle.task_table.specs.kept.Calls.{Performs};
 use kernel_abi::{Timer, TimerArgs};
 use task_table::Kernel;
 
-/// SET_TIMER, in whatever state.
+/// SET_TIMER, in any state.
 fn set_timer_rows(k: &mut Kernel, caller: usize)
     requires there { caller < task_count k.old }
     requires room { note_count k.old + syscall_notes ≤ turn_notes }
@@ -37,10 +37,10 @@ fn set_timer_rows(k: &mut Kernel, caller: usize)
     }
 }
 
-/// SET_TIMER: r4 is 0 to turn the caller's timer off; else the timer is set to the deadline in r5
-/// (low word) and r6 with the bits in r7, or, where the deadline is at most now, is off and the
-/// bits are posted at once (Hubris Reference, on SET_TIMER; registers, and when a timer is due, are
-/// this project's profile).
+/// SET_TIMER: r4 is 0 to turn the caller's timer off. Otherwise the timer is set to the deadline in
+/// r5 (low word) and r6, with the bits in r7. If the deadline is at most now, the timer is turned
+/// off and the bits are posted at once (Hubris Reference, on SET_TIMER; registers, and when a timer
+/// is due, are this project's profile).
 pub fn set_timer(k: &mut Kernel, caller: usize)
     requires there { caller < task_count k.old }
     requires room { note_count k.old + syscall_notes ≤ turn_notes }
@@ -49,7 +49,7 @@ pub fn set_timer(k: &mut Kernel, caller: usize)
     set_timer_rows(k, caller);
 }
 
-/// What GET_TIMER answers in r4 to r9.
+/// The answer of GET_TIMER, in r4 to r9.
 fn timer_results(now: u64, timer: Option<Timer>) -> [u32; 6]
     ensures { result ≡ now % 2 ^ 32 ∷ now / 2 ^ 32 ∷ timer_words timer }
 {
@@ -68,9 +68,9 @@ fn timer_results(now: u64, timer: Option<Timer>) -> [u32; 6]
     }
 }
 
-/// GET_TIMER: r4 and r5 become the time, low word first; r6 is 1 where the caller's timer is set,
-/// r7 and r8 are then its deadline and r9 its bits, else r6 to r9 are 0 (the call is this project's
-/// own).
+/// GET_TIMER: r4 and r5 become the time, low word first. If the caller's timer is set, r6 is 1, r7
+/// and r8 are its deadline, low word first, and r9 has its bits; otherwise r6 to r9 are 0 (the call
+/// is this project's own).
 pub fn get_timer(k: &mut Kernel, caller: usize)
     requires there { caller < task_count k.old }
     requires room { note_count k.old + syscall_notes ≤ turn_notes }

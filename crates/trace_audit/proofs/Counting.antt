@@ -36,7 +36,7 @@ left_same before s open' saying.Nothing = refl
 count_push : (p : Saying → Bool) (xs : List Saying) (y : Saying) → count_by p (xs ++ y ∷ []) ≡ count_by p xs + bit (p y)
 count_push p xs y = sum_by_push (λ x. bit (p x)) xs y
 
--- what closes nothing and offers nothing
+-- a saying that closes and offers nothing
 pub count_aside : (before : List Saying) (s : Saying) (n : ℕ) → ((k : ℕ) → closes k s ≡ false) → is_left (before ++ s ∷ []) s ≡ false → n ≡ count_by (is_left before) before → n ≡ count_by (is_left (before ++ s ∷ [])) (before ++ s ∷ [])
 count_aside before s n open' not_left h =
     h ∙ sym (count_push (is_left (before ++ s ∷ [])) before s ∙ ap (λ b. count_by (is_left (before ++ s ∷ [])) before + bit b) not_left ∙ (let q : count_by (is_left (before ++ s ∷ [])) before + 0 ≡ count_by (is_left (before ++ s ∷ [])) before = omega arith in q) ∙ count_agree _ (is_left before) (left_same before s open') before)

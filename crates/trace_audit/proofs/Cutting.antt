@@ -56,7 +56,7 @@ pub lines_empty : (s : List ℕ) → length s ≡ 0 → lines_of s ≡ []
 lines_empty [] h = line_none
 lines_empty (c ∷ cs) h = absurd (omega arith)
 
--- ## as slices are cut
+-- ## the same for slices
 
 pub cut_line : (s : List ℕ) (k : ℕ) → k < length s → ((j : ℕ) → j < k → get_or s j 0 ≡ 10 → ⊥) → get_or s k 0 ≡ 10 → lines_of s ≡ take k s ∷ lines_of (take (length s - (k + 1)) (drop (k + 1) s))
 cut_line s k lt h e = lines_at s k lt h e ∙ ap (λ n. take k s ∷ lines_of (drop n s)) (sym (add-one k)) ∙ ap (λ r. take k s ∷ lines_of r) (sym (take_rest s (k + 1)))

@@ -21,7 +21,7 @@ some_same e = cc
 none_some : {P : Type 0} {a : ℕ} → None ≡ Some a → P
 none_some e = cc
 
--- of two fronts of a list the longer one has the element behind the shorter
+-- of two fronts of a list, the longer one has the element that comes after the shorter one
 longer : {A : Type 0} (b : List A) (l : A) (a c rest : List A) → b ++ l ∷ a ≡ c ++ rest → length b < length c → (r : List A) × (c ≡ b ++ l ∷ r)
 longer [] l a [] rest e lt = absurd (omega arith)
 longer [] l a (y ∷ ys) rest e lt = (ys, ap (λ z. z ∷ ys) (sym (head_same e)))
@@ -52,7 +52,7 @@ module _ (lines : List TraceLine) where
     | inr gt ↦ absurd (earlier m n q p gt.1)
   ]
 
-  -- what is good has no bad line
+  -- a good trace has no bad line
   good_bad : (n : ℕ) → IsGood lines → IsFirstBad lines n → ⊥
   good_bad n g p = by p.bad
     where
@@ -79,7 +79,7 @@ cause_earlier lines a b n m p q lt =
     let r = longer p.before p.line p.after q.before (q.line ∷ q.after) (sym p.is ∙ q.is) lt in
     none_some (sym (here_in p.before p.line r.0 q.before r.1 q.fine) ∙ p.here)
 
--- as long, so the same
+-- two fronts of the same length are the same
 as_long : {A : Type 0} (b : List A) (l : A) (a c : List A) (m : A) (d : List A) → b ++ l ∷ a ≡ c ++ m ∷ d → length b ≡ length c → l ≡ m
 as_long [] l a [] m d e same = head_same e
 as_long [] l a (y ∷ ys) m d e same = absurd (omega arith)
@@ -133,7 +133,7 @@ is_first lines a n p =
     let same : 1 + length p.before ≡ n = let m = p.number in omega arith in
     ap (first_cause 1) p.is ∙ behind 1 p.before p.line p.after a p.fine p.here ∙ ap (λ k. Some (a, k)) same
 
--- ## each answer exactly where it is so
+-- ## each answer is given exactly if it is right
 
 pub yes_exactly : (text : List ℕ) (v : Judgement) → IsJudgement text v → (calls left : ℕ) → (v ≡ judgement.Yes calls left) ↔ IsGoodWith (read_lines text) calls left
 yes_exactly text v h calls left = (λ e. subst (λ w. IsJudgement text w) e h, λ good. one_verdict text v (judgement.Yes calls left) h good)

@@ -1,4 +1,4 @@
--- What the code does with its maps, as the book of one more saying.
+-- The changes that the code makes to its maps give the book of one more saying.
 use Rattle.std.proofs.Common.{◌≡◌, ◌≢◌, ℕ, ◌+◌, ◌⊎◌, inl, inr, Bool, true, false, cond, eqb, List, [], ◌∷◌, ◌++◌, length, Option, Some, None, refl, sym, subst, ap, ◌∙◌, arith, is_some}
 use Rattle.std.specs.BTreeMap.{is_at}
 use Rattle.std.specs.Ordering.{nat_cmp}
@@ -52,7 +52,7 @@ module _ (said : List Saying) (x y : CallBook) (h : IsTold said x) where
 pub hears_nothing : (said : List Saying) (x : CallBook) → IsTold said x → (s : Saying) → s ≡ saying.Nothing → Hears said s x true
 hears_nothing said x h s e = subst (λ t. Hears said t x true) (sym e) (tt, told_aside said x saying.Nothing h nothing_offers nothing_takes nothing_closes refl (count_aside said saying.Nothing x.left (λ j. refl) refl h.count))
 
--- ## the same of what a book keeps
+-- ## the same for what a book keeps
 
 -- by the client that a call has in the book
 module _ (said : List Saying) (b : Kept) (h : HasHeard said b) where

@@ -1,4 +1,4 @@
--- A list with one more element, and the places where it is split.
+-- A list with one more element, and how it can be split.
 use Rattle.std.proofs.Common.{◌≡◌, ◌⊎◌, inl, inr, List, [], ◌∷◌, ◌++◌, length, refl, ap, ◌∙◌, arith}
 
 pub head_same : {A : Type 0} {a b : A} {xs ys : List A} → a ∷ xs ≡ b ∷ ys → a ≡ b
@@ -7,7 +7,7 @@ head_same e = cc
 pub tail_same : {A : Type 0} {a b : A} {xs ys : List A} → a ∷ xs ≡ b ∷ ys → xs ≡ ys
 tail_same e = cc
 
--- x is behind a front of ls, or is the last element l, behind them all
+-- x comes after a front of ls, or is the last element l, after all of ls
 abbrev pub Splits : {A : Type 0} → List A → A → List A → A → Type 0
 Splits {A} ls l before x = ((rest : List A) × (ls ≡ before ++ x ∷ rest)) ⊎ ((ls ≡ before) × (l ≡ x))
 

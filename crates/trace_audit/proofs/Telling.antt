@@ -1,4 +1,4 @@
--- What a book says of calls stays so as good lines are added, and by it each line is tested.
+-- A book goes on saying the truth about calls as good lines are added, and each line can be tested by it.
 use Rattle.std.proofs.Common.{◌≡◌, ◌≢◌, ℕ, ◌+◌, ◌-◌, ◌<◌, ◌≤◌, ◌⊎◌, inl, inr, Bool, true, false, cond, eqb, List, [], ◌∷◌, ◌++◌, length, get_or, is_some, Option, Some, None, refl, sym, subst, ap, ◌∙◌, arith}
 use Rattle.std.specs.Prelude.{Contains, count_by}
 use Rattle.std.proofs.lemmas.List.{length-append}
@@ -66,7 +66,7 @@ closes_number k j a b e = cc
 
 -- ## an open call, by its number
 
--- the record at one task alone changed
+-- the record of one task changed
 abbrev pub IsSameBut : ℕ → (ℕ → Option Open) → (ℕ → Option Open) → Type 0
 IsSameBut i held held' = (q : ℕ) → q ≢ i → held' q ≡ held q
 
@@ -119,7 +119,7 @@ module _ (before : List Saying) (x : CallBook) (h : IsTold before x) where
   pub not_close : (k : ℕ) (answer : Bool) → ((i : ℕ) → IsOffered before k i → ¬ IsClosed before k → ⊥) → ¬ MayClose before k answer
   not_close k answer never may = never may.offered.0 may.offered.1 may.first
 
-  -- what is taken was offered
+  -- a call that is taken was offered
   pub may_borrow : (k i : ℕ) → IsOpenAs before k i true → MayBorrow before k
   may_borrow k i a = record { taken = a.yes refl; still = a.still }
 
@@ -313,7 +313,7 @@ told_close before x y k i taken answer h was clients same here count = record {
         let z = h.left j l old (λ c. still (closed_more before s j c)) in
         (z.0, same l ne.1 ∙ z.1, z.2)
 
--- what says nothing of offers, takes and closes
+-- a saying that offers, takes and closes nothing
 pub told_aside : (before : List Saying) (x : CallBook) (s : Saying) → IsTold before x → ((k i : ℕ) → s ≡ saying.Offers k i → ⊥) → ((k : ℕ) → s ≡ saying.Takes k → ⊥) → ((k : ℕ) (answer : Bool) → s ≡ saying.Closes k answer → ⊥) → is_offer s ≡ false → x.left ≡ count_by (is_left (before ++ s ∷ [])) (before ++ s ∷ []) → IsTold (before ++ s ∷ []) x
 told_aside before x s h no_offer no_take no_close plain count = record {
   number = h.number ∙ sym (count_push is_offer before s 0 (ap (λ b. cond b 1 0) plain) ∙ (let q : count_by is_offer before + 0 ≡ count_by is_offer before = omega arith in q));

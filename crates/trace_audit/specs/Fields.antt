@@ -1,4 +1,4 @@
--- What the words of a line are, and the forms of lines (docs/FORMATS.md, Trace).
+-- What the words of a line may be, and the forms of lines (docs/FORMATS.md, Trace).
 use Rattle.std.specs.Prelude.{ℕ, ◌-◌, ◌+◌, Bool, true, false, ◌==◌, ◌&&◌, ◌||◌, nat_lt, is_some, if◌then◌else◌, List, [], ◌∷◌, length, take, drop, codes, bytes_eq, slice_index, Option, Some, None}
 use Rattle.std.specs.List.{list_any, list_all}
 use Rattle.text_lines.specs.Text.{is_digit, is_between}
@@ -17,7 +17,7 @@ is_number max word = is_some (plain_number max word)
 abbrev pub is_low_hex : ℕ → Bool
 is_low_hex c = is_digit c || is_between 97 102 c
 
--- so many hexadecimal digits in lower case
+-- n hexadecimal digits, in lower case
 unfoldable pub is_hex : ℕ → List ℕ → Bool
 is_hex n word = length word == n && list_all is_low_hex word
 
@@ -31,11 +31,11 @@ are_bits n word = length word == n && list_all is_bit word
 abbrev pub is_any_of : List (List ℕ) → List ℕ → Bool
 is_any_of names word = list_any (bytes_eq word) names
 
--- what stands behind a front, where the word begins with that
+-- what comes after a prefix, if the word begins with it
 unfoldable pub behind : List ℕ → List ℕ → Option (List ℕ)
 behind front word = if bytes_eq (take (length front) word) front then Some (drop (length front) word) else None
 
--- a number of at most max behind a front
+-- a number of at most max after a prefix
 abbrev pub number_in : ℕ → Option (List ℕ) → Option ℕ
 number_in max None = None
 number_in max (Some word) = plain_number max word
@@ -67,7 +67,7 @@ borrow_words = codes "read" ∷ codes "write" ∷ codes "info" ∷ []
 abbrev pub end_words : List (List ℕ)
 end_words = codes "bound" ∷ codes "still" ∷ codes "supervisor" ∷ []
 
--- the word is of the field
+-- the word may stand in the field
 unfoldable pub is_of : Field → List ℕ → Bool
 is_of field.Number word = is_number most_number word
 is_of field.Time word = is_number most_time word
@@ -98,17 +98,17 @@ abbrev pub are_over : List (List ℕ) → Bool
 are_over [] = true
 are_over (word ∷ words) = false
 
--- what may stand behind the last field: nothing, or a text
+-- what may come after the last field: nothing, or a text
 abbrev pub is_rest : Bool → List (List ℕ) → Bool
 is_rest text words = if text then has_text words else are_over words
 
--- the words are those of the fields, in order
+-- the words are right for the fields, in order
 unfoldable pub are_of : List Field → Bool → List (List ℕ) → Bool
 are_of [] text words = is_rest text words
 are_of (f ∷ fs) text [] = false
 are_of (f ∷ fs) text (word ∷ words) = is_of f word && are_of fs text words
 
--- the form of a line: its name, what it says, and its fields behind the name
+-- the form of a line: its name, what it means, and its fields after the name
 pub record LineForm : Type 0 where
   pub name : List ℕ
   pub kind : LineKind
@@ -142,7 +142,7 @@ turn_forms =
     ∷ form (codes "high") kind.Plain (field.Word ∷ field.Word ∷ field.Word ∷ field.Word ∷ field.Word ∷ field.Word ∷ field.Word ∷ field.Word ∷ field.Flags ∷ [])
     ∷ []
 
--- the lines after the end
+-- the lines after the end of the turns
 abbrev pub last_forms : List LineForm
 last_forms =
     form (codes "task") kind.Task (field.Number ∷ field.Number ∷ field.Health ∷ field.Wait ∷ field.Word ∷ field.Timer ∷ [])

@@ -12,18 +12,18 @@ use Rattle.trace_audit.specs.declared.reading.FinalWait.TheVariants as wait
 use Rattle.trace_audit.specs.Texts.{words_of, plain_number, most_number}
 use Rattle.trace_audit.specs.Fields.{LineForm, are_of, is_any_of, number_behind, form_named, turn_forms, last_forms, end_form, ends_with_text}
 
--- the i-th word, and the number that it is
+-- the i-th word, and the i-th word as a number
 abbrev pub word_at : List (List ℕ) → ℕ → List ℕ
 word_at words i = slice_index_or words i []
 
 abbrev pub number_at : List (List ℕ) → ℕ → ℕ
 number_at words i = unwrap_or (plain_number most_number (word_at words i)) 0
 
--- closed by an answer of the server
+-- the call was closed by an answer of its server
 abbrev pub is_answer : List ℕ → Bool
 is_answer word = is_any_of (codes "reply" ∷ codes "replyfault" ∷ []) word
 
--- what the words behind the name of a line of this kind say of calls
+-- what the words after the name of a line of this kind say about calls
 abbrev pub saying_of : LineKind → List (List ℕ) → Saying
 saying_of kind.Plain words = saying.Nothing
 saying_of kind.Insn words = saying.Nothing
@@ -33,7 +33,7 @@ saying_of kind.Close words = saying.Closes (number_at words 0) (is_answer (word_
 saying_of kind.Borrow words = saying.Borrows (number_at words 0)
 saying_of kind.Task words = saying.Nothing
 
--- for information nothing moves, from offset 0
+-- a borrow for information moves nothing, from offset 0
 abbrev pub moves_nothing : List (List ℕ) → Bool
 moves_nothing words = number_at words 3 == 0 && number_at words 4 == 0
 
@@ -46,7 +46,7 @@ is_right kind.Close words = true
 is_right kind.Borrow words = not (bytes_eq (word_at words 1) (codes "info")) || moves_nothing words
 is_right kind.Task words = true
 
--- the words behind a name are those of its form
+-- the words after a name are right for its form
 abbrev pub fits : LineForm → List (List ℕ) → Bool
 fits f words = are_of f.fields (ends_with_text f.kind) words && is_right f.kind words
 
@@ -54,7 +54,7 @@ abbrev pub fitting : List (List ℕ) → Option LineForm → Option LineForm
 fitting words None = None
 fitting words (Some f) = if fits f words then Some f else None
 
--- the form of a name and the words behind it
+-- the form with this name, if the words after it fit
 abbrev pub form_of : List LineForm → List ℕ → List (List ℕ) → Option LineForm
 form_of forms name words = fitting words (form_named name forms)
 
@@ -87,7 +87,7 @@ shown_by kind.Close words = line.Shows
 shown_by kind.Borrow words = line.Shows
 shown_by kind.Task words = line.Waits (number_at words 0) (wait_of (word_at words 3))
 
--- a line after the end: one with a name, or the bytes at an address
+-- a line after the end of the turns: a line with a name, or the bytes at an address
 abbrev pub shown : List (List ℕ) → Option LineForm → Option TraceLine
 shown words None = None
 shown words (Some f) = Some (shown_by f.kind words)
@@ -108,7 +108,7 @@ unfoldable pub end_line : List (List ℕ) → Option TraceLine
 end_line [] = None
 end_line (name ∷ words) = option_map (λ f. line.Ends) (form_of (end_form ∷ []) name words)
 
--- what a line says; it is strange where it has no form
+-- what a line says; it is strange if it has no form
 unfoldable pub read : List ℕ → TraceLine
 read text = let words = words_of text in
     unwrap_or (or_else (end_line words) (or_else (turn_line words) (last_line words))) line.Strange

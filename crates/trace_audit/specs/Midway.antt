@@ -1,4 +1,4 @@
--- Midway in a text: some lines have been taken, and the rest of the text has the others.
+-- In the middle of a text: some lines have been read, and the rest of the text has the others.
 use Rattle.std.specs.Prelude.{ℕ, ◌+◌, ◌≡◌, ◌≤◌, List, ◌++◌, length, map, All, None}
 use Rattle.trace_audit.specs.declared.book.Book.{Book}
 use Rattle.trace_audit.specs.Texts.{lines_of}
@@ -13,12 +13,12 @@ pub record IsMidway (text rest : List ℕ) (n : ℕ) : Type 0 where
   pub number : n ≡ length done
   pub room : n + length rest ≤ length text
 
--- none of them has a cause
+-- none of the lines so far has a cause
 pub record IsFineSoFar (text rest : List ℕ) (n : ℕ) : Type 0 where
   pub taken : IsMidway text rest n
   pub fine : All (λ l. cause_of l ≡ None) taken.done
 
--- each was good, and the book is theirs
+-- each line so far was good, and the book is that of these lines
 pub record IsGoodSoFar (text rest : List ℕ) (n : ℕ) (b : Book) : Type 0 where
   pub taken : IsMidway text rest n
   pub good : AreGood (map read taken.done)

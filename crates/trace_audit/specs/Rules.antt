@@ -8,7 +8,7 @@ use Rattle.trace_audit.specs.declared.reading.Saying.TheVariants as saying
 use Rattle.trace_audit.specs.declared.reading.FinalWait.{FinalWait}
 use Rattle.trace_audit.specs.declared.reading.FinalWait.TheVariants as wait
 
--- ## what lines say of calls
+-- ## what lines say about calls
 
 abbrev pub said : TraceLine → Saying
 said (line.Tells turn s) = s
@@ -38,7 +38,7 @@ is_end (line.Waits task w) = false
 is_end line.Shows = false
 is_end line.Strange = false
 
--- client i offered call k; it was taken; it was closed
+-- client i offered call k; call k was taken; call k was closed
 abbrev pub IsOffered : List Saying → ℕ → ℕ → Type 0
 IsOffered before k i = Contains before (saying.Offers k i)
 
@@ -50,7 +50,8 @@ IsClosed before k = (answer : Bool) × Contains before (saying.Closes k answer)
 
 -- ## the rules
 
--- an offer has the number after those of all offers before, and its client offered no call before that was not closed
+-- an offer has the number after those of all offers before it, and its client has no call that was offered before
+-- and not closed
 pub record MayOffer (before : List Saying) (k i : ℕ) : Type 0 where
   pub number : k ≡ count_by is_offer before + 1
   pub free : (j : ℕ) → IsOffered before j i → ¬ IsClosed before j → ⊥
@@ -79,12 +80,13 @@ IsGoodSaying before (saying.Closes k answer) = MayClose before k answer
 IsGoodSaying before (saying.Borrows k) = MayBorrow before k
 IsGoodSaying before saying.Nothing = Unit {0}
 
--- a task waits for an answer to a call exactly where it offered the call and no line closed it: as offered or as taken
+-- a task waits for an offered or a taken call exactly if it offered that call, no line closed it, and a line took
+-- it or none did
 pub record IsGoodWait (before : List Saying) (i : ℕ) (w : FinalWait) : Type 0 where
   pub offered : (k : ℕ) → (w ≡ wait.Offered k) ↔ (IsOffered before k i × ¬ IsClosed before k × ¬ IsTaken before k)
   pub taken : (k : ℕ) → (w ≡ wait.Taken k) ↔ (IsOffered before k i × ¬ IsClosed before k × IsTaken before k)
 
--- the number of the last turn that lines tell of, after turn n
+-- the turn of the last line that belongs to a turn; n if there is none
 abbrev pub turn_after : ℕ → List TraceLine → ℕ
 turn_after n [] = n
 turn_after n (line.Tells turn s ∷ lines) = turn_after turn lines
@@ -96,7 +98,7 @@ turn_after n (line.Strange ∷ lines) = turn_after n lines
 abbrev pub has_ended : List TraceLine → Bool
 has_ended lines = list_any is_end lines
 
--- a line of a turn stands before the end, and its turn is not below the one before
+-- a line of a turn comes before the end of the turns, and its turn is not below that of the line before
 pub record IsGoodTelling (before : List TraceLine) (turn : ℕ) (s : Saying) : Type 0 where
   pub before_end : has_ended before ≡ false
   pub not_below : turn_after 0 before ≤ turn
@@ -113,12 +115,12 @@ IsGoodLine before line.Strange = ⊥
 abbrev pub AreGood : List TraceLine → Type 0
 AreGood lines = (before : List TraceLine) (l : TraceLine) (after : List TraceLine) → lines ≡ before ++ l ∷ after → IsGoodLine before l
 
--- a good trace has besides a line that ends its turns
+-- a good trace also has a line that ends its turns
 pub record IsGood (lines : List TraceLine) : Type 0 where
   pub each : AreGood lines
   pub ended : has_ended lines ≡ true
 
--- the n-th line is the first that is not good; without an end it is one past the last
+-- line n is the first one that is not good; if only the end of the turns is missing, n is one past the last line
 pub record IsFirstBad (lines : List TraceLine) (n : ℕ) : Type 0 where
   pub before : List TraceLine
   pub good : AreGood before

@@ -1,4 +1,4 @@
--- The lines of a text, the words of a line, and the numbers that words are. A text is a list of bytes.
+-- The lines of a text, the words of a line, and words as numbers. A text is a list of bytes.
 use Rattle.std.specs.Prelude.{ℕ, ◌-◌, ◌^◌, Bool, ◌==◌, ◌&&◌, nat_lt, if◌then◌else◌, List, [], ◌∷◌, length, slice_index, Option, None}
 use Rattle.text_lines.specs.Text.{with_first, number_of}
 
@@ -18,7 +18,7 @@ words_of line = pieces_of 32 line
 
 -- ## numbers
 
--- 0 before another digit
+-- a 0 before another digit
 abbrev pub has_leading_zero : List ℕ → Bool
 has_leading_zero word = nat_lt 1 (length word) && slice_index word 0 == 48
 

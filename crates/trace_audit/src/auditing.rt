@@ -35,18 +35,19 @@ fn judgement(alloc: Global, text: &[u8]) -> Result<Judgement, AllocError>
     }
 }
 
-/// Whether a text is a trace that holds together: `Yes`, with the number of calls that it offers
-/// and of those that it does not close, exactly where each of its lines has a form of a trace
-/// (docs/FORMATS.md, Trace) and follows from those before it (`specs/Rules`, this project's); else
-/// `No` with its first line, from 1 on, that does not, which is one past the last where no line
-/// ends the turns. The text may have any bytes and any length. It takes time in line with the
-/// length, times the logarithm of the number of clients, and memory in line with that of the calls
-/// that are open at once.
+/// Whether a text is a consistent trace. `Yes` has the number of calls that the text offers, and
+/// the number of those that it does not close. It is the answer exactly if each line has a form of
+/// a trace (docs/FORMATS.md, Trace) and may follow the lines before it (`specs/Rules`, this
+/// project's), and a line ends the turns. Otherwise the answer is `No` with the first line, from 1
+/// on, that has no such form or may not follow; if only the line that ends the turns is missing, it
+/// is one past the last line. The text may have any bytes and any length. The time is proportional
+/// to the length times the logarithm of the number of clients, and the memory to the number of
+/// calls that are open at once.
 ///
 /// # Errors
 ///
-/// `Refused` exactly where a line has a byte that no line of a trace has (cause 1), or too many
-/// bytes (cause 2), with the first such line and its cause; `Memory` where memory is short.
+/// `Refused` exactly if a line has a byte that no line of a trace has (cause 1), or too many bytes
+/// (cause 2), with the first such line and its cause. `Memory` if memory runs out.
 pub fn audit(alloc: Global, text: &[u8]) -> Result<Judgement, AuditFault>
     ensures yes { IfOk result (λ v. (calls left : ℕ) → (v ≡ Judgement.Yes calls left) ↔
         IsGoodWith (read_lines text.now) calls left) }

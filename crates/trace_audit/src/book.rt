@@ -1,4 +1,4 @@
-//! What the lines so far say, as far as it counts for the next one.
+//! What the lines so far say, as far as it matters for the next line.
 ghost use Rattle.std.specs.Prelude.{◌≡◌, List, [], IfOk};
 ghost use Rattle.std.specs.BTreeMap.{get, btree_map_len};
 ghost use Rattle.std.specs.Ordering.{nat_cmp};
@@ -7,23 +7,24 @@ use crate::reading::{FinalWait, Saying, TraceLine};
 use std::alloc::{AllocError, Global};
 use std::collections::BTreeMap;
 
-/// An open call, as an audit keeps it. (It is public since laws speak of what is kept.)
+/// An open call, as an audit keeps it. (It is public because laws are about it.)
 #[derive(Clone, Copy)]
 pub struct Open {
-    /// Its number, from 1 on.
+    /// The number of the call, from 1 on.
     pub call: u64,
-    /// Whether its server took it.
+    /// Whether its server has taken it.
     pub taken: bool,
 }
 
-/// What good lines have said.
+/// What the good lines so far have said.
 #[derive(Drop)]
 pub(crate) struct Book {
-    /// The turn of the last line of a turn.
+    /// The turn of the last line that belongs to a turn.
     pub(crate) turn: u64,
-    /// The line that ends the turns has come.
+    /// Whether the line that ends the turns has come.
     pub(crate) ended: bool,
-    /// How many calls were offered: the number of the last one, since they begin with 1.
+    /// How many calls were offered. This is the number of the last one, because numbers begin with
+    /// 1.
     pub(crate) offered: u64,
     /// The client of each open call.
     pub(crate) clients: BTreeMap<u64, u64>,
@@ -36,7 +37,7 @@ impl Book {
     ghost use Rattle.trace_audit.specs.declared.reading.Saying.{Saying as Word};
     ghost use Rattle.trace_audit.specs.declared.reading.TraceLine.{TraceLine as Said};
 
-    /// Of no line.
+    /// The book before the first line.
     pub(crate) fn new(alloc: Global) -> Book
         ensures { IsKept [] result }
     {
@@ -49,7 +50,7 @@ impl Book {
         }
     }
 
-    /// The line that ends the turns has come.
+    /// Whether the line that ends the turns has come.
     pub(crate) fn has_ended(&self) -> bool
         ensures { result ≡ self.now.ended }
     {
@@ -102,7 +103,8 @@ impl Book {
         }
     }
 
-    /// Takes an offer, if it has the next number and its client has no open call.
+    /// Records an offer, if it has the next number and its client has no open call; otherwise the
+    /// answer is false.
     fn offer(&mut self, call: u64, client: u64) -> Result<bool, AllocError>
         ensures told { (said : List Word) → HasHeard said (kept_in self.old) →
             IfOk result (Notes said (Saying.Offers call client) (kept_in self.new)) }
@@ -120,7 +122,7 @@ impl Book {
         Ok(true)
     }
 
-    /// Takes that a call is taken, if it is open and was not taken.
+    /// Records that a call is taken, if it is open and was not taken.
     fn take(&mut self, call: u64) -> Result<bool, AllocError>
         ensures told { (said : List Word) → HasHeard said (kept_in self.old) →
             IfOk result (Notes said (Saying.Takes call) (kept_in self.new)) }
@@ -138,7 +140,7 @@ impl Book {
         }
     }
 
-    /// Takes that a call is closed, if it is open, and taken where this is an answer.
+    /// Records that a call is closed, if it is open. An answer needs a call that was taken.
     fn close(&mut self, call: u64, answer: bool) -> bool
         ensures told { (said : List Word) → HasHeard said (kept_in self.old) →
             Notes said (Saying.Closes call answer) (kept_in self.new) result }
@@ -157,7 +159,7 @@ impl Book {
         }
     }
 
-    /// Whether the leases of a call may be used: it is open and taken.
+    /// Whether the leases of a call may be used, which is if it is open and taken.
     fn may_borrow(&self, call: u64) -> bool
         ensures { (said : List Word) → HasHeard said (kept_in self.now) →
             Notes said (Saying.Borrows call) (kept_in self.now) result }
@@ -168,7 +170,7 @@ impl Book {
         }
     }
 
-    /// Takes what a line says of calls, if it is good.
+    /// Records what a line says of calls, if that is good.
     fn hear(&mut self, saying: Saying) -> Result<bool, AllocError>
         ensures told { (said : List Word) → HasHeard said (kept_in self.old) →
             IfOk result (Notes said saying (kept_in self.new)) }
@@ -183,7 +185,7 @@ impl Book {
         }
     }
 
-    /// Whether a task waits as it should.
+    /// Whether a task's wait agrees with its open call.
     fn is_waiting(&self, task: u64, wait: FinalWait) -> bool
         ensures { result ≡ waits_as (get nat_cmp self.now.calls task) wait }
     {
@@ -204,7 +206,7 @@ impl Book {
         }
     }
 
-    /// Takes a line of a turn, if it is good.
+    /// Records a line of a turn, if it is good.
     fn tell(&mut self, turn: u64, saying: Saying) -> Result<bool, AllocError>
         ensures { (lines : List Said) → IsKept lines self.old →
             IfOk result (Adds lines (TraceLine.Tells turn saying) self.new) }
@@ -219,7 +221,7 @@ impl Book {
         self.hear(saying)
     }
 
-    /// Takes the line that ends the turns, if none has come.
+    /// Records the line that ends the turns, if none has come.
     fn end(&mut self) -> bool
         ensures { (lines : List Said) → IsKept lines self.old →
             Adds lines TraceLine.Ends self.new result }
@@ -231,8 +233,8 @@ impl Book {
         true
     }
 
-    /// Whether the line of a task is good: it stands after the end, and the task waits as the lines
-    /// of the turns say.
+    /// Whether the line of a task is good: it comes after the end of the turns, and the task waits
+    /// as the lines of the turns say.
     fn may_wait(&self, task: u64, wait: FinalWait) -> bool
         ensures { (lines : List Said) → IsKept lines self.now →
             Adds lines (TraceLine.Waits task wait) self.now result }
@@ -244,7 +246,7 @@ impl Book {
         }
     }
 
-    /// Whether a line that shows something is good: it stands after the end.
+    /// Whether a line that shows registers or memory is good: it comes after the end of the turns.
     fn may_show(&self) -> bool
         ensures { (lines : List Said) → IsKept lines self.now →
             Adds lines TraceLine.Shows self.now result }
@@ -252,7 +254,7 @@ impl Book {
         self.ended
     }
 
-    /// Takes a line, if it is good after those before.
+    /// Records a line, if it is good after the lines before it.
     pub(crate) fn add(&mut self, line: TraceLine) -> Result<bool, AllocError>
         ensures { (lines : List Said) → IsKept lines self.old →
             IfOk result (Adds lines line self.new) }

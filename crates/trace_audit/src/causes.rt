@@ -1,4 +1,4 @@
-//! Lines that are no text of a trace.
+//! Lines that cannot be text of a trace.
 ghost use Rattle.std.specs.Prelude.{◌≡◌, None, IfSome, IfNone};
 ghost use Rattle.std.specs.List.{list_all};
 ghost use Rattle.trace_audit.specs.Texts.{lines_of};
@@ -6,7 +6,7 @@ ghost use Rattle.trace_audit.specs.Judgements.{is_printable, cause_of, IsFirstCa
 
 use crate::pieces::Lines;
 
-/// A byte that a line of a trace may have.
+/// Whether a line of a trace may have this byte.
 fn is_printable(c: u8) -> bool
     ensures { result ≡ is_printable c }
 {
@@ -19,7 +19,7 @@ fn are_printable(line: &[u8]) -> bool
     line.iter().all(|c| is_printable(*c))
 }
 
-/// 1: a byte other than 32 to 126; 2: more than 159 bytes.
+/// The cause of a line. 1: it has a byte other than 32 to 126; 2: it has more than 159 bytes.
 #[tactic(auto, unfolding(crate::specs::Judgements::cause_of))]
 fn cause_of(line: &[u8]) -> Option<u8>
     ensures { result ≡ cause_of line.now }

@@ -1,4 +1,4 @@
-//! The forms of lines, as tables: a further form is a row.
+//! The forms of lines, as tables. A new form is one more row.
 ghost use Rattle.std.specs.Prelude.{◌≡◌, option_map, false};
 ghost use Rattle.trace_audit.specs.Fields.{are_of, has_text, are_over, ends_with_text, form_named, is_rest};
 ghost use Rattle.trace_audit.specs.Views.{words_left, form_in, forms_in};
@@ -6,49 +6,49 @@ ghost use Rattle.trace_audit.specs.Views.{words_left, form_in, forms_in};
 use crate::fields::is_same;
 use crate::pieces::Words;
 
-/// What a word of a line is (docs/FORMATS.md, Trace).
+/// What a word of a line may be (docs/FORMATS.md, Trace).
 #[derive(Clone, Copy)]
 pub enum Field {
     /// A decimal number below 2^32, without leading zeros.
     Number,
-    /// The same below 2^64.
+    /// A decimal number below 2^64, without leading zeros.
     Time,
     /// Eight hexadecimal digits, in lower case.
     Word,
-    /// Thirty-two of them.
+    /// Thirty-two hexadecimal digits, in lower case.
     Row,
-    /// Four or eight of them.
+    /// Four or eight hexadecimal digits, in lower case.
     Code,
-    /// Two of them.
+    /// Two hexadecimal digits, in lower case.
     Byte,
     /// Four digits 0 or 1.
     Flags,
     /// What an interrupt did.
     Handled,
-    /// What came of a byte for a device.
+    /// What happened to a byte for a device.
     Fed,
     /// Whose message a task listens for.
     Listened,
     /// Why a call was closed.
     Ending,
-    /// What was done with a lease.
+    /// What a borrow did with a lease.
     Borrow,
     /// How a run ended.
     End,
-    /// How a task is.
+    /// The health of a task.
     Health,
-    /// What it waits for.
+    /// What a task waits for.
     Wait,
-    /// Its timer.
+    /// The timer of a task.
     Timer,
 }
 
-/// What a line is for an audit.
+/// What a line means for an audit.
 #[derive(Clone, Copy)]
 pub enum LineKind {
-    /// It says nothing of calls.
+    /// It says nothing about calls.
     Plain,
-    /// It says nothing of calls, and ends with the text of an instruction.
+    /// It says nothing about calls, and ends with the text of an instruction.
     Insn,
     /// A call is offered.
     Offer,
@@ -56,13 +56,13 @@ pub enum LineKind {
     Take,
     /// A call is closed.
     Close,
-    /// A lease is used.
+    /// A borrow uses a lease.
     Borrow,
-    /// A task at the end.
+    /// The state of a task, after the end of the turns.
     Task,
 }
 
-/// The form of a line: its name, what it is, and the words behind the name.
+/// The form of a line: its name, what it means, and the words after the name.
 #[derive(Clone, Copy)]
 pub(crate) struct LineForm {
     pub(crate) name: &'static [u8],
@@ -70,7 +70,7 @@ pub(crate) struct LineForm {
     pub(crate) fields: &'static [Field],
 }
 
-/// The lines of a turn, behind its number.
+/// The lines of a turn, after its number.
 pub(crate) const TURN_FORMS: &[LineForm] = &[
     LineForm {
         name: b"tick",
@@ -221,7 +221,7 @@ const HIGH: LineForm = LineForm {
     ],
 };
 
-/// The lines after the end.
+/// The lines after the end of the turns.
 pub(crate) const LAST_FORMS: &[LineForm] = &[
     LineForm {
         name: b"task",
@@ -251,11 +251,11 @@ pub(crate) const END_FORMS: &[LineForm] = &[LineForm {
     fields: &[Field::End, Field::Number, Field::Time],
 }];
 
-/// The bytes at an address.
+/// The line of the bytes at an address.
 pub(crate) const ROW_FIELDS: &[Field] = &[Field::Word, Field::Row];
 
 impl LineKind {
-    /// Whether a text stands behind the fields.
+    /// Whether the text of an instruction comes after the fields.
     pub(crate) fn ends_with_text(self) -> bool
         ensures { result ≡ ends_with_text self }
     {
@@ -271,7 +271,7 @@ impl LineKind {
     }
 }
 
-/// The form of this name.
+/// The form with this name.
 pub(crate) fn form_named(mut forms: &[LineForm], name: &[u8]) -> Option<LineForm>
     ensures { option_map form_in result ≡ form_named name.now (forms_in forms.entry.now) }
 {
@@ -284,7 +284,7 @@ pub(crate) fn form_named(mut forms: &[LineForm], name: &[u8]) -> Option<LineForm
     None
 }
 
-/// The words are those of a text of at least one byte.
+/// Whether the words are those of a text of at least one byte.
 fn has_text(words: Words<'_>) -> bool
     ensures { result ≡ has_text (words_left words.entry) }
 {
@@ -295,7 +295,7 @@ fn has_text(words: Words<'_>) -> bool
     }
 }
 
-/// No word is left.
+/// Whether no word is left.
 fn are_over(words: Words<'_>) -> bool
     ensures { result ≡ are_over (words_left words.entry) }
 {
@@ -303,7 +303,7 @@ fn are_over(words: Words<'_>) -> bool
     words.next().is_none()
 }
 
-/// Behind the fields is a text, or nothing.
+/// Whether the rest after the fields is right: a text, or nothing.
 fn is_rest(text: bool, words: Words<'_>) -> bool
     ensures { result ≡ is_rest text (words_left words.entry) }
 {
@@ -314,7 +314,7 @@ fn is_rest(text: bool, words: Words<'_>) -> bool
     }
 }
 
-/// Whether the words are of these fields, and of the text behind them where there is one.
+/// Whether the words are right for these fields, and for the text after them if the form has one.
 #[tactic(auto, unfolding(crate::specs::Fields::are_of))]
 pub(crate) fn are_of(fields: &[Field], text: bool, words: Words<'_>) -> bool
     ensures { result ≡ are_of fields.now text (words_left words.entry) }

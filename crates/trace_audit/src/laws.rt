@@ -1,10 +1,10 @@
-//! A law over the definitions of an audit. Nothing runs here.
+//! A law about the definitions of an audit. Nothing here is executed.
 ghost use Rattle.std.specs.Prelude.{ℕ, List, None, Some, ◌≡◌};
 ghost use Rattle.trace_audit.specs.declared.judgement.Judgement.{Judgement};
 ghost use Rattle.trace_audit.specs.Judgements.{IsFirstCause, HasNoCause, IsJudgement, first_cause};
 
-/// A text has one judgement, and at most one first line with a cause, which has one cause:
-/// `first_cause` gives them.
+/// A text has one judgement. It has at most one first line with a cause, and that line has one
+/// cause: `first_cause` gives them.
 pub fn a_text_has_one_answer()
     ensures judgement { (text : List ℕ) (v w : Judgement) → IsJudgement text v →
         IsJudgement text w → v ≡ w }

@@ -10,28 +10,28 @@ use crate::forms::{
 };
 use crate::pieces::Words;
 
-/// What a line of a turn says of calls. Calls are numbered from 1 on, and clients are indices of
+/// What a line of a turn says about calls. Calls are numbered from 1 on, and clients are indices of
 /// tasks.
 #[derive(Clone, Copy)]
 pub enum Saying {
     /// A call, by its number, is offered by a client.
     Offers(u64, u64),
-    /// It is taken.
+    /// A call is taken.
     Takes(u64),
-    /// It is closed, by an answer of its server or otherwise.
+    /// A call is closed, by an answer of its server (true) or otherwise.
     Closes(u64, bool),
-    /// One of its leases is used.
+    /// A lease of a call is used.
     Borrows(u64),
-    /// It does not speak of calls.
+    /// It says nothing about calls.
     Nothing,
 }
 
-/// What a task waits for at the end.
+/// What a task waits for at the end of the turns.
 #[derive(Clone, Copy)]
 pub enum FinalWait {
-    /// For its call, by number, to be taken.
+    /// That its call, by number, is taken.
     Offered(u64),
-    /// For an answer to it.
+    /// The answer to its call, by number, which is taken.
     Taken(u64),
     /// No call of its own.
     Other,
@@ -40,19 +40,19 @@ pub enum FinalWait {
 /// What a line says (docs/FORMATS.md, Trace).
 #[derive(Clone, Copy)]
 pub enum TraceLine {
-    /// In a turn, by its number.
+    /// A line of a turn: the number of the turn, and what the line says about calls.
     Tells(u64, Saying),
     /// The end of the turns.
     Ends,
-    /// Of a task at the end, by its index.
+    /// A task after the end of the turns: its index, and what it waits for.
     Waits(u64, FinalWait),
-    /// Registers or memory at the end.
+    /// Registers or memory, after the end of the turns.
     Shows,
-    /// It has no form.
+    /// The line has no form of a trace.
     Strange,
 }
 
-/// The i-th of the words.
+/// The i-th word.
 fn word_at<'a>(words: Words<'a>, i: usize) -> &'a [u8]
     ensures { result.now ≡ word_at (words_left words.entry) i }
 {
@@ -63,21 +63,21 @@ fn word_at<'a>(words: Words<'a>, i: usize) -> &'a [u8]
     words.next().unwrap_or(b"")
 }
 
-/// The number that it is; 0 where it is none.
+/// The i-th word as a number; 0 if it is not one.
 fn number_at(words: Words<'_>, i: usize) -> u64
     ensures { result ≡ number_at (words_left words.entry) i }
 {
     number(word_at(words, i), 0xFFFF_FFFF).unwrap_or(0)
 }
 
-/// A call was closed by an answer of its server.
+/// Whether a call was closed by an answer of its server.
 fn is_answer(word: &[u8]) -> bool
     ensures { result ≡ is_answer word.now }
 {
     is_any_of(&[b"reply", b"replyfault"], word)
 }
 
-/// What the words behind the name of a line say of calls.
+/// What the words after the name of a line say about calls.
 fn saying_of(kind: LineKind, words: Words<'_>) -> Saying
     ensures { result ≡ saying_of kind (words_left words.entry) }
 {
@@ -90,7 +90,7 @@ fn saying_of(kind: LineKind, words: Words<'_>) -> Saying
     }
 }
 
-/// The offset and the bytes moved of a borrow are 0.
+/// Whether the offset and the number of moved bytes of a borrow are 0.
 fn moves_nothing(words: Words<'_>) -> bool
     ensures { result ≡ moves_nothing (words_left words.entry) }
 {
@@ -112,14 +112,14 @@ fn is_right(kind: LineKind, words: Words<'_>) -> bool
     }
 }
 
-/// The words behind the name are those of the form.
+/// Whether the words after the name are right for the form.
 fn fits(form: &LineForm, words: Words<'_>) -> bool
     ensures { result ≡ fits (form_in form.now) (words_left words.entry) }
 {
     are_of(form.fields, form.kind.ends_with_text(), words) && is_right(form.kind, words)
 }
 
-/// The form of this name, where the words behind it fit.
+/// The form with this name, if the words after it fit.
 fn form_of(forms: &[LineForm], name: &[u8], words: Words<'_>) -> Option<LineForm>
     ensures { option_map form_in result ≡ form_of (forms_in forms.now) name.now
         (words_left words.entry) }
@@ -217,7 +217,7 @@ fn row_of(words: Words<'_>) -> Option<TraceLine>
     }
 }
 
-/// A line after the end: one with a name, or the bytes at an address.
+/// A line after the end of the turns: a line with a name, or the bytes at an address.
 #[tactic(auto, unfolding(crate::specs::Meaning::last_line))]
 fn last_line(words: Words<'_>) -> Option<TraceLine>
     ensures { result ≡ last_line (words_left words.entry) }

@@ -26,15 +26,20 @@ use Rattle.snapshot.specs.Saved.{parts_of}
 use Rattle.snapshot.proofs.Places.{header_place}
 use Rattle.snapshot.proofs.Runs.{turn_reduced, counted_reduced, large_run, sites_run, saved_run}
 use Rattle.snapshot.proofs.StandsForSome.{parts_stood, spelling_long, spells}
-use Rattle.trace_cli.specs.Contents.{file_limit, image_data_of, scenario_of, state_refusal}
+use Rattle.command_files.specs.Contents.{file_limit, image_data_of, scenario_of}
+use Rattle.board_commands.specs.Contents.{state_refusal}
 use Rattle.trace_cli.specs.Words.{job_in}
-use Rattle.trace_cli.specs.Sources.{File, image_file, script_file, state_file, Are, TakesAll}
-use Rattle.trace_cli.specs.Ready.{StartsWell, IsSpelled}
-use Rattle.trace_cli.specs.Verdict.{Verdict, level_of, line_alone, memory_if, rest_of_run, resumed, run_of, saved_bytes, status_of}
-use Rattle.trace_cli.specs.Answer as answer
-use Rattle.trace_cli.specs.Answer.{Answered, GoesOn, IsFromSpelled, IsShort, Tells, TellsEach, TellsUnread}
-use Rattle.trace_cli.proofs.Lists.{takes_first, takes_none}
-use Rattle.trace_cli.proofs.Refusals.{state_taken}
+use Rattle.command_files.specs.Sources.{File, image_file, script_file, Are, TakesAll}
+use Rattle.board_commands.specs.Sources.{state_file, state_files}
+use Rattle.board_commands.specs.Ready.{StartsWell, IsSpelled}
+use Rattle.command_files.specs.Verdict.{Verdict, line_alone, status_of}
+use Rattle.board_commands.specs.Verdict.{level_of, memory_if, rest_of_run, resumed, run_of, saved_bytes}
+use Rattle.command_files.specs.Answer as command
+use Rattle.trace_cli.specs.Answer.{Answered, GoesOn, TellsEach}
+use Rattle.board_commands.specs.Answer.{IsFromSpelled, TellsResumed, TellsUnread}
+use Rattle.command_files.specs.Answer.{IsShort, Tells}
+use Rattle.command_files.proofs.Lists.{takes_first, takes_none}
+use Rattle.board_commands.proofs.Refusals.{state_taken}
 
 -- the memory of two runs, where it is asked for
 memory_if_alike : (mem : Bool) (g : Setup) (r q : Run) → memory_text g r.last ≡ memory_text g q.last → memory_if mem g r.last ≡ memory_if mem g q.last
@@ -122,27 +127,32 @@ pub goes_on : {devices : List DeviceData} (words : List (List ℕ)) (a b : Files
 goes_on {devices} words a b w w' r each = λ image_name script_name state_name image script m n detail at has_image has_script has_state image_ok script_ok few.
     let x : Scenario = scenario_of (image_data_of image) script devices in
     let bytes : List ℕ = saved_bytes n x in
-    let job : Asked = resume image_name script_name state_name m detail in
     let contents : List (List ℕ) = image ∷ script ∷ bytes ∷ [] in
     let file : File = state_file devices (image_data_of image) m state_name in
     let rest : Verdict = rest_of_run (run_of Calls n x).last.turn m detail x in
-    let told : TellsEach devices job a b w w' r = each job at in
+    let told : TellsResumed devices image_name script_name state_name m detail a b w w' r = each (resume image_name script_name state_name m detail) at in
     let by_start : StartsWell x × (m ≤ 1000000000) → Answered devices words a b w w' rest r = λ well.
     let state_ok : state_refusal devices (image_data_of image) m bytes ≡ None = saved_taken n m image script devices well.0 well.1 few in
-    let all : TakesAll (Are a.contents) devices job contents = record {
+    let all : TakesAll (Are a.contents) (state_files devices image_name script_name state_name m) contents = record {
       takes = takes_first (Are a.contents) (image_file image_name) (script_file script_name ∷ file ∷ []) image (script ∷ bytes ∷ []) has_image image_ok
           (takes_first (Are a.contents) (script_file script_name) (file ∷ []) script (bytes ∷ []) has_script script_ok
           (takes_first (Are a.contents) file [] bytes [] has_state state_ok (takes_none (Are a.contents) [])));
       all = refl;
     } in
-    by job rest at (told.each contents rest all (λ started. rest_spelled n m detail x well.0 few)) in
-    by_well job rest at by_start (told.starts image script has_image has_script image_ok script_ok)
+    by image_name script_name state_name m detail rest at (told.each contents rest all (λ started. rest_spelled n m detail x well.0 few)) in
+    by_well image_name script_name state_name m detail rest at by_start (told.starts image script has_image has_script image_ok script_ok)
   where
-    by : (job : Asked) (v : Verdict) → job_in words ≡ Some job → Tells a b w w' v r ⊎ TellsUnread devices job a b w w' r → Answered devices words a b w w' v r
-    by job v at (inl t) = inl t
-    by job v at (inr t) = inr (record { job = job; command = at; file = t.file; is = t.is; tells = t.tells })
+    by : (image script state : List ℕ) (m : ℕ) (detail : Detail) (v : Verdict) → job_in words ≡ Some (resume image script state m detail) → Tells a b w w' v r ⊎ TellsUnread (state_files devices image script state m) a b w w' r → Answered devices words a b w w' v r
+    by image script state m detail v at (inl t) = inl t
+    by image script state m detail v at (inr t) = inr (record {
+      job = resume image script state m detail;
+      command = at;
+      file = t.file;
+      is = record { contents = t.is.contents; reached = record { takes = t.is.reached.takes; next = t.is.reached.next }; rose = t.is.rose; named = t.is.named; told = []; was_told = refl };
+      tells = t.tells;
+    })
 
-    by_well : {W : Type 0} (job : Asked) (v : Verdict) → job_in words ≡ Some job → (W → Answered devices words a b w w' v r) → W ⊎ (TellsUnread devices job a b w w' r ⊎ IsShort a b w w' r) → Answered devices words a b w w' v r
-    by_well job v at well (inl started) = well started
-    by_well job v at well (inr (inl t)) = by job v at (inr t)
-    by_well job v at well (inr (inr s)) = inl (answer.short s)
+    by_well : {W : Type 0} (image script state : List ℕ) (m : ℕ) (detail : Detail) (v : Verdict) → job_in words ≡ Some (resume image script state m detail) → (W → Answered devices words a b w w' v r) → W ⊎ (TellsUnread (state_files devices image script state m) a b w w' r ⊎ IsShort a b w w' r) → Answered devices words a b w w' v r
+    by_well image script state m detail v at well (inl started) = well started
+    by_well image script state m detail v at well (inr (inl t)) = by image script state m detail v at (inr t)
+    by_well image script state m detail v at well (inr (inr s)) = inl (command.short s)

@@ -1,13 +1,11 @@
--- A list that holds no device.
-use Rattle.std.proofs.Common.{◌≡◌, ℕ, List, [], map, Option, sym, ap, subst}
+-- What is said of a list that holds no device.
+use Rattle.std.proofs.Common.{◌≡◌, ℕ, List, [], Option, sym, subst}
 use Rattle.kernel_abi.specs.Devices.{DeviceData}
 use Rattle.command_line.specs.CommandLine.{Asked}
 use Rattle.outside_io.specs.Seen.{FilesSeen, SinkSeen}
-use Rattle.trace_cli.specs.Verdict.{Verdict, IsVerdict}
+use Rattle.command_files.specs.Verdict.{Verdict}
+use Rattle.trace_cli.specs.Verdict.{IsVerdict}
 use Rattle.trace_cli.specs.Answer.{Answered, TellsEach, GoesOn, HasFront, HasDone, HasRefused, HasUnread}
-
-pub no_devices : {A : Type 0} (shown : A → DeviceData) (xs : List A) → xs ≡ [] → map shown xs ≡ []
-no_devices shown xs none = ap (map shown) none
 
 -- what is said of these devices is said of none
 module _ (devices : List DeviceData) (none : devices ≡ []) where

@@ -3,7 +3,7 @@ use Rattle.std.proofs.Common.{◌≡◌, ℕ, ◌≤◌, List, [], ◌∷◌, �
 use Rattle.std.proofs.lemmas.List.{take_all}
 use Rattle.std.proofs.lemmas.Option.{same_Some}
 use Rattle.std.specs.Io.KnownBytes.{Appends}
-use Rattle.kernel_abi.specs.Devices.{DeviceData}
+use Rattle.kernel_abi.specs.Devices.{AreFresh, DeviceData}
 use Rattle.image_format.specs.ImageData.{ImageData}
 use Rattle.board_model.specs.Script.{Scenario, start_of}
 use Rattle.board_core.specs.Data.{Shows}
@@ -15,22 +15,26 @@ use Rattle.command_line.specs.CommandLine.{live}
 use Rattle.outside_io.specs.Outside.{WhereSeen, Rose, IsFront, AppendsFront}
 use Rattle.outside_io.specs.Seen.{FilesSeen, SinkSeen}
 use Rattle.outside_io.proofs.Pushing.{appends_more, front_more}
-use Rattle.trace_cli.specs.Contents.{image_data_of, scenario_of}
-use Rattle.trace_cli.specs.Sources as sources
-use Rattle.trace_cli.specs.Sources.{image_file, script_file, lines_file, MayBe, Takes, TakesAll}
-use Rattle.trace_cli.specs.FileFaults.{IsCannotRead}
-use Rattle.trace_cli.specs.Ready.{IsRunSet, TakesImage}
-use Rattle.trace_cli.specs.Pushed.{Pushed, whole, cut, SaysLive, ended, broken, unsaid}
-use Rattle.trace_cli.specs.Verdict.{line_alone, lived, unread, unread_line}
+use Rattle.command_files.specs.Contents.{image_data_of, scenario_of}
+use Rattle.command_files.specs.Sources.{image_file, script_file, MayBe, Takes, TakesAll}
+use Rattle.trace_cli.specs.Sources.{lines_file}
+use Rattle.command_files.specs.FileFaults.{IsCannotRead}
+use Rattle.command_files.specs.Ready.{IsRunSet, TakesImage}
+use Rattle.command_files.specs.Pushed.{Pushed, whole, cut}
+use Rattle.trace_cli.specs.Pushed.{SaysLive, ended, broken, unsaid}
+use Rattle.command_files.specs.Verdict.{line_alone, unread, unread_line}
+use Rattle.trace_cli.specs.Verdict.{lived}
 use Rattle.trace_cli.specs.Answer.{JobReason, cannot_read, does, AnswersJob}
-use Rattle.trace_cli.proofs.Faulting.{read_earlier}
-use Rattle.trace_cli.proofs.Lists.{takes_none, takes_first}
-use Rattle.trace_cli.proofs.Readying.{silent_short, answers_pushed}
+use Rattle.command_files.proofs.Faulting.{read_earlier}
+use Rattle.command_files.proofs.Lists.{takes_none, takes_first}
+use Rattle.command_files.proofs.Answering.{silent_short}
+use Rattle.trace_cli.proofs.Readying.{answers_pushed}
+use Rattle.trace_cli.specs.Sources.{files_of}
 
 -- ## the files
 
-pub takes_lines : (devices : List DeviceData) (image script name : List ℕ) → TakesImage devices (live image script name) image script
-takes_lines devices image script name = record { more = λ _. lines_file name ∷ []; files = λ first. refl }
+pub takes_lines : {devices : List DeviceData} (fresh : AreFresh devices) (image script name : List ℕ) → TakesImage (files_of devices (live image script name)) image script
+takes_lines {devices} fresh image script name = record { more = λ _. lines_file name ∷ []; files = λ first. refl }
 
 -- ## what was told, and a line behind it
 
@@ -72,7 +76,7 @@ module _ {X : Type 0} {H : X → Type 0} {shown : Shows X H} {devices : List Dev
       takes_first (MayBe a.contents) (image_file image) (script_file script ∷ lines_file name ∷ []) h.of_image.bytes (h.set.script ∷ []) h.of_image.held h.of_image.accepted
       (takes_first (MayBe a.contents) (script_file script) (lines_file name ∷ []) h.set.script [] h.set.held h.set.accepted (takes_none (MayBe a.contents) (lines_file name ∷ [])))
 
-  takes_three : (bytes : List ℕ) → MayBe a.contents name bytes → TakesAll (MayBe a.contents) devices (live image script name) (h.of_image.bytes ∷ h.set.script ∷ bytes ∷ [])
+  takes_three : (bytes : List ℕ) → MayBe a.contents name bytes → TakesAll (MayBe a.contents) (files_of devices (live image script name)) (h.of_image.bytes ∷ h.set.script ∷ bytes ∷ [])
   takes_three bytes held = record {
     takes = takes_first (MayBe a.contents) (image_file image) (script_file script ∷ lines_file name ∷ []) h.of_image.bytes (h.set.script ∷ bytes ∷ []) h.of_image.held h.of_image.accepted
         (takes_first (MayBe a.contents) (script_file script) (lines_file name ∷ []) h.set.script (bytes ∷ []) h.set.held h.set.accepted

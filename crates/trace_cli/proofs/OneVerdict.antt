@@ -4,9 +4,10 @@ use Rattle.std.proofs.lemmas.Option.{same_Some}
 use Rattle.kernel_abi.specs.Devices.{DeviceData}
 use Rattle.outside_io.specs.Outside.{Rose}
 use Rattle.outside_io.specs.Seen.{FilesSeen}
-use Rattle.trace_cli.specs.Sources.{File, MayBe, Are, Takes}
+use Rattle.command_files.specs.Sources.{File, MayBe, Are, Takes}
 use Rattle.trace_cli.specs.Verdict as verdict
-use Rattle.trace_cli.specs.Verdict.{Verdict, IsVerdict}
+use Rattle.command_files.specs.Verdict.{Verdict}
+use Rattle.trace_cli.specs.Verdict.{IsVerdict}
 use Rattle.trace_cli.specs.Answer.{refuses, does, CommandReason, no_job, of_job}
 use Rattle.trace_cli.proofs.Deciding.{Decided, agreed, not_read, decided}
 

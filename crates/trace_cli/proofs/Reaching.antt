@@ -1,41 +1,37 @@
 -- How often a run executed each instruction: from the board of a run to the answer.
 use Rattle.std.proofs.Common.{◌≡◌, ◌∙◌, ℕ, Bool, true, false, List, [], ◌∷◌, ◌++◌, Option, refl, sym, ap, subst, inl}
-use Rattle.kernel_abi.specs.Devices.{DeviceData}
+use Rattle.kernel_abi.specs.Devices.{AreFresh, DeviceData}
 use Rattle.image_format.specs.ImageData.{ImageData}
 use Rattle.board_model.specs.Script.{Scenario, start_of}
 use Rattle.board_core.specs.Data.{Shows}
 use Rattle.board_core.specs.declared.board.Board.{Board}
-use Rattle.board_core.specs.Stands.{Stands, StandsForSome}
+use Rattle.board_core.specs.Stands.{Stands}
 use Rattle.command_line.specs.CommandLine.{cover}
 use Rattle.outside_io.specs.Seen.{FilesSeen, SinkSeen}
-use Rattle.trace_cli.specs.Contents.{application_of, image_data_of, scenario_of}
-use Rattle.trace_cli.specs.Sources.{image_file, script_file, MayBe, TakesAll, described as described_in, sources_in, script_in}
+use Rattle.command_files.specs.Contents.{application_of, image_data_of, scenario_of}
+use Rattle.command_files.specs.Sources.{image_file, script_file, MayBe, TakesAll, described as described_in, sources_in, script_in}
 use Rattle.app_toml.specs.Apps.{AppData}
 use Rattle.thumb_asm.specs.Meaning.{Names}
-use Rattle.trace_cli.specs.declared.source_lines.SourceLines.{SourceLines}
-use Rattle.trace_cli.specs.Building.{IsBuiltApp, kept_labels, labels_from}
-use Rattle.trace_cli.specs.Ready.{IsRunSet, IsAppSet, TakesImage, TakesApp}
+use Rattle.command_files.specs.declared.source_lines.SourceLines.{SourceLines}
+use Rattle.command_files.specs.Building.{IsBuiltApp, kept_labels, labels_from}
+use Rattle.command_files.specs.Ready.{IsRunSet, IsAppSet, TakesImage, TakesApp}
 use Rattle.trace_cli.specs.Pushed.{SaysCovered, told, nothing}
-use Rattle.trace_cli.specs.Verdict.{Verdict, covered, IsCovered}
+use Rattle.command_files.specs.Verdict.{Verdict}
+use Rattle.trace_cli.specs.Verdict.{covered, IsCovered}
 use Rattle.trace_cli.specs.Answer.{does, AnswersJob}
-use Rattle.trace_cli.proofs.Lists.{takes_none, takes_first}
-use Rattle.trace_cli.proofs.Readying.{AreTaken, app_taken, silent_short, answers_pushed}
+use Rattle.command_files.proofs.Lists.{takes_none, takes_first}
+use Rattle.command_files.proofs.Readying.{AreTaken, app_taken}
+use Rattle.command_files.proofs.Answering.{silent_short}
+use Rattle.trace_cli.proofs.Readying.{answers_pushed}
+use Rattle.trace_cli.specs.Sources.{files_of}
 
 -- ## the files
 
-pub covers : (devices : List DeviceData) (image script : List ℕ) (n : ℕ) → TakesImage devices (cover image script n false) image script
-covers devices image script n = record { more = λ _. []; files = λ first. refl }
+pub covers : {devices : List DeviceData} (fresh : AreFresh devices) (image script : List ℕ) (n : ℕ) → TakesImage (files_of devices (cover image script n false)) image script
+covers {devices} fresh image script n = record { more = λ _. []; files = λ first. refl }
 
-pub labels_cover : (devices : List DeviceData) (app script : List ℕ) (n : ℕ) → TakesApp devices (cover app script n true) app script
-labels_cover devices app script n = record { files = λ first. refl }
-
--- a board that is set stands for the start of its run
-pub set_stood : {X : Type 0} {H : X → Type 0} {shown : Shows X H} {devices : List DeviceData} (image script : List ℕ) (seen : List ℕ → Option (List ℕ)) (bd : Board X H) → IsRunSet shown devices image script seen bd → StandsForSome shown bd
-set_stood {devices = devices} image script seen bd h = let x = scenario_of h.image_data h.set.script devices in (x, start_of x, h.set.stands)
-
-pub app_stood : {X : Type 0} {H : X → Type 0} {shown : Shows X H} {devices : List DeviceData} (app script : List ℕ) (seen : List ℕ → Option (List ℕ)) (bd : Board X H) (wanted : Bool) (described : AppData) (l : SourceLines)
-    → IsAppSet shown devices app script seen wanted bd described l → StandsForSome shown bd
-app_stood {devices = devices} app script seen bd wanted described l h = let x = scenario_of h.image h.set.script devices in (x, start_of x, h.set.stands)
+pub labels_cover : {devices : List DeviceData} (fresh : AreFresh devices) (app script : List ℕ) (n : ℕ) → TakesApp (files_of devices (cover app script n true)) app script
+labels_cover {devices} fresh app script n = record { files = λ first. refl }
 
 -- ## the answer to the job
 
@@ -46,7 +42,7 @@ module _ {X : Type 0} {H : X → Type 0} {shown : Shows X H} {devices : List Dev
   stands : Stands shown scenario bd (start_of scenario)
   stands = let P : ImageData → Type 0 = λ p. Stands shown (scenario_of p h.set.script devices) bd (start_of (scenario_of p h.set.script devices)) in subst P h.of_image.is h.set.stands
 
-  takes : TakesAll (MayBe a.contents) devices (cover image script n false) (h.of_image.bytes ∷ h.set.script ∷ [])
+  takes : TakesAll (MayBe a.contents) (files_of devices (cover image script n false)) (h.of_image.bytes ∷ h.set.script ∷ [])
   takes = record {
     takes = takes_first (MayBe a.contents) (image_file image) (script_file script ∷ []) h.of_image.bytes (h.set.script ∷ []) h.of_image.held h.of_image.accepted
         (takes_first (MayBe a.contents) (script_file script) [] h.set.script [] h.set.held h.set.accepted (takes_none (MayBe a.contents) []));
@@ -71,8 +67,8 @@ module _ {X : Type 0} {H : X → Type 0} {shown : Shows X H} {devices : List Dev
   abbrev contents : List (List ℕ)
   contents = h.built.bytes ∷ (h.built.sources ++ h.set.script ∷ [])
 
-  taken : AreTaken devices (cover app script n true) a.contents h.built.sources h.set.script h.image contents
-  taken = app_taken (cover app script n true) h.image bd (labels_cover devices app script n) h.built h.set
+  taken : AreTaken (files_of devices (cover app script n true)) a.contents h.built.sources h.set.script h.image contents
+  taken = app_taken h.image bd (record { files = λ first. refl }) h.built h.set
 
   labelled : labels_from (described_in contents) 0 (sources_in contents) ≡ kept_labels l
   labelled = ap (λ (ss : List (List ℕ)). labels_from (described_in contents) 0 ss) taken.sources_are ∙ labels_are h.built

@@ -7,17 +7,21 @@ use Rattle.outside_io.specs.Outside.{WhereSeen}
 use Rattle.image_format.specs.ImageData.{ImageData, spelling}
 use Rattle.command_line.specs.CommandLine.{Asked, build, run, go}
 use Rattle.command_line.specs.declared.job.Detail.{Detail}
-use Rattle.trace_cli.specs.Contents.{Why, image_refusal, script_refusal, image_data_of, application_of, scenario_of}
+use Rattle.command_files.specs.Contents.{Why, image_refusal, script_refusal, image_data_of, application_of, scenario_of}
 use Rattle.trace_cli.specs.Words.{job_in}
-use Rattle.trace_cli.specs.Sources.{File, image_file, script_file, files_to_build, Are, Takes, Reaches, TakesAll, IsBuilt, script_in}
-use Rattle.trace_cli.specs.Verdict.{Verdict, IsVerdict, no_job, refuses, does, Does, refused, ran}
-use Rattle.trace_cli.specs.Answer.{HasPut}
-use Rattle.trace_cli.proofs.Lists.{longer, takes_wider, takes_last}
-use Rattle.trace_cli.proofs.Taking.{as_many_sources}
-use Rattle.trace_cli.proofs.Readying.{files_then, go_image, go_script}
-use Rattle.trace_cli.proofs.Deciding.{no_job_of, no_refusal}
+use Rattle.command_files.specs.Sources.{File, image_file, script_file, files_to_build, Are, Takes, Reaches, TakesAll, IsBuilt, script_in}
+use Rattle.command_files.specs.Verdict.{Verdict, refused}
+use Rattle.trace_cli.specs.Verdict.{IsVerdict, no_job, refuses, does, Does}
+use Rattle.board_commands.specs.Verdict.{ran}
+use Rattle.command_files.specs.Answer.{HasPut}
+use Rattle.command_files.proofs.Lists.{longer, takes_wider, takes_last}
+use Rattle.command_files.proofs.Taking.{as_many_sources}
+use Rattle.command_files.proofs.Readying.{files_then, go_image, go_script}
+use Rattle.trace_cli.proofs.Deciding.{no_job_of}
+use Rattle.command_files.proofs.Agreeing.{no_refusal}
 use Rattle.trace_cli.proofs.OneVerdict.{one_verdict}
-use Rattle.trace_cli.proofs.Spelling.{spelling_taken}
+use Rattle.command_files.proofs.Spelling.{spelling_taken}
+use Rattle.trace_cli.specs.Sources.{files_of}
 
 -- ## what was built
 
@@ -35,19 +39,19 @@ record IsMade (seen : List ℕ → Option (List ℕ)) (app out : List ℕ) (b : 
   has : HasImage seen app image
   put : b.put ≡ Some (out, spelling image)
 
-has_image : {devices : List DeviceData} (seen : List ℕ → Option (List ℕ)) (app out : List ℕ) (cs : List (List ℕ)) (image : ImageData) → TakesAll (Are seen) devices (build app out) cs → IsBuilt cs image → HasImage seen app image
-has_image seen app out [] image all is = let none = all.all in absurd (omega arith)
-has_image seen app out (c ∷ cs) image all is = record { bytes = c; sources = cs; takes = all.takes; all = all.all; is = is }
+has_image : (devices : List DeviceData) (seen : List ℕ → Option (List ℕ)) (app out : List ℕ) (cs : List (List ℕ)) (image : ImageData) → TakesAll (Are seen) (files_of devices (build app out)) cs → IsBuilt cs image → HasImage seen app image
+has_image devices seen app out [] image all is = let none = all.all in absurd (omega arith)
+has_image devices seen app out (c ∷ cs) image all is = record { bytes = c; sources = cs; takes = all.takes; all = all.all; is = is }
 
-made_by : {devices : List DeviceData} (seen : List ℕ → Option (List ℕ)) (app out : List ℕ) (cs : List (List ℕ)) (b : Verdict) → TakesAll (Are seen) devices (build app out) cs → Does devices (build app out) cs b → IsMade seen app out b
-made_by seen app out cs b all p = record { image = p.0; has = has_image seen app out cs p.0 all p.1; put = ap (λ (u : Verdict). u.put) p.2 }
+made_by : (devices : List DeviceData) (seen : List ℕ → Option (List ℕ)) (app out : List ℕ) (cs : List (List ℕ)) (b : Verdict) → TakesAll (Are seen) (files_of devices (build app out)) cs → Does devices (build app out) cs b → IsMade seen app out b
+made_by devices seen app out cs b all p = record { image = p.0; has = has_image devices seen app out cs p.0 all p.1; put = ap (λ (u : Verdict). u.put) p.2 }
 
 made : {devices : List DeviceData} (words : List (List ℕ)) (seen : List ℕ → Option (List ℕ)) (app out : List ℕ) (b : Verdict) → job_in words ≡ Some (build app out) → IsVerdict devices words seen b → b.status ≡ 0 → IsMade seen app out b
 made {devices} words seen app out b at (no_job none e) zero = absurd (no_job_of words (build app out) none at)
 made {devices} words seen app out b at (refuses job cs f c why is r held refusal e) zero = let one : b.status ≡ 1 = ap (λ (u : Verdict). u.status) e in absurd (omega arith)
 made {devices} words seen app out b at (does job cs is all p) zero =
     let alike : job ≡ build app out = same_Some job (build app out) (sym is ∙ at) in
-    made_by seen app out cs b (subst (λ (j : Asked). TakesAll (Are seen) devices j cs) alike all) (subst (λ (j : Asked). Does devices j cs b) alike p)
+    made_by devices seen app out cs b (subst (λ (j : Asked). TakesAll (Are seen) (files_of devices j) cs) alike all) (subst (λ (j : Asked). Does devices j cs b) alike p)
 
 -- ## the verdicts of `go`
 
@@ -123,7 +127,7 @@ ran_of : (devices : List DeviceData) (out script : List ℕ) (n : ℕ) (detail :
 ran_of devices out script n detail image c s w same e = e ∙ ap (λ (i : ImageData). ran n detail (scenario_of i s devices)) same
 
 after_run : {devices : List DeviceData} (words : List (List ℕ)) (seen seen' : List ℕ → Option (List ℕ)) (app out script : List ℕ) (n : ℕ) (detail : Detail) (cs : List (List ℕ)) (w : Verdict)
-    → job_in words ≡ Some (go app script n detail) → Rebuilt seen seen' app out script → TakesAll (Are seen') devices (run out script n detail) cs → Does devices (run out script n detail) cs w → IsVerdict devices words seen w
+    → job_in words ≡ Some (go app script n detail) → Rebuilt seen seen' app out script → TakesAll (Are seen') (files_of devices (run out script n detail)) cs → Does devices (run out script n detail) cs w → IsVerdict devices words seen w
 after_run words seen seen' app out script n detail [] w at r all p = let two = all.all in absurd (omega arith)
 after_run words seen seen' app out script n detail (c ∷ []) w at r all p = let two = all.all in absurd (omega arith)
 after_run {devices} words seen seen' app out script n detail (c ∷ s ∷ []) w at r all p =
@@ -141,11 +145,11 @@ go_by_run : {devices : List DeviceData} (go_words run_words : List (List ℕ)) (
 go_by_run {devices} go_words run_words seen seen' app out script n detail w at too r (no_job none e) = absurd (no_job_of run_words (run out script n detail) none too)
 go_by_run {devices} go_words run_words seen seen' app out script n detail w at too r (refuses job cs f c why is reached held refusal e) =
     let alike : job ≡ run out script n detail = same_Some job (run out script n detail) (sym is ∙ too) in
-    let mine : Reaches (Are seen') devices (run out script n detail) cs f = subst (λ (j : Asked). Reaches (Are seen') devices j cs f) alike reached in
+    let mine : Reaches (Are seen') (files_of devices (run out script n detail)) cs f = subst (λ (j : Asked). Reaches (Are seen') (files_of devices j) cs f) alike reached in
     after_refusal go_words seen seen' app out script n detail cs f c why w at r mine.next held refusal e
 go_by_run {devices} go_words run_words seen seen' app out script n detail w at too r (does job cs is all p) =
     let alike : job ≡ run out script n detail = same_Some job (run out script n detail) (sym is ∙ too) in
-    after_run go_words seen seen' app out script n detail cs w at r (subst (λ (j : Asked). TakesAll (Are seen') devices j cs) alike all) (subst (λ (j : Asked). Does devices j cs w) alike p)
+    after_run go_words seen seen' app out script n detail cs w at r (subst (λ (j : Asked). TakesAll (Are seen') (files_of devices j) cs) alike all) (subst (λ (j : Asked). Does devices j cs w) alike p)
 
 pub build_then_run : {devices : List DeviceData} (build_words go_words run_words : List (List ℕ)) (seen seen' : List ℕ → Option (List ℕ)) (app out script : List ℕ) (n : ℕ) (detail : Detail) (b v w : Verdict)
     → job_in build_words ≡ Some (build app out) → job_in go_words ≡ Some (go app script n detail) → job_in run_words ≡ Some (run out script n detail)

@@ -10,11 +10,14 @@ use Rattle.trace_audit.specs.declared.judgement.Judgement as trace
 use Rattle.trace_audit.specs.declared.judgement.Judgement.TheVariants.{Yes, No}
 use Rattle.outside_io.specs.Seen.{FilesSeen, SinkSeen}
 use Rattle.trace_cli.specs.Words.{job_in, out_of}
-use Rattle.trace_cli.specs.Verdict.{Verdict, IsVerdict, Does, line_alone, usage, usage_line, refused, unread, audited, status_of}
-use Rattle.trace_cli.specs.Answer.{JobReason, cannot_read, refuses, does, CommandReason, no_job, of_job, HasPut, HasSpoiled, Tells, whole, cut, spoiled, short, TellsGoodIn, AnswersJob, Answers, HasDone, HasRefused, HasUnread, HasFront, Answered, IsComplete, IsDone}
-use Rattle.trace_cli.specs.Pushed as seen
-use Rattle.trace_cli.specs.Pushed.{Pushed, Says, pushed, silent}
-use Rattle.trace_cli.proofs.Readying.{audited_alone}
+use Rattle.command_files.specs.Verdict.{Verdict, line_alone, refused, unread, audited, status_of}
+use Rattle.trace_cli.specs.Verdict.{IsVerdict, Does, usage, usage_line}
+use Rattle.trace_cli.specs.Answer.{JobReason, cannot_read, refuses, does, CommandReason, no_job, of_job, TellsGoodIn, AnswersJob, Answers, HasDone, HasRefused, HasUnread, HasFront, Answered, IsComplete, IsDone}
+use Rattle.command_files.specs.Answer.{whole, cut}
+use Rattle.command_files.specs.Answer.{HasPut, HasSpoiled, Tells, spoiled, short}
+use Rattle.command_files.specs.Pushed as seen
+use Rattle.command_files.specs.Pushed.{Pushed, Says, pushed, silent}
+use Rattle.command_files.proofs.Answering.{audited_alone}
 use Rattle.trace_cli.proofs.Deciding.{Decided, agreed, not_read, decided}
 
 -- ## where the contents are seen

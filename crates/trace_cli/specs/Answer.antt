@@ -1,23 +1,26 @@
 -- What an answer of the program says about the words, the files and the sink.
-use Rattle.std.specs.Prelude.{◌≡◌, ◌≢◌, ◌≤◌, ◌⊎◌, ℕ, false, List, [], ◌++◌, length, slice_index_or, Option, Some, None}
+use Rattle.std.specs.Prelude.{◌≡◌, ◌≤◌, ◌⊎◌, ℕ, false, List, [], ◌++◌, length, Option, Some, None}
 use Rattle.std.specs.Io.KnownBytes.{Appends}
 use Rattle.kernel_abi.specs.Devices.{DeviceData}
 use Rattle.outside_io.specs.Outside.{WhereSeen, Rose, AppendsFront, IsFront, short_name}
 use Rattle.board_model.specs.declared.outcomes.Level.TheVariants.{Calls}
-use Rattle.board_model.specs.Script.{Scenario, start_of}
-use Rattle.task_table.specs.model.State.{State}
-use Rattle.task_table.specs.model.Sane.{Sane}
+use Rattle.board_model.specs.Script.{Scenario}
 use Rattle.audit_runs.specs.Last.{IsGoodText}
 use Rattle.debug_core.specs.Live.{begun_text}
 use Rattle.debug_core.specs.Session.{opened}
 use Rattle.command_line.specs.CommandLine.{Asked, build, run, go, list, sample, migrate, audit, save, resume, debug, cover, sweep, timeline, live, picture, lcov, help, is_accepted}
 use Rattle.command_line.specs.declared.job.Detail.{Detail}
-use Rattle.trace_cli.specs.Contents.{Why, image_refusal, script_refusal, image_data_of, scenario_of}
+use Rattle.command_files.specs.Contents.{Why, image_refusal, script_refusal, image_data_of, scenario_of}
 use Rattle.outside_io.specs.Seen.{FilesSeen, SinkSeen}
 use Rattle.trace_cli.specs.Words.{job_in}
-use Rattle.trace_cli.specs.Sources.{File, MayBe, Are, MayBeRefused, Reaches, TakesAll, scenario_in}
-use Rattle.trace_cli.specs.Verdict.{Verdict, usage, refused, refused_line, unread, unread_line, resumed, saved_bytes, run_of, rest_of_run, Does, IsVerdict}
-use Rattle.trace_cli.specs.Ready.{StartsWell, IsSpelled}
+use Rattle.command_files.specs.Sources.{File, MayBe, Reaches, scenario_in}
+use Rattle.command_files.specs.Verdict.{Verdict, refused, refused_line, unread, unread_line}
+use Rattle.trace_cli.specs.Verdict.{usage, Does, IsVerdict}
+use Rattle.board_commands.specs.Verdict.{saved_bytes, run_of, rest_of_run}
+use Rattle.command_files.specs.Answer.{HasPut, HasSpoiled, IsShort, Tells, IsRefused, IsAccepted}
+use Rattle.trace_cli.specs.Sources.{files_of}
+use Rattle.board_commands.specs.Fit.{IsOfRun}
+use Rattle.board_commands.specs.Answer.{TellsResumed}
 
 -- ## why a job has a verdict (the files: before and after the call; the devices: those of a run)
 
@@ -37,27 +40,16 @@ WasTold devices job seen contents told = told ≡ []
 -- name of the last failing call.
 pub record IsUnread (devices : List DeviceData) (job : Asked) (before after : FilesSeen) (f : File) : Type 0 where
   pub contents : List (List ℕ)
-  pub reached : Reaches (MayBe before.contents) devices job contents f
+  pub reached : Reaches (MayBe before.contents) (files_of devices job) contents f
   pub rose : Rose before.read_faults after.read_faults
   pub named : WhereSeen after.last_failing (λ name. name ≡ short_name f.name)
   pub told : List ℕ
   pub was_told : WasTold devices job before.contents contents told
 
--- each earlier file is accepted, and this one may hold contents that are refused like this; if its contents
--- are seen, they are refused like this
-pub record IsRefused (devices : List DeviceData) (job : Asked) (seen : List ℕ → Option (List ℕ)) (f : File) (why : Why) : Type 0 where
-  pub contents : List (List ℕ)
-  pub reached : Reaches (MayBe seen) devices job contents f
-  pub refused : MayBeRefused seen f why
-
--- each file is accepted
-abbrev pub IsAccepted : List DeviceData → Asked → (List ℕ → Option (List ℕ)) → List (List ℕ) → Type 0
-IsAccepted devices job seen contents = TakesAll (MayBe seen) devices job contents
-
 pub data JobReason (devices : List DeviceData) (job : Asked) (before after : FilesSeen) (v : Verdict) : Type 0 where
   cannot_read : (f : File) (is : IsUnread devices job before after f) → v ≡ unread is.told f.name → JobReason devices job before after v
-  refuses : (f : File) (why : Why) → IsRefused devices job before.contents f why → v ≡ refused f.name why → JobReason devices job before after v
-  does : (contents : List (List ℕ)) → IsAccepted devices job before.contents contents → Does devices job contents v → JobReason devices job before after v
+  refuses : (f : File) (why : Why) → IsRefused (files_of devices job) before.contents f why → v ≡ refused f.name why → JobReason devices job before after v
+  does : (contents : List (List ℕ)) → IsAccepted (files_of devices job) before.contents contents → Does devices job contents v → JobReason devices job before after v
 
 -- ## why words have a verdict
 
@@ -65,43 +57,7 @@ pub data CommandReason (devices : List DeviceData) (words : List (List ℕ)) (be
   no_job : is_accepted words ≡ false → v ≡ usage → CommandReason devices words before after v
   of_job : (job : Asked) → job_in words ≡ Some job → JobReason devices job before after v → CommandReason devices words before after v
 
--- ## what happened to a verdict
-
--- what is seen under all other names stays
-abbrev pub OthersStay : (List ℕ → Option (List ℕ)) → (List ℕ → Option (List ℕ)) → List ℕ → Type 0
-OthersStay seen seen' name = (other : List ℕ) → other ≢ name → seen' other ≡ seen other
-
--- the file of the verdict, if it has one, was put
-abbrev pub HasPut : (List ℕ → Option (List ℕ)) → (List ℕ → Option (List ℕ)) → Option (List ℕ × List ℕ) → Type 0
-HasPut seen seen' None = seen' ≡ seen
-HasPut seen seen' (Some (name, bytes)) = WhereSeen (seen' name) (λ all. all ≡ bytes) × OthersStay seen seen' name
-
--- its put failed: under its name are the old contents or a front of the new ones
-abbrev pub HasSpoiled : (List ℕ → Option (List ℕ)) → (List ℕ → Option (List ℕ)) → Option (List ℕ × List ℕ) → Type 0
-HasSpoiled seen seen' None = ⊥
-HasSpoiled seen seen' (Some (name, bytes)) = WhereSeen (seen' name) (λ all. (seen name ≡ Some all) ⊎ IsFront all bytes) × OthersStay seen seen' name
-
--- nothing was pushed and nothing was put, because memory ran out
-pub record IsShort (before after : FilesSeen) (w w' : SinkSeen) (r : ℕ) : Type 0 where
-  pub status : r ≡ 5
-  pub written : w'.written ≡ w.written
-  pub faults : w'.faults ≡ w.faults
-  pub files : after.contents ≡ before.contents
-
--- One of four: the file was put and the text pushed whole, under the verdict's status; the file was put, then
--- a push failed and a front of the text was pushed, under status 4; the put failed and nothing was pushed,
--- under status 4; or memory is short.
-pub data Tells (before after : FilesSeen) (w w' : SinkSeen) (v : Verdict) (r : ℕ) : Type 0 where
-  whole : r ≡ v.status → HasPut before.contents after.contents v.put → Appends w.written w'.written v.text → Tells before after w w' v r
-  cut : r ≡ 4 → Rose w.faults w'.faults → HasPut before.contents after.contents v.put → AppendsFront w.written w'.written v.text → Tells before after w w' v r
-  spoiled : r ≡ 4 → Rose before.put_faults after.put_faults → HasSpoiled before.contents after.contents v.put → w'.written ≡ w.written → Tells before after w w' v r
-  short : IsShort before after w w' r → Tells before after w w' v r
-
 -- ## what `audit` says of it
-
--- the status of a run that was written to its end
-abbrev pub IsOfRun : ℕ → Type 0
-IsOfRun r = (r ≡ 0) ⊎ (r ≡ 6)
 
 -- if `run` or `go` wrote a run to its end, `audit` accepts its text (docs/FORMATS.md, Audit)
 abbrev pub TellsGood : Asked → Verdict → ℕ → Type 0
@@ -144,7 +100,7 @@ pub record HasDone (devices : List DeviceData) (words : List (List ℕ)) (before
   pub job : Asked
   pub command : job_in words ≡ Some job
   pub contents : List (List ℕ)
-  pub accepted : IsAccepted devices job before.contents contents
+  pub accepted : IsAccepted (files_of devices job) before.contents contents
   pub verdict : Verdict
   pub done : Does devices job contents verdict
   pub status : verdict.status ≡ r
@@ -161,7 +117,7 @@ pub record HasRefused (devices : List DeviceData) (words : List (List ℕ)) (see
   pub command : job_in words ≡ Some job
   pub file : File
   pub why : Why
-  pub is : IsRefused devices job seen file why
+  pub is : IsRefused (files_of devices job) seen file why
   pub line : Appends w.written w'.written (refused_line file.name why.0 why.1)
 
 -- 3: the line for a file that cannot be read, after what was written before it
@@ -209,30 +165,6 @@ IsComplete before after w w' v r =
     ((r ≡ v.status) × HasPut before.contents after.contents v.put × Appends w.written w'.written v.text) ⊎ IsShort before after w w' r
 
 -- ## runs that are saved and continued
-
--- the line for a file that cannot be read was written for this job
-pub record TellsUnread (devices : List DeviceData) (job : Asked) (before after : FilesSeen) (w w' : SinkSeen) (r : ℕ) : Type 0 where
-  pub file : File
-  pub is : IsUnread devices job before after file
-  pub tells : Tells before after w w' (unread is.told file.name) r
-
--- the verdict is the run from a state that these bytes spell
-pub record IsFromSpelled (m : ℕ) (detail : Detail) (x : Scenario) (bytes : List ℕ) (v : Verdict) : Type 0 where
-  pub state : State
-  pub spelled : IsSpelled x bytes state
-  pub is : v ≡ resumed m detail x state
-
--- What is written when `resume` is asked for with files of these names. First: if its image and its script
--- are seen and accepted, their run starts well and no more turns are asked for than a run may have. Second:
--- if all its files are seen and accepted, the text is the run from each state that the last of them spells.
--- To show that a state is spelled there, one may use that the start of the run is sane. In both cases it may
--- be instead that a file cannot be read and this was written, or that memory is short.
-pub record TellsResumed (devices : List DeviceData) (image_name script_name state_name : List ℕ) (m : ℕ) (detail : Detail) (before after : FilesSeen) (w w' : SinkSeen) (r : ℕ) : Type 0 where
-  pub starts : (image script : List ℕ) → before.contents image_name ≡ Some image → before.contents script_name ≡ Some script → image_refusal image ≡ None → script_refusal script ≡ None
-      → (StartsWell (scenario_of (image_data_of image) script devices) × (m ≤ 1000000000)) ⊎ (TellsUnread devices (resume image_name script_name state_name m detail) before after w w' r ⊎ IsShort before after w w' r)
-  pub each : (contents : List (List ℕ)) (v : Verdict) → TakesAll (Are before.contents) devices (resume image_name script_name state_name m detail) contents
-      → let x = scenario_in devices contents in
-      (Sane x.setup (start_of x) → IsFromSpelled m detail x (slice_index_or contents 2 []) v) → Tells before after w w' v r ⊎ TellsUnread devices (resume image_name script_name state_name m detail) before after w w' r
 
 -- of any other job this says nothing
 abbrev pub TellsEach : List DeviceData → Asked → FilesSeen → FilesSeen → SinkSeen → SinkSeen → ℕ → Type 0

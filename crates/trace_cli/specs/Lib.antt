@@ -1,9 +1,7 @@
 pub mod Answer
-pub mod Building
 pub mod Contents
 pub mod Ready
 pub mod Sources
-pub mod FileFaults
 pub mod Pushed
 pub mod Verdict
 pub mod Words

@@ -5,7 +5,7 @@ use Rattle.app_toml.specs.Apps.{AppData}
 use Rattle.image_build.specs.Layout.{task_at}
 use Rattle.thumb_asm.specs.declared.listing.InsnLine.{InsnLine}
 use Rattle.run_cover.specs.Tracefile.{Section}
-use Rattle.trace_cli.specs.Building.{lines_from}
+use Rattle.command_files.specs.Building.{lines_from}
 
 -- the section of each task, if these are the lines of their sources
 abbrev pub sections_by : AppData → List (List InsnLine) → List Section

@@ -8,9 +8,11 @@ ghost use Rattle.board_run.specs.Text.{trace_text};
 ghost use Rattle.command_line.specs.CommandLine.{build as build_job, run as run_job, go as go_job};
 ghost use Rattle.command_line.specs.declared.job.Detail.{Detail};
 ghost use Rattle.trace_cli.specs.Words.{job_in};
-ghost use Rattle.trace_cli.specs.Contents.{image_refusal, script_refusal, image_data_of, scenario_of};
-ghost use Rattle.trace_cli.specs.Verdict.{Verdict, IsVerdict, line_alone, status_of, level_of, memory_if};
-ghost use Rattle.trace_cli.specs.Answer.{HasPut};
+ghost use Rattle.command_files.specs.Contents.{image_refusal, script_refusal, image_data_of, scenario_of};
+ghost use Rattle.command_files.specs.Verdict.{Verdict, line_alone, status_of};
+ghost use Rattle.trace_cli.specs.Verdict.{IsVerdict};
+ghost use Rattle.board_commands.specs.Verdict.{level_of, memory_if};
+ghost use Rattle.command_files.specs.Answer.{HasPut};
 
 /// Words that ask for `run` of an image with a script, both seen and accepted, have exactly one
 /// verdict. Its text is the trace of the abstract kernel's run from the start of that image, with

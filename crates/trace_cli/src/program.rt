@@ -5,30 +5,36 @@ ghost use Rattle.outside_io.specs.Outside.{Rose};
 ghost use Rattle.kernel_abi.specs.Devices.{AreFresh};
 ghost use Rattle.command_line.specs.CommandLine.{Asked, is_accepted};
 ghost use Rattle.trace_cli.specs.Words.{texts_of, job_in, out_of};
-ghost use Rattle.trace_cli.specs.Verdict.{Verdict, IsVerdict, usage_line};
+ghost use Rattle.command_files.specs.Verdict.{Verdict};
+ghost use Rattle.command_files.specs.Pushed.{Says};
+ghost use Rattle.trace_cli.specs.Verdict.{IsVerdict, usage, usage_line};
 ghost use Rattle.trace_cli.specs.Answer.{Answers, AnswersEach, IsComplete, TellsEach, GoesOn, IsDone, HasDone, HasRefused, HasUnread, HasFront};
 
-use crate::commands::audit::audit_file;
-use crate::commands::build::build_file;
 use crate::commands::cover::cover_files;
 use crate::commands::debug::debug_files;
-use crate::commands::help::help;
 use crate::commands::lcov::lcov_files;
-use crate::commands::list::list_file;
 use crate::commands::live::live_files;
-use crate::commands::migrate::migrate_file;
 use crate::commands::picture::picture_files;
-use crate::commands::resume::resume_files;
 use crate::commands::run::{go_files, run_files};
-use crate::commands::sample::run_sample;
-use crate::commands::save::save_file;
 use crate::commands::sweep::sweep_files;
 use crate::commands::timeline::timeline_files;
-use crate::lines::tell_usage;
+use board_commands::{resume_files, run_sample, save_file};
+use command_files::{audit_file, build_file, help, list_file, migrate_file, tell};
 use command_line::{Job, Refusal, read_words};
 use devices::Device;
 use outside_io::{Files, Sink};
 use std::alloc::Global;
+
+// Writes that the words are not accepted.
+fn tell_usage<S: Sink>(out: &mut S) -> u8
+    ensures { Says (S.seen out.old) (S.seen out.new) usage result }
+{
+    tell(
+        "usage: hubris build, run, go, list, sample, migrate, audit, save, resume, debug, cover, sweep, timeline, live, picture, lcov or help\n".as_bytes(),
+        2,
+        out,
+    )
+}
 
 // Does the job, with the function of its command.
 fn answer<F: Files, S: Sink>(
@@ -170,8 +176,7 @@ fn answer<F: Files, S: Sink>(
 /// - 3: a file cannot be read, and `cannot read <name>` was written. If the file is the COMMANDS of
 ///   `live`, this line comes after the answers to the lines that came.
 /// - 4: the output failed: the beginning of the text was written, and what is put is under OUT. Or
-///   the put failed: nothing was written, and under OUT are the old contents or the beginning of
-///   the new ones.
+///   the put failed: nothing was written, and OUT is as it was.
 /// - 5: memory is short, and nothing was written or put.
 /// - 6: as 0, of `run`, `go`, `resume`, `sample`, `cover` or `timeline`, and the run ended because
 ///   the supervisor faulted. Other commands answer 0 then too.

@@ -1,4 +1,4 @@
--- A line begins with the digits of its turn, and may be cut behind them.
+-- A line begins with the digits of its turn, and may be cut after them.
 use Rattle.std.proofs.Common.{◌≡◌, ◌+◌, ℕ, List, ◌∷◌, ◌++◌, length, take, get_or, refl, sym, ap, ◌∙◌, arith, append_assoc, length-append}
 use Rattle.std.proofs.lemmas.List.{take_at, get_or-append-add}
 use Rattle.std.specs.Prelude.{decimal}
@@ -40,7 +40,7 @@ line_begins turn note.Idle = first _ _
 line_begins turn (note.Low registers) = longer _ _ _ (first _ _)
 line_begins turn (note.High registers n z c v) = longer _ _ _ (first _ _)
 
--- it may be cut there, and the front is these bytes
+-- the text may be cut there, and its front is these bytes
 pub cut_at : (bytes xs : List ℕ) (n : ℕ) → n ≡ length xs → Begins xs bytes → IsSplitPoint bytes n
 cut_at bytes xs n is b =
     let same : length xs ≡ length xs + 0 = omega arith in
@@ -51,6 +51,6 @@ cut_at bytes xs n is b =
 pub front_of : (bytes xs : List ℕ) (n : ℕ) → n ≡ length xs → Begins xs bytes → take n bytes ≡ xs
 front_of bytes xs n is b = ap (take n) b.1 ∙ take_at xs (32 ∷ b.0) n (sym is)
 
--- digits alone
+-- only digits
 pub cut_end : (xs : List ℕ) (n : ℕ) → n ≡ length xs → IsSplitPoint xs n
 cut_end xs n is = (omega (arith, is), λ _ lt _. absurd (omega (arith, is, lt)))

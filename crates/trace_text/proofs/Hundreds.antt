@@ -9,7 +9,7 @@ use Rattle.itoa.proofs.Decimal.{pair, decimal_pair, length_pair}
 use Rattle.trace_text.specs.Digits.{HasDigits}
 use Rattle.trace_text.proofs.Begins.{cut_end}
 
--- it may be cut where a byte of ASCII follows
+-- a text may be cut before an ASCII byte
 cut_before : (xs rest : List ℕ) (y n : ℕ) → length xs ≡ n → y < 128 → IsSplitPoint (xs ++ y ∷ rest) n
 cut_before xs rest y n is small =
     let same : length xs ≡ length xs + 0 = omega arith in
@@ -44,7 +44,7 @@ module _ (number n : ℕ) (bytes : List ℕ) (from : 100 ≤ number) (fits : num
   pub front_two : take (n - 2) bytes ≡ hundreds
   front_two = ap (take (n - 2)) whole ∙ take_at hundreds rest (n - 2) two_less
 
--- of a number with the same hundreds, digits of its own in the place of the last two
+-- for another number with the same hundreds, its last two digits replace the old ones
 pub other_two : (old number n : ℕ) (bytes : List ℕ) → 100 ≤ number → number < 2 ^ 32 → old < 2 ^ 32 → number / 100 ≡ old / 100 → HasDigits old bytes (Some n) →
     take (n - 2) bytes ++ pair (number % 100) ≡ decimal number
 other_two old number n bytes from fits fit same begun =

@@ -24,7 +24,7 @@ use Rattle.trace_text.specs.declared.words.TheConstants.{DIGITS}
 abbrev bytes : ℕ → List ℕ
 bytes n = n / 256 ^ 0 % 256 ∷ n / 256 ^ 1 % 256 ∷ n / 256 ^ 2 % 256 ∷ n / 256 ^ 3 % 256 ∷ []
 
--- the bytes of four numbers in one
+-- the bytes of four numbers in one vector
 bytes_of_four : (a b c d : ℕ) → Each1 (Fits w32) (a ∷ b ∷ c ∷ d ∷ []) → digits_l 256 16 (number_l (2 ^ 32) (a ∷ b ∷ c ∷ d ∷ [])) ≡ flat_map bytes (a ∷ b ∷ c ∷ d ∷ [])
 bytes_of_four a b c d fits =
     let xs : List ℕ = a ∷ b ∷ c ∷ d ∷ [] in
@@ -75,7 +75,7 @@ turned_are_values (a ∷ b ∷ c ∷ d ∷ []) long fits = ap turned (bytes_of_f
 
 -- ## looking up
 
--- each is below 16
+-- each value is below 16
 values_below : (xs : List ℕ) → Each1 (λ j. j < 16) (flat_map hex_values xs)
 values_below [] = tt
 values_below (x ∷ xs) = (omega arith, (omega arith, (omega arith, (omega arith, (omega arith, (omega arith, (omega arith, (omega arith, values_below xs))))))))
@@ -151,7 +151,7 @@ pub spaced_ascii : (xs : List ℕ) → IsAscii (flat_map spaced_hex xs)
 spaced_ascii [] = IsAscii-nil
 spaced_ascii (x ∷ xs) = IsAscii-cons 32 (hex x ++ flat_map spaced_hex xs) (omega arith) (IsAscii-append (hex x) (flat_map spaced_hex xs) (hex_ascii x) (spaced_ascii xs))
 
--- ## a list is what stands at its places
+-- ## a list is determined by the items at its indices
 
 abbrev pub at_places : ℕ → ℕ → List ℕ → List ℕ
 at_places zero i xs = []
@@ -161,7 +161,7 @@ places_are : (xs : List ℕ) (n i : ℕ) → i + n ≡ length xs → at_places n
 places_are xs zero i all = sym (drop_all i xs (omega arith))
 places_are xs (suc n) i all = ap (λ (ys : List ℕ). get_or xs i 0 ∷ ys) (places_are xs n (suc i) (omega arith)) ∙ sym (drop-cons xs i 0 (omega arith))
 
--- ## four texts behind spaces
+-- ## four texts, each after a space
 
 -- three pieces at their places, and a fourth
 abbrev three : List ℕ → List ℕ → List ℕ → List ℕ
@@ -173,7 +173,7 @@ placed a b c d = put_mid 28 8 (three a b c) d
 abbrev three_of : List ℕ → List ℕ
 three_of t = three (between 0 8 t) (between 8 16 t) (between 16 24 t)
 
--- those of the digits of four numbers
+-- the same for the digits of four numbers
 pub three_long : (xs : List ℕ) → length xs ≡ 4 → 36 ≤ length (three_of (flat_map hex (take 4 xs)))
 unfolding hex
 three_long xs long =
@@ -200,7 +200,7 @@ two_are_spaced xs long =
     let P : List ℕ → Type 0 = λ ys. two (flat_map spaced_hex (take 4 ys)) (flat_map spaced_hex (take 4 (drop 4 ys))) ≡ flat_map spaced_hex ys in
     subst P (places_are xs 8 0 (sym long)) refl
 
--- the LF behind seven, and behind six
+-- the LF after seven numbers, and after six
 abbrev pub ended : List ℕ → List ℕ
 ended xs = flat_map spaced_hex xs ++ 10 ∷ []
 
@@ -215,7 +215,7 @@ six_ended text xs long is = ap (λ (t : List ℕ). take 55 (set t 54 10)) is ∙
 pub ended_ascii : (xs : List ℕ) → IsAscii (ended xs)
 ended_ascii xs = IsAscii-append (flat_map spaced_hex xs) (10 ∷ []) (spaced_ascii xs) (IsAscii-cons 10 [] (omega arith) IsAscii-nil)
 
--- ## one text more
+-- ## one more text
 
 pub one_more : (f : ℕ → List ℕ) (bs xs : List ℕ) (k i : ℕ) → k + i < length xs → (bs ++ flat_map f (take (k + i) xs)) ++ f (get_or (between k (length xs) xs) i 0) ≡ bs ++ flat_map f (take (k + (i + 1)) xs)
 one_more f bs xs k i within =

@@ -2,7 +2,8 @@
 use Rattle.std.specs.Prelude.{ℕ, ◌≡◌, ◌≤◌, List, [], length, take, decimal, Option, Some, None}
 use Rattle.std.specs.String.Boundary.{IsSplitPoint}
 
--- nothing is there before the first line; then the first bytes are the digits of a number, behind which they may be cut
+-- before the first line there are no bytes; after it the first bytes are the digits of a number, and the text may
+-- be cut after them
 pub record HasDigits (number : ℕ) (bytes : List ℕ) (begun : Option ℕ) : Type 0 where
   pub empty : begun ≡ None → bytes ≡ []
   pub digits : (n : ℕ) → begun ≡ Some n → take n bytes ≡ decimal number

@@ -1,5 +1,5 @@
--- Notes whose lines have the numbers of their types: what is written in decimal is in range, there are as many registers as
--- the line has words for, and the text of an instruction is no longer than its room.
+-- Notes that their lines have room for: numbers in decimal are in the range of their type, there are as many
+-- registers as the line has words for, and the text of an instruction fits.
 use Rattle.std.specs.Prelude.{ℕ, ◌<◌, ◌≤◌, ◌^◌, ◌≡◌, List, [], ◌∷◌, length, Option, None, Some}
 use Rattle.kernel_abi.specs.declared.FromIndex.{FromIndex}
 use Rattle.kernel_abi.specs.declared.FromIndex.TheVariants.{Any, Kernel, One}
@@ -43,7 +43,7 @@ IsFitNote note.Idle = Unit {0}
 IsFitNote (note.Low registers) = length registers ≡ 8
 IsFitNote (note.High registers n z c v) = length registers ≡ 8
 
--- each of some notes with their turns
+-- the same for each note of a list, with its turn
 abbrev pub AreFit : List (ℕ × Note) → Type 0
 AreFit [] = Unit {0}
 AreFit (n ∷ notes) = IsFit n.0 × IsFitNote n.1 × AreFit notes

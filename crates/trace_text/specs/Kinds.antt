@@ -1,4 +1,5 @@
--- The kinds of notes: which a word names, and which notes are sought by kind and number (docs/FORMATS.md, Trace).
+-- The kinds of notes: the kind that a word names, and which notes a search by kind and number finds
+-- (docs/FORMATS.md, Trace).
 use Rattle.std.specs.Prelude.{ℕ, ◌==◌, ◌&&◌, Bool, true, false, if◌then◌else◌, List, Option, Some, None, codes, bytes_eq}
 use Rattle.std.specs.Option.{option_or}
 use Rattle.kernel_abi.specs.declared.Note.{Note}
@@ -61,7 +62,7 @@ is_of_kind kind.IrqStatus (note.IrqStatus _ _ _) = true
 is_of_kind kind.Find (note.Find _ _) = true
 is_of_kind _ _ = false
 
--- the first number of its line, behind the kind; none of a line without a number
+-- the first number after the kind in a note's line; None if the line has no number
 abbrev pub first_number : Note → Option ℕ
 first_number (note.Tick now) = Some now
 first_number (note.Irq line handled) = Some line
@@ -81,7 +82,7 @@ first_number (note.IrqStatus task bits status) = Some task
 first_number (note.Find index found) = Some index
 first_number _ = None
 
--- no number asks for nothing
+-- without a wanted number every line agrees
 abbrev pub agrees : Option ℕ → Option ℕ → Bool
 agrees None number = true
 agrees (Some wanted) None = false

@@ -1,4 +1,4 @@
--- Notes on end, and the first line of a task (docs/FORMATS.md, Trace).
+-- The lines of several notes, and the first line of a task (docs/FORMATS.md, Trace).
 use Rattle.std.specs.Prelude.{ℕ, List, ◌++◌, codes, decimal, Option, None, Some}
 use Rattle.std.specs.List.{flat_map}
 use Rattle.kernel_abi.specs.declared.Health.{Health}

@@ -1,4 +1,4 @@
--- What is seen of the lines of a turn.
+-- What can be observed of the lines of a turn.
 use Rattle.std.specs.Prelude.{ℕ, List, Option}
 use Rattle.trace_text.specs.declared.turn.TurnLines.{TurnLines}
 
@@ -6,6 +6,6 @@ use Rattle.trace_text.specs.declared.turn.TurnLines.{TurnLines}
 abbrev pub last_line : TurnLines → List ℕ
 last_line lines = lines.text.bytes
 
--- how many bytes the digits take, once they stand there
+-- how many bytes the digits take, if they are there
 abbrev pub begun_in : TurnLines → Option ℕ
 begun_in lines = lines.begun

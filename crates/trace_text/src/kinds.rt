@@ -1,10 +1,11 @@
-//! The kinds of notes, by the words of a trace, and the notes that are sought by kind and number.
+//! The kinds of notes, as the words of a trace name them, and the search for notes by kind and
+//! number.
 ghost use Rattle.std.specs.Prelude.{◌≡◌};
 ghost use Rattle.trace_text.specs.Kinds.{agrees, call_kind, event_kind, first_number, is_of_kind, is_sought, kind_in, task_kind};
 
 use kernel_abi::Note;
 
-/// The kinds of notes, those of instructions and registers aside (docs/FORMATS.md, Trace).
+/// The kinds of notes, except those of instructions and registers (docs/FORMATS.md, Trace).
 #[derive(Clone, Copy, PartialEq, Eq)]
 pub enum NoteKind {
     Tick,
@@ -25,7 +26,7 @@ pub enum NoteKind {
     Find,
 }
 
-/// What comes from outside or of itself.
+/// The kinds of notes about ticks, interrupts and devices.
 fn event_kind(word: &[u8]) -> Option<NoteKind>
     ensures { result ≡ event_kind word.now }
 {
@@ -42,7 +43,7 @@ fn event_kind(word: &[u8]) -> Option<NoteKind>
     }
 }
 
-/// What is told of calls.
+/// The kinds of notes about system calls and calls.
 fn call_kind(word: &[u8]) -> Option<NoteKind>
     ensures { result ≡ call_kind word.now }
 {
@@ -63,7 +64,7 @@ fn call_kind(word: &[u8]) -> Option<NoteKind>
     }
 }
 
-/// What else is told of tasks.
+/// The other kinds of notes about tasks.
 fn task_kind(word: &[u8]) -> Option<NoteKind>
     ensures { result ≡ task_kind word.now }
 {
@@ -114,7 +115,7 @@ fn is_of_kind(kind: NoteKind, note: &Note) -> bool
     }
 }
 
-/// The first number of its line, behind the kind.
+/// The first number after the kind in a note's line, if it has one.
 fn first_number(note: &Note) -> Option<u64>
     ensures { result ≡ first_number note.now }
 {
@@ -139,7 +140,7 @@ fn first_number(note: &Note) -> Option<u64>
     }
 }
 
-/// No number asks for nothing.
+/// Whether the first number of a line is the wanted one. Without a wanted number every line agrees.
 fn agrees(number: Option<u32>, first: Option<u64>) -> bool
     ensures { result ≡ agrees number first }
 {
@@ -150,7 +151,8 @@ fn agrees(number: Option<u32>, first: Option<u64>) -> bool
     }
 }
 
-/// Of the kind, and where there is a number, with it first behind the kind.
+/// Whether a note is of this kind and, if a number is wanted, has it as the first number after the
+/// kind.
 pub fn is_sought(kind: NoteKind, number: Option<u32>, note: &Note) -> bool
     ensures { result ≡ is_sought kind number note.now }
 {

@@ -1,6 +1,6 @@
 #![tactic(auto)]
-//! The lines of a trace, one of each note (docs/FORMATS.md, Trace), the words of which they are
-//! made, and the kinds of notes.
+//! The lines of a trace, one for each note (docs/FORMATS.md, Trace); the words of these lines; and
+//! the kinds of notes.
 
 mod kinds;
 mod lines;

@@ -9,14 +9,14 @@ use crate::words::{push_decimal, push_two};
 use arrayvec::ArrayString;
 use kernel_abi::Note;
 
-/// The lines of a turn, one after the other in one buffer, which begins with the digits of the
-/// turn's number: these are made once, in the buffer itself, since to move a buffer costs as much
-/// as a line, and serve the next turn too.
+/// The lines of a turn, one after another in one buffer, which begins with the digits of the turn's
+/// number. The digits are made once for the turn, and most of them serve the next turn too. They
+/// are made in the buffer itself, because moving a buffer costs as much as a line.
 #[derive(Drop)]
 pub struct TurnLines {
     pub number: u32,
     text: ArrayString<160>,
-    // behind how many bytes a line goes on; None before the first one
+    // the length of the digits, after which a line goes on; None before the first line
     begun: Option<usize>,
     ghost begun_of: { HasDigits number text.bytes begun },
     ghost small: { IsFit number },
@@ -25,7 +25,7 @@ pub struct TurnLines {
 impl TurnLines {
     ghost use Rattle.trace_text.specs.Turn.{last_line, begun_in};
 
-    /// Of the turn with a number, before its first line.
+    /// The lines of the turn with this number, before its first line.
     #[inline(always)]
     pub fn new(number: u32) -> TurnLines
         ensures { result.number ≡ number }
@@ -37,7 +37,7 @@ impl TurnLines {
         }
     }
 
-    /// Other last digits in the place of those that stand there.
+    /// Replaces the last two digits.
     #[inline(always)]
     fn change_last_two(&mut self, begun: usize, number: u32)
         requires begun { begun_in self.old ≡ Some begun }
@@ -60,7 +60,7 @@ impl TurnLines {
         self.number = number;
     }
 
-    /// Goes on to a turn, before its first line. Mostly only the last two digits are others than
+    /// Goes on to a turn, before its first line. Most often only the last two digits differ from
     /// those of the turn before.
     #[inline(always)]
     pub fn go_to(&mut self, number: u32)
@@ -78,7 +78,7 @@ impl TurnLines {
         }
     }
 
-    /// The digits of the number alone stand in the buffer.
+    /// Leaves only the digits of the number in the buffer.
     #[inline(always)]
     fn begin_line(&mut self)
         ensures digits { last_line self.new ≡ decimal self.old.number }
@@ -94,8 +94,8 @@ impl TurnLines {
         }
     }
 
-    /// Puts the line of a note, with its LF, in the place of the line before. A code that is no
-    /// instruction has no text.
+    /// Replaces the last line by the line of a note, with its LF. A code that is not an instruction
+    /// has no text.
     #[inline(always)]
     pub fn write(&mut self, note: &Note)
         ensures line { last_line self.new ≡ line_of self.old.number note.now }

@@ -1,4 +1,5 @@
--- What comparing two words tells of their difference: the signed order is N xor V.
+-- What comparing two words says of their difference: the first is the smaller one in signed order exactly if
+-- N xor V.
 use Rattle.std.proofs.Common.{◌≡◌, ℕ, suc, ◌+◌, ◌-◌, ◌%◌, ◌<◌, ◌≤◌, Bool, true, false, arith, refl, sym, ◌∙◌, ap, leb, ltb, eqb, inl, inr, ◌⊎◌, pos, ◌+ℤ◌}
 use Rattle.std.specs.Prelude.{not}
 use mathlib.Core.Bool.{beq}

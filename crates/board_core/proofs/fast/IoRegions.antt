@@ -15,7 +15,7 @@ use Rattle.task_table.specs.model.Reading.{setup_at}
 use Rattle.board_model.specs.Turn.{may, refusals}
 use Rattle.std.proofs.lemmas.List.{set-get_or, get_or_append_left}
 use Rattle.std.proofs.Math.Seq.{get_or-append_seam}
-use Rattle.board_core.specs.fast.IoRegions.{ArePorts, AllIoRegions}
+use Rattle.board_core.specs.fast.IoRegions.{AreIoRegions, AllIoRegions}
 use Rattle.board_core.specs.fast.Sights.{is_port, io_regions_of, in_io_region}
 
 given_by : (right : Right) (r : Region) (a : ℕ) → has_right r.rights right ≡ true → r.base ≤ a → a < r.base + r.size → gives right a r ≡ true
@@ -70,10 +70,10 @@ own_ports g c r here = filtered is_port (setup_at g c).regions r here
 
 -- ## as a board keeps them
 
-pub none_first : (g : Setup) (lists : List (List Region)) → lists ≡ [] → ArePorts g 0 lists
+pub none_first : (g : Setup) (lists : List (List Region)) → lists ≡ [] → AreIoRegions g 0 lists
 none_first g lists e = record { count = ap length e; each = λ c lt. absurd (omega (arith, lt)) }
 
-pub one_further : (g : Setup) (n : ℕ) (lists : List (List Region)) (v : List Region) → ArePorts g n lists → v ≡ io_regions_of g n → ArePorts g (n + 1) (lists ++ v ∷ [])
+pub one_further : (g : Setup) (n : ℕ) (lists : List (List Region)) (v : List Region) → AreIoRegions g n lists → v ≡ io_regions_of g n → AreIoRegions g (n + 1) (lists ++ v ∷ [])
 one_further g n lists v h e = record {
   count = length-append lists (v ∷ []) ∙ ap (λ (k : ℕ). k + 1) h.count;
   each = below_more _ n
@@ -86,7 +86,7 @@ pub same_again : {A : Type 0} (xs : List A) (i : ℕ) (y d : A) → y ≡ get_or
 same_again xs i y d e = ap (λ (x : _). set xs i x) e ∙ set-get_or xs i d
 
 -- those of a kernel are those of the setup that it has
-pub all_ports : (g : Setup) (k : Kernel) (t : Turn) (lists : List (List Region)) → Holds g k t → ArePorts (setup_of k) (task_count k) lists → AllIoRegions g lists
+pub all_ports : (g : Setup) (k : Kernel) (t : Turn) (lists : List (List Region)) → Holds g k t → AreIoRegions (setup_of k) (task_count k) lists → AllIoRegions g lists
 all_ports g k t lists h io_regions =
     let count : task_count k ≡ length g.tasks = h.count ∙ sym h.many in
-    subst (λ (n : ℕ). ArePorts g n lists) count (subst (λ (x : Setup). ArePorts x (task_count k) lists) h.setup io_regions)
+    subst (λ (n : ℕ). AreIoRegions g n lists) count (subst (λ (x : Setup). AreIoRegions x (task_count k) lists) h.setup io_regions)

@@ -5,10 +5,10 @@ use Rattle.task_table.specs.model.State.{Setup}
 use Rattle.board_core.specs.fast.Sights.{io_regions_of}
 
 -- the I/O regions of the first n tasks
-pub record ArePorts (g : Setup) (n : ℕ) (lists : List (List Region)) : Type 0 where
+pub record AreIoRegions (g : Setup) (n : ℕ) (lists : List (List Region)) : Type 0 where
   pub count : length lists ≡ n
   pub each : (c : ℕ) → c < n → get_or lists c [] ≡ io_regions_of g c
 
 -- the I/O regions of all tasks
 abbrev pub AllIoRegions : Setup → List (List Region) → Type 0
-AllIoRegions g lists = ArePorts g (length g.tasks) lists
+AllIoRegions g lists = AreIoRegions g (length g.tasks) lists

@@ -234,7 +234,8 @@ impl Glider {
 }
 
 impl WindowUser for Glider {
-    ghost did = { λ a flash ram area second b after area_after second_after. HasWorked a flash ram area second b after area_after second_after };
+    ghost did = { λ a flash ram area second b after area_after second_after. HasWorked a flash ram
+        area second b after area_after second_after };
 
     #[inline(always)]
     fn work(

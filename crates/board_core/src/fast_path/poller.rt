@@ -93,7 +93,8 @@ impl Seen {
 }
 
 impl Bus for Seen {
-    ghost refuses = { λ p a n r. refused_at (sight_of (λ b. (Device-box b).shown b.value) p) a n r };
+    ghost refuses = { λ p a n r. refused_at (sight_of (λ b. (Device-box b).shown b.value) p) a n
+        r };
 
     ghost holds = { λ p a n. held_at (sight_of (λ b. (Device-box b).shown b.value) p) a n };
 
@@ -291,7 +292,9 @@ impl Poller {
 }
 
 impl WindowUser for Poller {
-    ghost did = { λ a flash ram area second b after area_after second_after. HasPolled (λ b. (Device-box b).shown b.value) a flash ram area second b after area_after second_after };
+    ghost did = { λ a flash ram area second b after area_after second_after. HasPolled
+        (λ b. (Device-box b).shown b.value) a flash ram area second b after area_after
+        second_after };
 
     fn work(
         &mut self,

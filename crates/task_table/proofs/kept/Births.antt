@@ -13,7 +13,7 @@ use Rattle.task_table.specs.kept.Waits.{is_one, is_to_in, awaits_in, AreFew}
 use Rattle.task_table.proofs.model.Posting.{found_listen}
 use Rattle.task_table.proofs.model.Clients.{found_call}
 
--- what is kept of a task at birth depends on its births modulo 64 alone
+-- the slot of a task at birth depends on its number of births only modulo 64
 pub born_as : (x y : TaskSetup) (m n : ℕ) (health : Health) (v w : Wait) → x ≡ y → m % 64 ≡ n % 64 → v ≡ w → packed_task (at_birth x m health) v ≡ packed_task (at_birth y n health) w
 born_as x y m n health v w same births waits = rw (same, births, waits) refl
 
@@ -57,7 +57,7 @@ awaits_wait (Some c) lo i alone h = rw alone refl
 pub awaits_kept : (s : State) (i j : ℕ) (slot : Slot) → AreFew s → IsKept s j slot → awaits_in slot.wait i ≡ awaits i (listen_of s j)
 awaits_kept s i j slot few h = ap (λ (o : Slot). awaits_in o.wait i) h.is ∙ awaits_wait (call_of s j) (listen_of s j) i h.alone (few_heard s j few)
 
--- those of a sane state are few where its tasks are
+-- the tasks that wait in a sane state are few if its tasks are
 pub few_sane : (g : Setup) (s : State) → Sane g s → length s.tasks ≤ 1024 → AreFew s
 few_sane g s h small = record {
   called = λ c inside. let below = (h.steady.calls.fit c inside).server in omega (arith, below, h.steady.as_many);

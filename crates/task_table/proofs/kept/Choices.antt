@@ -40,7 +40,7 @@ around_above p n from first above inside here before =
     find_append p (range_with_len from (n - from)) (range_with_len 0 from)
     ∙ ap (λ o. or_else o (find p (range_with_len 0 from))) (find_first p from (n - from) first above (omega (arith, above, inside)) here before)
 
--- none from the task on, the first of all
+-- no task of the set from the task on: then the first of the whole set
 around_below : (p : ℕ → Bool) (n from first : ℕ) → from ≤ n → first < n → p first ≡ true → ((i : ℕ) → i < first → p i ≡ false) → ((i : ℕ) → from ≤ i → i < n → p i ≡ false) → find p (around n from) ≡ Some first
 around_below p n from first short inside here before none =
     find_append p (range_with_len from (n - from)) (range_with_len 0 from)
@@ -79,7 +79,7 @@ not_below ps keys places p q h le below = elim (cases_lt p q) [
   | inr ge ↦ let same : p ≡ q = omega (arith, le, ge) in rw same (omega arith)
 ]
 
--- a lower key stands at a lower place
+-- a lower key has a lower place
 before : (ps keys places : List ℕ) (p q : ℕ) → AreOrdered ps keys places → p < length ps → key_in keys p < key_in keys q → p < q
 before ps keys places p q h below lt = elim (cases_lt p q) [
   | inl less ↦ less
@@ -90,14 +90,14 @@ before ps keys places p q h below lt = elim (cases_lt p q) [
 key_at : (ps keys places : List ℕ) (p : ℕ) → AreOrdered ps keys places → p < length ps → key_in keys p ≡ 1024 * priority_at ps (key_in keys p % 1024) + key_in keys p % 1024
 key_at ps keys places p h below = ap (key_in keys) (sym (h.place p below)) ∙ h.key (key_in keys p % 1024) (h.there p below)
 
--- ## the lowest ones
+-- ## the tasks with the lowest priority number
 
 record Low (ps keys places words : List ℕ) (first : ℕ) : Type 0 where
   order : AreOrdered ps keys places
   least : IsFirstFrom words 0 (Some first)
   inside : (p : ℕ) → has words p ≡ true → p < length ps
 
--- each of them has a key at least as high as the first one
+-- the key of each task of the set is at least that of the first one
 at_least : (ps keys places words : List ℕ) (first j : ℕ) → Low ps keys places words first → j < length ps → has_task places words j ≡ true → (first ≤ place_in places j) × (key_in keys first ≤ 1024 * priority_at ps j + j)
 at_least ps keys places words first j h below is =
     let q = place_in places j in
@@ -105,7 +105,7 @@ at_least ps keys places words first j h below is =
     let low = not_below ps keys places first q h.order later (h.order.inside j below) in
     (later, subst (λ (n : ℕ). key_in keys first ≤ n) (h.order.key j below) low)
 
--- they are those of the priority number of the first one
+-- the tasks with the lowest priority number have that of the first one
 lowest_of : (ps keys places words : List ℕ) (first i : ℕ) → Low ps keys places words first → i < length ps → has_task places words i ≡ true → priority_at ps i ≡ key_in keys first / 1024 → is_lowest ps (has_task places words) (length ps) i ≡ true
 lowest_of ps keys places words first i h below is priority =
     and_from _ _ is (all_by _ 0 (length ps) (λ j a b. pass (has_task places words j) (priority_at ps i) (priority_at ps j)
@@ -142,7 +142,7 @@ first_in_order ps keys places words first from start key order least inside shor
     there : first < length ps
     there = low.inside first least.1
 
-    -- one of them that is not below `from` stands at `start` or behind it
+    -- one of them that is not below `from` is at `start` or after it
     behind : (i : ℕ) → i < length ps → from ≤ i → test i ≡ true → (start ≤ place_in places i) × (has words (place_in places i) ≡ true)
     behind i below above t =
         let its = priority_from ps keys places words first i low below t in
@@ -151,7 +151,7 @@ first_in_order ps keys places words first from start key order least inside shor
         let high : start ≤ q = elim (cases_lt q start) [ inl lt ↦ absurd (omega (arith, place.below q lt, k, its.1, above)) | inr ge ↦ ge ] in
         (high, its.0)
 
-    -- the first of all
+    -- the first of the whole set
     all_first : ((i : ℕ) → from ≤ i → i < length ps → test i ≡ false) → find test (around n from) ≡ Some (key_in keys first % 1024)
     all_first none =
         let t = key_in keys first % 1024 in
@@ -193,7 +193,7 @@ first_in_order ps keys places words first from start key order least inside shor
         c_there : c < length ps
         c_there = low.inside c here.1
 
-        -- where one of them is behind, the found one has their priority number
+        -- if one of them comes after it, the found one has their priority number
         priority_between : (i : ℕ) → from ≤ i → i < length ps → test i ≡ true → key_in keys c / 1024 ≡ priority
         priority_between i above below t =
             let b = behind i below above t in
@@ -205,12 +205,12 @@ first_in_order ps keys places words first from start key order least inside shor
             let base = not_below ps keys places first c order later c_there in
             omega (arith, high, base, order.key i below, m.1, below, order.few)
 
--- none is there
+-- the set is empty
 pub none_in_order : (ps keys places words : List ℕ) (from : ℕ) → AreOrdered ps keys places → IsFirstFrom words 0 None → from ≤ length ps → None ≡ first_around ps (has_task places words) (length ps) from
 unfolding first_around
 none_in_order ps keys places words from order none short = sym (around_nothing (is_lowest ps (has_task places words) (length ps)) (length ps) from short (λ i below. let out : has_task places words i ≡ false = none (place_in places i) (omega arith) in rw out refl))
 
--- the first of all is not before the task
+-- the first of the whole set is not before the task
 pub first_at_once : (ps keys places words : List ℕ) (first from : ℕ) → AreOrdered ps keys places → IsFirstFrom words 0 (Some first) → ((p : ℕ) → has words p ≡ true → p < length keys) → from ≤ key_in keys first % 1024
     → Some (key_in keys first % 1024) ≡ first_around ps (has_task places words) (length ps) from
 unfolding first_around

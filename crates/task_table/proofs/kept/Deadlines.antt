@@ -15,7 +15,7 @@ use Rattle.task_table.specs.declared.slot.Slot.{Slot}
 use Rattle.task_table.specs.declared.task_set.TaskSet.{TaskSet}
 use Rattle.task_table.proofs.kept.Members.{no_slot, none_at}
 
--- one slot is written, and the sets follow
+-- one slot is written, and the sets are brought up to date
 pub timed_set : (slots : List Slot) (i : ℕ) (slot : Slot) (sets new : List TaskSet) → AreTimed slots sets → i < length slots → length new ≡ length sets
     → ((k p : ℕ) (e : TaskSet) → k < length sets → has (get_or new k e).words p ≡ cond (eqb p i) (is_timed_at k slot) (has (get_or sets k e).words p)) → AreTimed (set slots i slot) new
 timed_set slots i slot sets new h there count follows = record {
@@ -35,7 +35,7 @@ timed_set slots i slot sets new h there count follows = record {
       rw away at (follows k j e under) ∙ h.no_others k under e j out;
 }
 
--- or with the timer that it had, and the sets stay
+-- or the slot is written with the timer that it had, and the sets do not change
 pub timed_same : (slots : List Slot) (i : ℕ) (old slot : Slot) (sets : List TaskSet) → AreTimed slots sets → i < length slots → old ≡ get_or slots i old → slot.timer ≡ old.timer → AreTimed (set slots i slot) sets
 timed_same slots i old slot sets h there is same = record {
   count = h.count;
@@ -59,7 +59,7 @@ none_timed f xs slots sets is off count none = record {
   no_others = λ k inside e i past. none k i e inside;
 }
 
--- a member is a task
+-- each member of a set is a task
 pub timed_there : (slots : List Slot) (sets : List TaskSet) (k : ℕ) (e : TaskSet) (i : ℕ) → AreTimed slots sets → k < length sets → has (get_or sets k e).words i ≡ true → i < length slots
 timed_there slots sets k e i h inside is = elim (cases_lt i (length slots)) [
   | inl lt ↦ lt
@@ -70,7 +70,7 @@ due_at : (o : Option Timer) (now k : ℕ) (member : Bool) → member ≡ is_at k
 due_at None now k member is same = tt
 due_at (Some x) now k member is same = λ due. is ∙ eq-eqb _ _ (ap (λ (n : ℕ). n % wheel_sets) due ∙ sym same)
 
--- the set of the present time has the tasks whose timers are due just now
+-- the set of the present time has the tasks whose timers are due now
 pub due_kept : (g : Setup) (k : Kept) (t : Turn) (sets : List TaskSet) (e : TaskSet) → Shows g k t → AreTimed k.slots sets → HasDue t.state (get_or sets (k.clock % wheel_sets) e).words
 due_kept g k t sets e h timed = λ i below.
     let here : i < length k.slots = omega (arith, below, h.count) in

@@ -48,7 +48,7 @@ taken_kept g s i j slot sane small h =
 
 -- ## a listen that is open to a client
 
--- of births that are the present ones, ids decide
+-- two present births are the same if their ids are
 same_id : (a b : Birth) → a.index < 1024 → b.index < 1024 → (a.index ≡ b.index → a.birth ≡ b.birth) → eqb (id_of a.index a.birth) (id_of b.index b.birth) ≡ (eqb a.index b.index && eqb a.birth b.birth)
 same_id a b small few same = elim (eqb_tells a.index b.index) [
   | inl here ↦ let births = same here.1 in rw (here.0, eq-eqb a.birth b.birth births) (eq-eqb _ _ (rw (here.1, births) refl))
@@ -94,7 +94,7 @@ listen_of-with_call : (s : State) (k : Call) (j : ℕ) → listen_of (with_call 
 unfolding listen_of with_call
 listen_of-with_call s k j = refl
 
--- once its number is used
+-- the call is offered, after its number is used
 abbrev numbered : State → State
 numbered s = record s { next_call = s.next_call + 1 }
 
@@ -131,7 +131,7 @@ kept-with_call s k i slot call client h idle same =
 pub id_is : (id : TaskId) (b : Birth) → id.number ≡ id_of b.index b.birth → id ≡ id_at b
 id_is id b e = ap (λ (n : ℕ). let x : TaskId = record { number = n } in x) e
 
--- ## it is taken at once, or not
+-- ## the call is taken at once, or not
 
 pub taken_into : (k : Call) (lo : Option Listen) (buffer : Slice) (t : Turn) → buffer_for k.client lo ≡ Some buffer → taken_at_once k lo t ≡ returned k.server.index (handed (Message k.number) k buffer t)
 taken_into k None buffer t e = no_some e

@@ -1,4 +1,4 @@
--- States of which a kernel keeps the same: it holds each of them.
+-- States of which a kernel keeps the same. If it holds one of them, it holds each.
 use Rattle.std.proofs.Common.{◌≡◌, ◌≢◌, ◌<◌, inl, inr, ℕ, length, Option, Some, None, IfSome, refl, sym, ◌∙◌, ap, arith}
 use Rattle.std.proofs.lemmas.Bool.{cases_lt}
 use Rattle.task_table.specs.model.State.{Setup, State, Task, Call, Listen, Turn}
@@ -14,7 +14,7 @@ use Rattle.task_table.proofs.kept.Members.{unready_past}
 use Rattle.task_table.proofs.model.Posting.{found_listen}
 use Rattle.task_table.proofs.kept.Steps.{free_packed}
 
--- ## who waits does so once
+-- ## a task waits for one thing only
 
 alone_by : (c : Option Call) (l : Option Listen) → ((x : Call) (y : Listen) → c ≡ Some x → l ≡ Some y → ⊥) → IfSome c (λ x. l ≡ None)
 alone_by None l h = tt

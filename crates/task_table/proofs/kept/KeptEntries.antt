@@ -1,4 +1,4 @@
--- Entries that are kept: one is dropped, a slot is written, bytes elsewhere are written.
+-- Kept entries when one of them is dropped, when a slot is written, and when bytes elsewhere are written.
 use Rattle.std.proofs.Common.{◌≡◌, ◌≢◌, ◌+◌, ◌-◌, ◌*◌, ◌<◌, ◌≤◌, ◌⊎◌, inl, inr, ℕ, Bool, true, false, ◌&&◌, cond, eqb, leb, ltb, List, length, take, drop, set, Option, Some, None, is_some, refl, sym, subst, ◌∙◌, ap, arith, get_or, get_or-set_other, length-set, length-append, length-take, length-drop}
 use Rattle.std.proofs.lemmas.Bool.{cases_lt, lt-leb, lt-ltb, le-ltb, ltb-false}
 use Rattle.std.proofs.lemmas.Bool.Decides.{eqb_tells}
@@ -32,7 +32,7 @@ no_some e = cc
 same_some : {x y : KeptEntry} → Some x ≡ Some y → x ≡ y
 same_some e = cc
 
--- one that is kept is of a task that is there
+-- a kept entry is that of a task that exists
 pub kept_there : (entries : Entries) (i : ℕ) (x : KeptEntry) → kept_at entries i ≡ Some x → i < length entries
 kept_there entries i x h = elim (cases_lt i (length entries)) [
   | inl lt ↦ lt
@@ -56,7 +56,7 @@ fresh_cleared m low span entries t there h = record {
   watched = λ i x k. h.watched i x (cleared entries t i x there k).1;
 }
 
--- with the slot of its task
+-- an entry is dropped and the slot of its task is written
 pub of_cleared : (tasks : List TaskSetup) (slots : List Slot) (entries : Entries) (t : ℕ) (slot : Slot) → t < length slots → AreEntriesOf tasks slots entries → AreEntriesOf tasks (set slots t slot) (set entries t None)
 of_cleared tasks slots entries t slot there h =
     let inside : t < length entries = omega (arith, there, h.count) in
@@ -66,7 +66,7 @@ of_cleared tasks slots entries t slot there h =
       readable = λ i x k. h.readable i x (cleared entries t i x inside k).1;
     }
 
--- ## a slot is written that waits as before
+-- ## a slot is written and its wait does not change
 
 pub of_same : (tasks : List TaskSetup) (slots : List Slot) (entries : Entries) (t : ℕ) (old slot : Slot) → t < length slots → old ≡ get_or slots t old → slot.wait ≡ old.wait → AreEntriesOf tasks slots entries → AreEntriesOf tasks (set slots t slot) entries
 of_same tasks slots entries t old slot there is same h = record {
@@ -135,7 +135,7 @@ entry_apart m a ys b within apart =
     let third = part 8 (omega arith) in
     rw (first, second, third) refl
 
--- n bytes from an address on, of which so many are written
+-- n bytes from an address on, some of which are written
 pub meets_not : (x : KeptEntry) (a n : ℕ) → meets x a n ≡ false → (x.base + 12 ≤ a) ⊎ (a + n ≤ x.base)
 meets_not x a n h = elim (cases_lt a (x.base + 12)) [
   | inl lt ↦ let t : ltb a (x.base + 12) ≡ true = lt-ltb _ _ lt in inr (ltb-false _ _ (rw t at h))
@@ -165,7 +165,7 @@ of_left tasks slots low span old new a n h left = record {
   readable = λ i x k. h.readable i x (left.there i x k);
 }
 
--- a write that is not caught meets none
+-- a write that the watch does not catch overlaps no kept entry
 pub none_met : (m : Memory) (low span : ℕ) (entries : Entries) (a n : ℕ) → AreFresh m low span entries → ((b : ℕ) → IsWatched low span b → (b + 12 ≤ a) ⊎ (a + n ≤ b)) → (i : ℕ) (x : KeptEntry) → kept_at entries i ≡ Some x → meets x a n ≡ false
 none_met m low span entries a n h missed i x k = elim (missed x.base (h.watched i x k)) [
   | inl below ↦ let t : ltb a (x.base + 12) ≡ false = le-ltb _ _ below in rw t refl
@@ -176,7 +176,7 @@ none_met m low span entries a n h missed i x k = elim (missed x.base (h.watched 
     and_false true = refl
     and_false false = refl
 
--- ## what one that is kept tells
+-- ## what a kept entry says
 
 pub kept_tells : (g : Setup) (k : Kept) (t : Turn) (low span : ℕ) (entries : Entries) (i : ℕ) (x : KeptEntry) (base : ℕ) → Shows g k t → AreFresh k.memory low span entries → AreEntriesOf k.setup.tasks k.slots entries → kept_at entries i ≡ Some x → x.base ≡ base → (bad_byte g i Read record { base = base; len = 12 } ≡ None) × (entry_at t.state.memory base ≡ x.entry)
 unfolding bad_byte

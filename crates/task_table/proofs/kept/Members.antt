@@ -22,7 +22,7 @@ use Rattle.task_table.proofs.kept.Steps.{free_kept}
 use Rattle.task_table.proofs.kept.Messages.{offered_kept}
 use Rattle.task_table.proofs.kept.Ordered.{as_many_priorities, own_places}
 
--- a slot of no task
+-- the slot of a task that does not exist
 pub no_slot : Slot
 no_slot = record {
   generation = record { number = 0 };
@@ -50,7 +50,7 @@ those_there test slots places words p h is = elim (cases_lt p (length slots)) [
   | inr past ↦ absurd (false≢true (sym (h.no_others p past) ∙ is))
 ]
 
--- a task that is not there is not ready
+-- a task that does not exist is not ready
 pub unready_past : (s : State) (i : ℕ) → length s.tasks ≤ i → is_ready s i ≡ false
 unfolding is_ready task_at
 unready_past s i past = ap (λ (x : Task). is_well x.health && is_none (call_of s i) && is_none (listen_of s i)) (get_or_past s.tasks i no_task past)
@@ -60,7 +60,7 @@ ready_kept g k t places words h those i there =
     let inside : i < length k.slots = omega (arith, there, h.many, h.count) in
     those.each i inside no_slot ∙ free_kept t.state i _ (h.tasks i inside no_slot)
 
--- ## who offers a call to whom
+-- ## which task offers a call to which server
 
 waits_for : (c : OpenCall) (k : ℕ) (p : Phase) → is_at k (cond (is_offered p) (Some (index_of c.server.number)) None) ≡ is_some (cond (eqb (index_of c.server.number) k && is_offered p) (Some c) None)
 waits_for c k Offered = by_index (eqb (index_of c.server.number) k)
@@ -96,13 +96,13 @@ offers_kept g k t server places words h sane small those i there =
 
 -- ## at first
 
--- none passes a test that each fails
+-- no task passes a test that each task fails
 pub none_at : {X : Type 0} (f : X → Slot) (test : Slot → Bool) → ((x : X) → test (f x) ≡ false) → (xs : List X) (i : ℕ) (d : Slot) → i < length (map f xs) → test (get_or (map f xs) i d) ≡ false
 none_at f test fails [] i d below = absurd (omega arith)
 none_at f test fails (x ∷ xs) zero d below = fails x
 none_at f test fails (x ∷ xs) (suc i) d below = none_at f test fails xs i d (omega (arith, below))
 
--- none offers a call where each waits for nothing
+-- if each task waits for nothing, no task offers a call
 pub no_offers : {X : Type 0} (f : X → Slot) (xs : List X) (slots : List Slot) (places : List ℕ) (sets : List TaskSet) → slots ≡ map f xs → ((x : X) → (f x).wait ≡ wait.Nothing) → length sets ≡ length slots → ((k i : ℕ) (d : TaskSet) → k < length sets → has (get_or sets k d).words i ≡ false) → AreOffers slots places sets
 no_offers f xs slots places sets e idle count none = record {
   count = count;

@@ -124,7 +124,7 @@ from-past_syscall c t (from_index.One i) h = ap One (present-past_syscall c t i 
 pub within-front : (m : Memory) (a k n : ℕ) → k ≤ n → IsWithin m a n → IsWithin m a k
 within-front m a k n h w = elim w [ inl r ↦ inl (within_ram-front m a n k r h) | inr x ↦ inr (x.0, omega arith) ]
 
--- what is read does not stand in the kernel
+-- the kernel does not keep what was read
 pub holds_looked : (g : Setup) (k : Kept) (t : Turn) (r : Read) → Shows g k t → Shows g k (looked r t)
 unfolding looked
 holds_looked g k t r h = record {
@@ -155,7 +155,7 @@ holds_copied g k t on from to n setup memory h same e = record {
   memory = e ∙ ap (λ m. copied_memory m from to n) h.memory;
 }
 
--- the setup that is kept stays
+-- the setup that the kernel keeps does not change
 pub setup_copied : (f : List ℕ → ℕ → Setup) (m new : Memory) (from to n : ℕ) → IsWithinRam m to n → new ≡ copied_memory m from to n → f new.flash (length new.ram) ≡ f m.flash (length m.ram)
 unfolding copied_memory
 setup_copied f m new from to n within e =

@@ -1,4 +1,4 @@
--- What a window of four regions leaves of the kernel.
+-- What a window of four regions changes of the kernel, and what it leaves.
 use Rattle.std.proofs.Common.{◌≡◌, ◌<◌, ◌⊎◌, inl, inr, ℕ, zero, suc, List, [], ◌∷◌, Contains, Bool, true, false, length, Option, Some, refl, ◌∙◌, ap, subst, sym, arith}
 use Rattle.std.proofs.lemmas.Bool.{false≢true}
 use Rattle.std.proofs.lemmas.List.{nil_from_length}
@@ -18,7 +18,7 @@ use Rattle.task_table.specs.declared.entry.KeptEntry.{KeptEntry}
 use Rattle.task_table.proofs.kept.KeptEntries.{fresh_stored}
 use Rattle.task_table.proofs.kept.Steps.{kept_same, setup_stored}
 
--- bytes that stand in memory from an address on
+-- memory that has these bytes from an address on
 pub holds_overlaid : (g : Setup) (k : Kept) (t : Turn) (a : ℕ) (bytes : List ℕ) (setup : Setup) (memory : Memory) → Shows g k t → setup ≡ k.setup → memory ≡ with_bytes k.memory a bytes → Shows g record k { setup = setup; memory = memory } (overlaid a bytes t)
 unfolding task_at call_of listen_of
 holds_overlaid g k t a bytes setup memory h same e = record {
@@ -85,7 +85,7 @@ pub lent_or_not : {B : Type 0} (did : Doing B) (r : Bool) (m : Memory) (flash ra
 lent_or_not did true m flash ram area second b b' m' lent kept = inr (overlaid_by did m flash ram area second b b' m' (lent refl))
 lent_or_not did false m flash ram area second b b' m' lent kept = inl (kept refl)
 
--- the setup that is kept stays
+-- the setup that the kernel keeps does not change
 setup_over : (f : List ℕ → ℕ → Setup) (rs : List (ℕ × ℕ)) (m m' : Memory) → AreOverlaid rs m m' → f m'.flash (length m'.ram) ≡ f m.flash (length m.ram)
 setup_over f [] m m' e = rw e refl
 setup_over f (r ∷ rs) m m' o = setup_over f rs (with_bytes m r.0 o.0) m' o.3 ∙ setup_stored f m (with_bytes m r.0 o.0) r.0 o.0 o.2 refl

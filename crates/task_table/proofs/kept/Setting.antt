@@ -1,4 +1,4 @@
--- A part of a state becomes as it is told, and what is kept of it is what is told.
+-- A part of a state is set, and the kernel keeps what was set.
 use Rattle.std.proofs.Common.{◌≡◌, ◌+◌, ◌-◌, ◌*◌, ◌/◌, ◌%◌, ◌<◌, ◌≤◌, ◌⊎◌, inl, inr, ℕ, true, false, List, [], ◌∷◌, length, take, Option, Some, None, refl, sym, ◌∙◌, ap, arith, eqb, leb, ltb, cond, IfSome}
 use Rattle.std.proofs.lemmas.Bool.{ne_eqb, eq-eqb, lt-leb, le-leb, ltb-true, false≢true, cases_lt}
 use Rattle.kernel_abi.specs.declared.TaskId.{TaskId}
@@ -44,7 +44,7 @@ from_again from_id.Kernel h = refl
 listen_again : (i : ℕ) (l : Listening) → ((id : TaskId) → l.from ≡ from_id.One id → id.number < 65536) → kept_listen (listen_told i l) ≡ l
 listen_again i l h = ap (λ f. record l { from = f }) (from_again l.from h)
 
--- ## a call that is open besides
+-- ## one more open call
 
 call_of-with_open_call : (s : State) (c : Call) (i : ℕ) → c.client.index ≡ i → call_of s i ≡ None → call_of (with_open_call c s) i ≡ Some c
 unfolding call_of with_open_call
@@ -74,9 +74,9 @@ listen_open : (s : State) (c : Call) (i : ℕ) → listen_of (with_open_call c s
 unfolding listen_of with_open_call
 listen_open s c i = refl
 
--- ## a task as a slot tells it
+-- ## the task of a slot
 
--- the client of a call that is told of task i is it
+-- the client of a call that is set for task i is task i
 told_client : (i : ℕ) (slot : Slot) (c : OpenCall) → i < 1024 → IsTold i slot → slot.wait ≡ wait.Call c → (call_told c).client.index ≡ i
 told_client i slot c small h e = let n = h.client c e in omega (arith, n, small)
 
@@ -85,7 +85,7 @@ same_but-with_wait i s (wait.Call c) h = same_but-with_open_call s (call_told c)
 same_but-with_wait i s (wait.Listen l) h = same_but-with_listen s (listen_told i l)
 same_but-with_wait i s wait.Nothing h = same_but_here i s
 
--- but for task i it is the state, whatever that task was
+-- the rest of the state does not depend on what task i was before
 pub same_but-with_slot : (s : State) (i : ℕ) (old : Task) (slot : Slot) → i < 1024 → IsTold i slot → IsSameBut i (with_task i old s) (with_slot i slot s)
 unfolding with_slot
 same_but-with_slot s i old slot small h =
@@ -175,7 +175,7 @@ holds_set_next_call g k t n h = record {
 
 -- ## a byte
 
--- where it is held
+-- if memory has the byte
 pub held_cases : (m : Memory) (a : ℕ) → is_held m a ≡ true → ((0x20000000 ≤ a) × (a + 1 ≤ 0x20000000 + length m.ram)) ⊎ ((a < 0x20000000) × (0x08000000 ≤ a) × (a + 1 ≤ 0x08000000 + length m.flash))
 held_cases m a h = elim (cases_lt a 0x20000000) [
   | inl low ↦

@@ -19,7 +19,7 @@ use Rattle.task_table.specs.model.Sane.{Sane, IsSaneTask, IsFaultKnown, IsCounte
 use Rattle.task_table.specs.model.Start.{start, born, begun}
 use Rattle.task_table.specs.kept.Parts.{IsSound, setup_of_parts, task_setup}
 
--- what holds of each item at its place holds of the one that is born there
+-- what is true of each task at birth is true of the task at each index
 at_place : (P : Task → Type 0) (xs : List TaskSetup) (i : ℕ) (d : TaskSetup) → i < length (map born xs) → ((x : TaskSetup) → x ≡ get_or xs i d → P (born x)) → P (get_or (map born xs) i no_task)
 at_place P [] i d lt all = absurd (omega arith)
 at_place P (x ∷ xs) zero d lt all = all x refl

@@ -1,4 +1,4 @@
--- How a change of the code's kernel follows one of the turn.
+-- How a change of the code's kernel corresponds to one of the turn.
 use Rattle.std.proofs.Common.{◌≡◌, ◌≢◌, ◌<◌, ◌≤◌, ◌+◌, ◌-◌, ℕ, Bool, true, false, ◌&&◌, List, [], ◌∷◌, ◌++◌, length, Option, Some, None, inl, inr, refl, sym, ◌∙◌, ap, subst, get_or, set, get_or-set_same, get_or-set_other, length-set, IfSome, is_some, is_none}
 use Rattle.std.specs.Option.{option_map}
 use Rattle.std.proofs.lemmas.Bool.Decides.{eqb_tells}
@@ -18,7 +18,7 @@ use Rattle.task_table.specs.declared.slot.Slot.{Slot}
 use Rattle.task_table.specs.declared.slot.Wait.TheVariants as wait
 use Rattle.task_table.proofs.model.Changes.{task_at-with_task, call_of-with_task, listen_of-with_task, call_of-without_call, listen_of-without_call, task_at-without_call, call_of-without_listen, listen_of-without_listen, task_at-without_listen}
 
--- what is kept of a task depends on that task, its call and its listen alone
+-- the slot of a task depends only on that task, its call and its listen
 packed_by : (u s : State) (i : ℕ) → task_at u i ≡ task_at s i → call_of u i ≡ call_of s i → listen_of u i ≡ listen_of s i → packed u i ≡ packed s i
 packed_by u s i t c l = rw (t, c, l)
 
@@ -68,7 +68,7 @@ holds_slot g k t u i slot slots h there e kept same = record {
   next_call = h.next_call ∙ sym same.next_call;
 }
 
--- what is kept of a task but for its timer
+-- the slot of a task except its timer
 kept_timer : (s u : State) (i : ℕ) (old slot : Slot) → IsKept s i old → IsKept u i slot → TimersAlike i s u → IsKept u i record slot { timer = old.timer }
 kept_timer s u i old slot was kept same =
     let timer : old.timer ≡ (task_at u i).timer = ap (λ (o : Slot). o.timer) was.is ∙ sym same in
@@ -79,7 +79,7 @@ holds_timer_kept g k t u i old slot slots h there is e kept same timers =
     let was = subst (λ (o : Slot). IsKept t.state i o) (sym is) (h.tasks i there old) in
     holds_slot g k t u i record slot { timer = old.timer } slots h there e (kept_timer t.state u i old slot was kept timers) same
 
--- what is kept of a task but for its health, its wait and its timer
+-- the slot of a task except its health, its wait and its timer
 kept_rest : (s u : State) (i : ℕ) (old rest : Slot) → IsKept s i old → IsKept u i rest → WaitsAlike i s u → TimersAlike i s u → IsKept u i record rest { health = old.health; wait = old.wait; timer = old.timer }
 kept_rest s u i old rest was kept alike timers =
     let health : old.health ≡ (task_at u i).health = ap (λ (o : Slot). o.health) was.is ∙ sym alike.health in
@@ -93,14 +93,14 @@ holds_rest g k t u i old rest slots h there is e kept same alike timers =
     let was = subst (λ (o : Slot). IsKept t.state i o) (sym is) (h.tasks i there old) in
     holds_slot g k t u i record rest { health = old.health; wait = old.wait; timer = old.timer } slots h there e (kept_rest t.state u i old rest was kept alike timers) same
 
--- what is kept of a task that changed, which waits as before
+-- the slot of a task that changed, but whose wait did not
 pub kept_task : (s : State) (i : ℕ) (x : Task) (old slot : Slot) → i < length s.tasks → IsKept s i old → slot ≡ packed_task x (wait_of (call_of s i) (listen_of s i)) → IsKept (with_task i x s) i slot
 kept_task s i x old slot there kept is = record {
   is = rw (task_at-with_task, call_of-with_task, listen_of-with_task) is;
   alone = rw (call_of-with_task, listen_of-with_task) kept.alone;
 }
 
--- ## what a wait tells
+-- ## what a wait says
 
 -- what is found where an option is mapped
 pub some_mapped : {A B : Type 0} (f : A → B) (o : Option A) (b : B) → option_map f o ≡ Some b → (a : A) × (o ≡ Some a) × (f a ≡ b)
@@ -138,7 +138,7 @@ call_kept s i slot h = ap (λ (o : Slot). call_in o.wait) h.is ∙ call_of_wait 
 pub listen_kept : (s : State) (i : ℕ) (slot : Slot) → IsKept s i slot → listen_in slot.wait ≡ option_map kept_listen (listen_of s i)
 listen_kept s i slot h = ap (λ (o : Slot). listen_in o.wait) h.is ∙ listen_of_wait (call_of s i) (listen_of s i) h.alone
 
--- a task that listens is client of no call; one that does not has no listen
+-- a task that listens is client of no call; a task that does not listen has no listen
 listens_alone : (co : Option Call) (lo : Option Listen) → IfSome co (λ c. lo ≡ None) → is_some (option_map kept_listen lo) ≡ true → co ≡ None
 listens_alone None lo alone h = refl
 listens_alone (Some c) lo alone h = absurd (false≢true (rw alone at h))
@@ -250,7 +250,7 @@ holds_now g k t n h e = record {
   now = ap (λ (x : ℕ). x + 1) e;
 }
 
--- a line changes; the setup knows only how many there are
+-- a line changes; the setup has only the number of lines
 pub holds_line : (g : Setup) (k : Kept) (t : Turn) (n : ℕ) (line : Line) (setup : Setup) → Shows g k t → setup ≡ k.setup → Shows g record k { setup = setup; lines = set k.lines n line } (with_line n line t)
 unfolding with_line task_at call_of listen_of
 holds_line g k t n line setup h e = record {
@@ -266,12 +266,12 @@ holds_line g k t n line setup h e = record {
   lines = ap (λ xs. set xs n line) h.lines;
 }
 
--- a line that is not there stays away
+-- if there is no such line, nothing changes
 pub line_away : (t : Turn) (n : ℕ) (line : Line) → length t.state.lines ≤ n → with_line n line t ≡ t
 unfolding with_line
 line_away t n line h = ap (λ xs. record t { state = record t.state { lines = xs } }) (set_past t.state.lines n line h)
 
--- the turn's number is kept by the board
+-- the board keeps the number of the turn
 pub holds_turn : (g : Setup) (k : Kept) (t : Turn) (n : ℕ) → Shows g k t → Shows g k record t { state = record t.state { turn = n } }
 unfolding task_at call_of listen_of
 holds_turn g k t n h = record {
@@ -302,7 +302,7 @@ holds_stored g k t on a bytes setup memory h same e = record {
   memory = e ∙ ap (λ m. with_bytes m a bytes) h.memory;
 }
 
--- so the setup that is kept stays
+-- so the setup that the kernel keeps does not change
 pub setup_stored : (f : List ℕ → ℕ → Setup) (m new : Memory) (a : ℕ) (bytes : List ℕ) → IsWithinRam m a (length bytes) → new ≡ with_bytes m a bytes → f new.flash (length new.ram) ≡ f m.flash (length m.ram)
 setup_stored f m new a bytes within e =
     let ram : length new.ram ≡ length m.ram = ap (λ x. length x.ram) e ∙ length-with_bytes m a bytes within in

@@ -26,11 +26,11 @@ bit_some : (n k : ℕ) → bit_at n k ≡ 1 → 0 < n
 bit_some zero k e = absurd (omega (arith, e, bit_at-zero k))
 bit_some (suc n) k e = omega arith
 
--- a bit of a word that stands alone
+-- a word with a single set bit
 has_bit : (n k : ℕ) → k < 32 → has (one n) k ≡ eqb (bit_at n k) 1
 has_bit n k below = let same : 0 * 32 + k ≡ k = omega arith in ap (has (one n)) (sym same) ∙ has_in (one n) 0 k below
 
--- ## what a summary tells
+-- ## what a summary says
 
 told_none : (words : List ℕ) (s w : ℕ) → IsSummary words s → has (one s) w ≡ false → get_or words w 0 ≡ 0
 told_none words s w h none = elim (eqb_tells (get_or words w 0) 0) [
@@ -99,7 +99,7 @@ summary_removed words s place left there low none h w =
 
 -- ## whether there is a member
 
--- ## the least bit from one on
+-- ## the least set bit from a position on
 
 cut_of : (bits from : ℕ) → from < 32 → (k : ℕ) → k < 32 → bit_at (bit_and bits ((2 ^ 32 - 1) * 2 ^ from % 2 ^ 32)) k ≡ cond (leb from (0 * 32 + k)) (bit_at bits k) 0
 cut_of bits from low k below =
@@ -177,7 +177,7 @@ lowest n some small =
       λ i above under. has_bit n i (omega (arith, under, z.0)) ∙ ap (λ (b : ℕ). eqb b 1) (z.2 i under),
     )
 
--- a word that the summary tells of is there
+-- a word for which the summary has a bit exists
 pub there_of : (words : List ℕ) (s w : ℕ) → IsSummary words s → has (one s) w ≡ true → w < length words
 there_of words s w h is = elim (cases_lt w (length words)) [
   | inl lt ↦ lt
@@ -232,7 +232,7 @@ used_of (suc n) lead small is =
           has_bit (suc n) w low ∙ ap (λ (b : ℕ). eqb b 1) (ap (bit_at (suc n)) here ∙ top_bit (suc n) j top.2 top.3);
     }
 
--- two sets have the same members of a word that is the same in both
+-- if a word is the same in two sets, they have the same members in it
 pub same_word : (xs ys : List ℕ) (i : ℕ) → get_or xs (i / 32) 0 ≡ get_or ys (i / 32) 0 → has xs i ≡ has ys i
 unfolding has
 same_word xs ys i same = rw same refl

@@ -104,7 +104,7 @@ has_removed words place i there =
 
 -- ## the least member from a place on
 
--- the bits of word w that tell of places at or above one
+-- the bits of word w for the places at or above a place
 abbrev pub IsCutAt : List ℕ → ℕ → ℕ → ℕ → Type 0
 IsCutAt words from w bits = (k : ℕ) → k < 32 → bit_at bits k ≡ cond (leb from (w * 32 + k)) (bit_at (get_or words w 0) k) 0
 

@@ -10,11 +10,11 @@ use Rattle.task_table.specs.kept.Readiness.{is_client_of, AreThose, AreOffers}
 use Rattle.task_table.specs.declared.slot.Slot.{Slot}
 use Rattle.task_table.specs.declared.task_set.TaskSet.{TaskSet}
 
--- a list that is written back whole
+-- a list that is written back without a change
 pub front : {X : Type 0} (n : ℕ) (xs ys : List X) → length xs ≡ n → take n (xs ++ drop (length xs) ys) ≡ xs
 front n xs ys count = let inside : n ≤ length xs = omega (arith, count) in let whole : length xs ≤ n = omega (arith, count) in take-append-le n xs (drop (length xs) ys) inside ∙ take_all n xs whole
 
--- the set follows what is kept of the task
+-- the set is brought up to date with the slot of the task
 pub those_set : (test : Slot → Bool) (slots : List Slot) (places : List ℕ) (i : ℕ) (slot : Slot) (words new : List ℕ) → AreThose test slots places words → ArePlaces (length slots) places → i < length slots
     → ((p : ℕ) → has new p ≡ cond (eqb p (place_in places i)) (test slot) (has words p)) → AreThose test (set slots i slot) places new
 those_set test slots places i slot words new h own there follows = record {
@@ -35,7 +35,7 @@ those_set test slots places i slot words new h own there follows = record {
       rw away at (follows p) ∙ h.no_others p out;
 }
 
--- or stays, where the test says the same of it
+-- or the set does not change, if the test gives the same for both slots
 pub those_same : (test : Slot → Bool) (slots : List Slot) (places : List ℕ) (i : ℕ) (old slot : Slot) (words : List ℕ) → AreThose test slots places words → i < length slots → old ≡ get_or slots i old → test slot ≡ test old
     → AreThose test (set slots i slot) places words
 those_same test slots places i old slot words h there is same = record {

@@ -67,7 +67,7 @@ module _ (g : Setup) (c : ℕ) (t : Turn) (h : Sane g t.state) (inside : c < len
     alive : (u : Turn) → IsAlive t.state c u k.number
     alive u = inl (k, taken.here, refl)
 
-    -- it is open as taken still, where the calls stayed
+    -- the call is still open and taken, if the calls did not change
     still : (u : Turn) → u.state.calls ≡ t.state.calls → IsOpenAs u.state k.number Taken
     still u same = (k, subst (λ calls. Contains calls k) (sym same) taken.here, refl, taken.phase)
 
@@ -87,7 +87,7 @@ module _ (g : Setup) (c : ℕ) (t : Turn) (h : Sane g t.state) (inside : c < len
     still_after : (lease : ℕ) (e : LeaseEntry) → (entry_read k lease e t).state.calls ≡ t.state.calls
     still_after lease e = ap (λ (s : State). s.calls) (state-looked (entry lease e) t)
 
-    -- the entry of a lease that it has, as memory has it, where the lender may read it
+    -- the entry of a lease of the call, as memory has it, if the lender may read it
     record IsThere (lease : ℕ) (e : LeaseEntry) : Type 0 where
       there : lease < k.leases
       is : grant t.state k lease ≡ e
@@ -96,7 +96,7 @@ module _ (g : Setup) (c : ℕ) (t : Turn) (h : Sane g t.state) (inside : c < len
     abbrev lent : (lease : ℕ) (e : LeaseEntry) → IsThere lease e → IsLent t.state c k.number e
     lent lease e h = record { call = k; taken = taken; lease = lease; there = h.there; in_memory = h.is }
 
-    -- it is read; then the borrower may fault still
+    -- the entry is read; the borrower may still fault after that
     reads_entry : (lease : ℕ) (e : LeaseEntry) → IsThere lease e → Leads g c t (entry_read k lease e t)
     reads_entry lease e h = one (Looks (entry lease e) t (alive t, record { lent = lent lease e h; base = refl; len = refl; may = λ a low high. may-read g k.client.index (entry_range k lease) a h.readable (low, high) }), tt)
 
@@ -110,7 +110,7 @@ module _ (g : Setup) (c : ℕ) (t : Turn) (h : Sane g t.state) (inside : c < len
     denies_after : (lease : ℕ) (e : LeaseEntry) → IsThere lease e → (y : ℕ) (bad : Option ℕ) → Comes g c t (denied g c y bad (entry_read k lease e t))
     denies_after lease e h y bad = faults_after lease e h _ (omega arith) (omega arith)
 
-  -- ## the bytes of a lease move, once all is checked
+  -- ## the bytes of a lease move after all checks
 
   abbrev Moving : Way → BorrowArgs → Type 0
   Moving way x =
@@ -189,7 +189,7 @@ module _ (g : Setup) (c : ℕ) (t : Turn) (h : Sane g t.state) (inside : c < len
   pub comes-written : Comes g c t (borrowed g writing c t)
   comes-written = borrows writing (λ offset n. tt) write_moves
 
-  -- ## what it gets for a lease
+  -- ## what the borrower gets for a lease
 
   informs : (lease i : ℕ) (o : Option Call) → taken_by t.state i c ≡ o → Comes g c t (informed_by g c lease o t)
   informs lease i None found = uninforms 1 t (Here t)

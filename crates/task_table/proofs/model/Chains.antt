@@ -1,10 +1,10 @@
--- What holds along a chain, and how chains are made.
+-- What is true along a chain, and how chains are made.
 use Rattle.std.proofs.Common.{List, [], ◌∷◌, zero, suc, refl, arith}
 use Rattle.std.specs.Prelude.{Contains, fold}
 use Rattle.task_table.specs.model.State.{Turn}
 use Rattle.task_table.specs.model.Chain.{Chain, Here, More}
 
--- what each thing keeps, all keep
+-- what each change keeps, a chain of them keeps
 pub chain_keeps : (R : Turn → Turn → Type 0) (P : Turn → Type 0) → ((u v : Turn) → R u v → P u → P v) → (t u : Turn) → Chain R t u → P t → P u
 chain_keeps R P step _ _ (Here t) h = h
 chain_keeps R P step _ _ (More t u v c s) h = step u v s (chain_keeps R P step t u c h)
@@ -14,7 +14,7 @@ pub joined : (R : Turn → Turn → Type 0) (t u v : Turn) → Chain R t u → C
 joined R t _ _ a (Here u) = a
 joined R t _ _ a (More u v w b s) = More t v w (joined R t u v a b) s
 
--- where each thing is itself a chain of others
+-- a chain whose changes are themselves chains
 pub refined : (R Q : Turn → Turn → Type 0) → ((u v : Turn) → R u v → Chain Q u v) → (t u : Turn) → Chain R t u → Chain Q t u
 refined R Q f _ _ (Here t) = Here t
 refined R Q f _ _ (More t u v c s) = joined Q t u v (refined R Q f t u c) (f u v s)

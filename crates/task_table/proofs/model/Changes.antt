@@ -1,4 +1,4 @@
--- What is read off a state after a change.
+-- The functions of a state after a change of it.
 use Rattle.std.proofs.Common.{◌≡◌, ◌≢◌, ◌<◌, ℕ, false, cond, not, List, [], ◌∷◌, length, Some, None, inl, inr, refl, sym, ◌∙◌, ap, eqb, get_or-set_same, get_or-set_other, length-set}
 use Rattle.std.specs.Prelude.{find, filter}
 use Rattle.std.proofs.lemmas.Bool.{ne_eqb}
@@ -99,7 +99,7 @@ same_but-with_task s i x = record {
   devices = refl;
 }
 
--- it waits as before
+-- the wait of the task does not change
 pub waits_alike : (s : State) (i : ℕ) (x : Task) → i < length s.tasks → x.health ≡ (task_at s i).health → WaitsAlike i s (with_task i x s)
 waits_alike s i x there well = record {
   health = ap (λ (y : Task). y.health) (task_at-with_task s i x there) ∙ well;
@@ -107,7 +107,7 @@ waits_alike s i x there well = record {
   listen = listen_of-with_task s i i x;
 }
 
--- its timer is as before
+-- the timer of the task does not change
 pub timers_alike : (s : State) (i : ℕ) (x : Task) → i < length s.tasks → x.timer ≡ (task_at s i).timer → TimersAlike i s (with_task i x s)
 timers_alike s i x there same = ap (λ (y : Task). y.timer) (task_at-with_task s i x there) ∙ same
 
@@ -163,7 +163,7 @@ same_but-without_listen s i = record {
   devices = refl;
 }
 
--- one change after another, and none
+-- one change after another; no change
 pub same_but_then : (i : ℕ) (s u v : State) → IsSameBut i s u → IsSameBut i u v → IsSameBut i s v
 same_but_then i s u v a b = record {
   count = b.count ∙ a.count;

@@ -31,7 +31,7 @@ find_none f (x ∷ xs) never =
     let here : f x ≡ false = never x (zero, omega arith, refl) in
     rw here (find_none f xs (λ y h. never y (contains_more x y xs h)))
 
--- a finer test than one that one element alone passes
+-- a test that implies another one, which only one element passes
 find_finer_none : {X : Type 0} (p f : X → Bool) (xs : List X) → ((x : X) → f x ≡ true → p x ≡ true) → find p xs ≡ None → find f xs ≡ None
 find_finer_none p f xs finer h = find_none f xs (λ x inside. false_from_ne_true (f x) (λ t. not_found p xs x h inside (finer x t)))
 
@@ -100,7 +100,7 @@ pub taken_by_call : (g : Setup) (s : State) (i j : ℕ) (c : Call) → Sane g s 
 unfolding taken_by is_call
 taken_by_call g s i j c sane h = call_by_call is_taken g s i j c sane h
 
--- what a call is that is found so
+-- what is known of a call that is found like this
 pub record IsCallOf (g : Setup) (s : State) (i j : ℕ) (c : Call) : Type 0 where
   pub call : call_of s i ≡ Some c
   pub client : c.client ≡ present s i

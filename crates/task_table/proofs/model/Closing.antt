@@ -22,7 +22,7 @@ use Rattle.task_table.proofs.model.Moves.{plain_one, IsOutside, taken_over, Move
 use Rattle.task_table.proofs.model.Happens.{chain_moves}
 use Rattle.task_table.proofs.model.Grounding.{one_in, honest_alive, chain_honest}
 
--- a call with a number that s has given was open in s; who is offered in the turn has a later number
+-- a call whose number was used in s was open in s; a call that is offered in the turn has a later number
 pub record NoneReopened (s : State) (u : Turn) : Type 0 where
   pub from : s.next_call ≤ u.state.next_call
   pub open_before : (call : Call) → Contains u.state.calls call → (s.next_call ≤ call.number) ⊎ IsOpen s call.number
@@ -100,9 +100,9 @@ module _ (z : State) where
   move_reopened g s c _ _ (Takes on k buffer u t) h = reopened-taken on k buffer u h
   move_reopened g s c _ _ (Closes i ending u ends) h = reopened-closed i ending u h
 
--- ## so what is closed stays so
+-- ## so a closed call stays closed
 
--- where nothing has happened yet
+-- at the beginning of a turn
 pub fresh_reopened : (s : State) (u : Turn) → IsFresh s u → NoneReopened s u
 fresh_reopened s u f = record {
   from = let next = f.next_call in omega arith;
@@ -125,7 +125,7 @@ same_some e = cc
 pub none_some : {A : Type 0} {b : ℕ} → None ≡ Some b → A
 none_some e = cc
 
--- no turn from s touches it
+-- no turn from s touches a closed call
 pub closed_silent : (s : State) (c : ℕ) (u : Turn) → NoneReopened s u → AreAlive s c u → (k : ℕ) → IsClosed s k → IsSilent u k
 closed_silent s c u h alive k gone w here = λ e. by_ground (call_of_ground w.on) (alive.written w here) e
   where

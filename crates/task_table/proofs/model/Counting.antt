@@ -1,4 +1,4 @@
--- Effects leave the turn, the time and the next call's number alone; a chain of steps makes at most one call.
+-- Effects do not change the turn, the time or the number of the next call. A chain of steps makes at most one call.
 use Rattle.std.proofs.Common.{◌+◌, ℕ, Bool, true, false, cond, List, refl, ◌∙◌, arith, eqb, length-set}
 use Rattle.kernel_abi.specs.declared.Ending.TheVariants.{Client}
 use Rattle.kernel_abi.specs.declared.Fault.{Fault}
@@ -23,7 +23,7 @@ use Rattle.task_table.proofs.model.Happens.{chain_moves}
 pub time-joined : (s u v : State) → IsSameTime s u → IsSameTime u v → IsSameTime s v
 time-joined s u v a b = record { count = b.count ∙ a.count; turn = b.turn ∙ a.turn; now = b.now ∙ a.now; next_call = b.next_call ∙ a.next_call }
 
--- what stands aside leaves the time alone
+-- changes that do not touch calls and memory do not change the time
 pub time-aside : (u v : Turn) → IsAside u v → IsSameTime u.state v.state
 time-aside u v a = record { count = a.outside.count; turn = a.outside.turn; now = a.now; next_call = a.outside.next_call }
 

@@ -91,7 +91,7 @@ answered-goes_on c t inside sixteen =
       reads = refl;
     }
 
--- the program counter is none of the results
+-- results do not change the program counter
 counter_kept : (values registers : List ℕ) → length registers ≡ 16 → length values ≤ 6 → slice_index (with_results values registers) 15 ≡ slice_index registers 15
 counter_kept values registers sixteen few = kept_at values registers 15 sixteen few (omega arith) (omega arith)
 

@@ -1,4 +1,4 @@
--- What happens to devices keeps a state sane.
+-- Changes of devices keep a state sane.
 use Rattle.std.proofs.Common.{◌<◌, ℕ, List, inl, inr, sym, subst}
 use Rattle.kernel_abi.specs.Devices.{DeviceData, AreSaneDevices}
 use Rattle.kernel_abi.proofs.Devices.{sane_devices_loaded, sane_devices_stored, sane_devices_fed}

@@ -1,4 +1,4 @@
--- What effects leave alone: who waits, and other tasks.
+-- What effects do not change: which tasks wait, and other tasks.
 use Rattle.std.proofs.Common.{◌≡◌, ℕ, Bool, true, false, ◌&&◌, List, [], ◌∷◌, Option, Some, None, inl, inr, refl, ◌∙◌, eqb, bit_and, cond, is_none}
 use Rattle.std.proofs.lemmas.Bool.Decides.{eqb_tells}
 use Rattle.std.proofs.lemmas.Bool.{false≢true, and_parts}
@@ -14,7 +14,7 @@ pub none_is : {A : Type 0} (o : Option A) → is_none o ≡ true → o ≡ None
 none_is None h = refl
 none_is (Some x) h = absurd (false≢true h)
 
--- who is ready waits for nothing
+-- a ready task waits for nothing
 pub idle-ready : (s : State) (i : ℕ) → is_ready s i ≡ true → IsIdle s i
 unfolding is_ready
 idle-ready s i h =
@@ -41,7 +41,7 @@ ready-same i s u same h = rw (same.task, same.call, same.listen) h
 pub idle-same : (i : ℕ) (s u : State) → IsSameAt i s u → IsIdle s i → IsIdle u i
 idle-same i s u same h = record { call = same.call ∙ h.call; listen = same.listen ∙ h.listen }
 
--- a task that waits for nothing does so after results are given to it, and once it has taken bits
+-- a task that waits for nothing still does after results are given to it, and after it has taken bits
 pub idle-given : (i j : ℕ) (values : List ℕ) (t : Turn) → IsIdle t.state i → IsIdle (given j values t).state i
 unfolding given
 idle-given i j values t h = record { call = call_of-with_task t.state j i _ ∙ h.call; listen = listen_of-with_task t.state j i _ ∙ h.listen }

@@ -1,4 +1,4 @@
--- Each write of a turn stands on its ground, and each read and each touch is of a call that is alive.
+-- The task has the ground of each write of its turn, and each call that it reads for or touches is alive.
 use Rattle.std.proofs.Common.{◌≡◌, ◌+◌, ◌<◌, ◌≤◌, ◌⊎◌, inl, inr, ℕ, zero, suc, true, List, [], ◌∷◌, ◌++◌, length, Option, Some, None, refl, sym, ap, ◌∙◌, arith, IfSome, min}
 use Rattle.std.specs.Prelude.{Contains}
 use Rattle.std.proofs.lemmas.Bool.{false≢true}
@@ -32,7 +32,7 @@ pub record IsMoved (g : Setup) (s : State) (c : ℕ) (u v : Turn) : Type 0 where
   pub read : (r : Read) → Contains v.reads r → Contains u.reads r ⊎ (IsAlive s c v r.call × IsRightRead g s c r r.part)
   pub touches : (n : Note) → Contains v.notes n → Contains u.notes n ⊎ IfSome (touched n) (IsAlive s c v)
 
--- what is alive stays so
+-- a call that is alive stays alive
 alive_stays : (s : State) (c : ℕ) (u v : Turn) (k : ℕ) → ((n : Note) → Contains u.notes n → Contains v.notes n) → IsAlive s c u k → IsAlive s c v k
 alive_stays s c u v k more h = elim h [ inl a ↦ inl a | inr b ↦ inr (b.0, more (note.Offer k c b.0) b.1) ]
 

@@ -56,7 +56,7 @@ module _ {M F T : ℕ → Type 0} {W : ℕ → ℕ → Type 0} {g : Setup} where
       keeps-memory (with_bytes m to bytes) h (flash-with_bytes m to bytes front) (written_bytes m to bytes h.steady.bytes (all_bytes_at m from n h.steady.flash_bytes h.steady.bytes))
       (placed_same g m (with_bytes m to bytes) h.steady.placed (flash-with_bytes m to bytes front) (length-with_bytes m to bytes front))
 
-  -- F: of all clients it is said, or of all but that of the call, that no offer fits a listen
+  -- F: no offer fits a listen, required for all clients, or for all except the client of the call
   pub keeps-handed : (on : Ground) (c : Call) (buffer : Slice) (t : Turn) → IsSaneBut M F T W g t.state → ((j : ℕ) → j ≢ c.client.index → F j) → c.server.index < length t.state.tasks → IsWithinRam t.state.memory buffer.base buffer.len → IsSaneBut M Every T W g (handed on c buffer t).state
   unfolding handed looked with_taken without_listen noted copied
   keeps-handed on c buffer t h but inside within =

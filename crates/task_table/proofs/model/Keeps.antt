@@ -64,13 +64,13 @@ one_in : {X : Type 0} (y x : X) → Contains (y ∷ []) x → x ≡ y
 one_in y x (zero, lt, same) = let e : y ≡ x = same in sym e
 one_in y x (suc k, lt, same) = absurd (omega arith)
 
--- what stands in a list with one more stood there, or is that one
+-- an item of a list with one more item is in the old list, or is the new one
 pub added_in : {X : Type 0} (xs : List X) (y x : X) → Contains (xs ++ y ∷ []) x → Contains xs x ⊎ (x ≡ y)
 added_in xs y x h = elim (Contains-append_cases xs (y ∷ []) x h) [ inl a ↦ inl a | inr b ↦ inr (one_in y x b) ]
 
 -- ## one task changes
 
--- what holds of the task as it was and as it is, holds after the change
+-- what is true of each task before the change and of the new task is true after the change
 pub task_rule : (P : ℕ → Task → Type 0) (s : State) (i : ℕ) (x : Task) (j : ℕ) → i < length s.tasks → (j ≡ i → P j x) → (j ≢ i → P j (task_at s j)) → P j (task_at (with_task i x s) j)
 task_rule P s i x j inside here other =
     elim (eqb_tells j i) [
@@ -98,7 +98,7 @@ pub idle_listen : (s : State) (i : ℕ) (l : Listen) → listen_of s i ≡ None 
 unfolding listen_of
 idle_listen s i l none here e = not_found (λ (m : Listen). eqb m.task i) s.listens l none here (eq-eqb _ _ e)
 
--- a task as good as before; its health may change if it waits for nothing
+-- the task stays as sane as before; its health may change if it waits for nothing
 pub record IsAsGood (M T : ℕ → Type 0) (s : State) (i : ℕ) (x : Task) : Type 0 where
   pub births : x.births ≡ (task_at s i).births
   pub health : (x.health ≡ (task_at s i).health) ⊎ IsIdle s i
@@ -246,7 +246,7 @@ keeps-with_listen {s = s} l h fit well idle named unmet unfit = record {
 
 -- ## a call is taken
 
--- F: it is said of all clients, or of all but this one; then it is said of all
+-- F: required for all clients, or for all except this one; after the change it is true for all
 pub keeps-with_taken : {M F T : ℕ → Type 0} {W : ℕ → ℕ → Type 0} {g : Setup} {s : State} (i : ℕ) → IsSaneBut M F T W g s → ((j : ℕ) → j ≢ i → F j) → IsSaneBut M Every T W g (with_taken i s)
 unfolding with_taken task_at line_at
 keeps-with_taken {s = s} i h but = record {
@@ -290,7 +290,7 @@ keeps-with_taken {s = s} i h but = record {
     taken_not_offered : Taken ≡ Offered → ⊥
     taken_not_offered e = cc
 
--- ## memory, who is current, the turn
+-- ## memory, the current task, the turn
 
 pub keeps-memory : {M F T : ℕ → Type 0} {W : ℕ → ℕ → Type 0} {g : Setup} {s : State} (m : Memory) → IsSaneBut M F T W g s → m.flash ≡ s.memory.flash → AreAllBytes m.ram → ArePlaced g m → IsSaneBut M F T W g record s { memory = m }
 unfolding task_at line_at
@@ -326,7 +326,7 @@ keeps-lines lines h owned = record {
   ahead = h.ahead;
 }
 
--- the time goes on; then nothing is said of timers
+-- the time advances; the property of timers is no longer required
 pub keeps-now : {M F T : ℕ → Type 0} {W : ℕ → ℕ → Type 0} {g : Setup} {s : State} (now : ℕ) → IsSaneBut M F T W g s → IsSaneBut M F (λ i. ⊥) W g record s { now = now }
 unfolding task_at line_at
 keeps-now now h = record {

@@ -65,7 +65,7 @@ apart_same s v e n h = record {
   number = λ c d x y. h.number c d (rw e at x) (rw e at y);
 }
 
--- a number that is not there is no call's
+-- a number that does not occur is that of no call
 no_call_at : (s : State) → AreApart s → (c : Call) → Contains s.calls c → (j : ℕ) → c.number ≡ j → (j ≡ 0) ⊎ (s.next_call ≤ j) → ⊥
 no_call_at s a c here j e out = let f = a.from c here in let b = a.below c here in elim out [ inl x ↦ omega arith | inr x ↦ omega arith ]
 
@@ -181,7 +181,7 @@ stays_open s i c here ne = elim (eqb_tells c.client.index i) [
   | inr other ↦ filter_has (λ (d : Call). not (eqb d.client.index i)) s.calls c here (ap not other.0)
 ]
 
--- what was not closed lives on
+-- a call that was not closed keeps its life
 live-rest : (s : State) (i j : ℕ) (l : Life) → ((c : Call) → Contains s.calls c → c.number ≡ j → c.client.index ≢ i) → Lives s j l → Lives (without_call i s) j l
 live-rest s i j l ne h = go l h
   where
@@ -240,7 +240,7 @@ as_noted_on old ns new s v apart lives h = record {
   lives = λ k. rw (← append_assoc old ns new, lived_on k New (old ++ ns) new) (lives k (lived k New (old ++ ns)) (h.lives k));
 }
 
--- a plain note says nothing of a call
+-- a plain note says nothing about a call
 plain_says : (n : Note) → is_plain n ≡ true → saying n ≡ Nothing
 plain_says (note.Offer call client server) h = absurd (false≢true h)
 plain_says (note.Take call copied) h = absurd (false≢true h)

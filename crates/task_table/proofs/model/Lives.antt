@@ -39,7 +39,7 @@ takes_at_most Wrong = 0
 abbrev bit : Bool → ℕ
 bit b = cond b 1 0
 
--- one saying adds to the counts just what the life does
+-- one saying adds to the counts exactly what it adds to those of the life
 record Counted (m : Life) (l : Life) (o t c : ℕ) : Type 0 where
   offers : o + offers_in l ≡ offers_in m
   takes : t + takes_at_most l ≤ takes_at_most m
@@ -102,7 +102,7 @@ counted_one k (Closes call ending) l h = go (eqb call k) h
     go false h = counted_none l
 counted_one k Nothing l h = counted_none l
 
--- what is wrong stays wrong
+-- a wrong life stays wrong
 same_either : {A : Type 0} (b : Bool) (x : A) → cond b x x ≡ x
 same_either true x = refl
 same_either false x = refl
@@ -117,7 +117,7 @@ pub wrong_stays : (k : ℕ) (ns : List Note) → lived k Wrong ns ≡ Wrong
 wrong_stays k [] = refl
 wrong_stays k (n ∷ ns) = ap (λ l. lived k l ns) (wrong_after k (saying n)) ∙ wrong_stays k ns
 
--- a closed call is not held again
+-- a closed call is never taken or offered again
 over_after : (k : ℕ) (x : Saying) → (after k x Over ≡ Over) ⊎ (after k x Over ≡ Wrong)
 over_after k (Offers call) = go (eqb call k)
   where
@@ -187,7 +187,7 @@ begun_offers s k Held h one lt = refl
 begun_offers s k Over h one lt = refl
 begun_offers s k Wrong h one lt = absurd h
 
--- and elsewhere not
+-- and no other number has a life
 unbegun_offers : (s : State) (k : ℕ) (l : Life) → AreApart s → Lives s k l → (k ≡ 0) ⊎ (s.next_call ≤ k) → offers_in l ≡ 0
 unbegun_offers s k New a h out = refl
 unbegun_offers s k Waiting a h out = absurd (outside s k a h.0 h.1 h.2 out)

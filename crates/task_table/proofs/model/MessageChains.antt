@@ -37,7 +37,7 @@ found_taken s i c k e =
     let two = and_parts (eqb k.client.index i) (eqb k.server.index c) both.0 in
     record { here = r.0; number = refl; server_is = eqb-true _ _ two.1; phase = taken_phase k.phase both.1 }
 
--- its client has no other
+-- its client has no other call
 call_taken : {g : Setup} (s : State) → Sane g s → (k : Call) → Contains s.calls k → k.phase ≡ Taken → IfSome (call_of s k.client.index) (λ d. d.phase ≡ Taken)
 unfolding call_of
 call_taken s h k here taken = go (find (λ (d : Call). eqb d.client.index k.client.index) s.calls) refl

@@ -1,4 +1,4 @@
--- What happens to calls, to memory and to what is noted of them; and what stands aside.
+-- What changes calls, memory and the notes about them; and changes that do not touch these.
 use Rattle.std.proofs.Common.{◌≡◌, ◌+◌, ℕ, zero, suc, Bool, true, false, cond, List, [], ◌∷◌, ◌++◌, length, Option, Some, None, refl, sym, ◌∙◌, ap, arith, eqb, bit_and, append_assoc, append-nil, length-set, min}
 use Rattle.std.specs.Prelude.{Contains, fold}
 use Rattle.kernel_abi.specs.Devices.{DeviceData}
@@ -17,9 +17,9 @@ use Rattle.task_table.specs.model.Effects.{with_task, without_listen, with_liste
 use Rattle.task_table.specs.model.Grounds.{Lies, MayChange, IsAlive, IsRightRead, IsReached}
 use Rattle.task_table.specs.model.Step.{is_plain, IsOpenAs, IsMoved, IsNew, MayChangeAll, Ends}
 
--- ## what stands aside
+-- ## changes that do not touch calls and memory
 
--- no note of them speaks of a call
+-- none of these notes is about a call
 abbrev pub ArePlain : List Note → Type 0
 ArePlain [] = Unit {0}
 ArePlain (n ∷ ns) = (is_plain n ≡ true) × ArePlain ns
@@ -33,8 +33,8 @@ plain_one [] n a h = absurd (omega (arith, h.1))
 plain_one (x ∷ xs) n a (zero, lt, same) = let e : x ≡ n = same in rw (← e) a.0
 plain_one (x ∷ xs) n a (suc k, lt, same) = plain_one xs n a.1 (k, omega arith, same)
 
--- calls, memory, the number of tasks and the turn's number stay, nothing is written and nobody's bytes are read, and
--- what is noted is plain
+-- calls, memory, the number of tasks and the number of the turn stay; no byte is written, and no byte of another
+-- task is read; each new note is plain
 pub record IsOutside (u v : Turn) : Type 0 where
   pub calls : v.state.calls ≡ u.state.calls
   pub next_call : v.state.next_call ≡ u.state.next_call
@@ -84,7 +84,7 @@ pub aside-noted : (n : Note) (u : Turn) → is_plain n ≡ true → IsAside u (n
 unfolding noted
 aside-noted n u h = record { outside = outside-noted n u h; now = refl; devices = refl }
 
--- only the tasks, the listens, the lines or who is current change
+-- only the tasks, the listens, the lines or the current task change
 outside_state : (u : Turn) (s : State) → s.calls ≡ u.state.calls → s.next_call ≡ u.state.next_call → s.memory ≡ u.state.memory → s.turn ≡ u.state.turn → length s.tasks ≡ length u.state.tasks → IsOutside u record u { state = s }
 outside_state u s a b m t c = record { calls = a; next_call = b; memory = m; turn = t; count = c; writes = refl; reads = refl; new = []; notes = sym (append-nil u.notes); plain = tt }
 
@@ -131,7 +131,7 @@ pub aside-processor : (i : ℕ) (registers : List ℕ) (flags : Flags) (u : Turn
 unfolding with_processor with_task
 aside-processor i registers flags u = aside_state u _ refl refl refl refl (length-set u.state.tasks i _) refl refl
 
--- devices are outside of all that
+-- a change of devices does not touch any of that
 pub outside-devices : (devices : List DeviceData) (u : Turn) → IsOutside u (with_devices devices u)
 unfolding with_devices
 outside-devices devices u = outside_state u _ refl refl refl refl refl

@@ -1,4 +1,4 @@
--- Nothing that was noted is taken back, and a step notes at most four lines; a restart two for each task besides.
+-- No note is removed, and a step makes at most four notes. A restart makes two more for each task.
 use Rattle.std.proofs.Common.{◌≡◌, ◌≢◌, ◌+◌, ◌*◌, ◌%◌, ◌<◌, ◌≤◌, ℕ, zero, suc, Bool, true, false, cond, List, [], ◌∷◌, ◌++◌, length, Option, Some, None, refl, sym, ◌∙◌, ap, arith, eqb, bit_and, bit_or, append_assoc, append-nil, length-append}
 use Rattle.std.specs.Prelude.{fold}
 use Rattle.std.specs.List.{range_with_len}

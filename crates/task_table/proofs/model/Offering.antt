@@ -26,7 +26,7 @@ use Rattle.task_table.proofs.model.Ranges.{within_ram-good}
 
 -- ## a call is offered
 
--- of its client alone nothing is said of fitting a listen
+-- only for its client it is not required that no offer fits a listen
 pub keeps-with_call : {F T : ℕ → Type 0} {W : ℕ → ℕ → Type 0} {g : Setup} {s : State} (c : Call) → IsSaneBut Every Every T W g s → IsFitCall g c → c.number ≡ s.next_call → (task_at s c.client.index).health ≡ Well → IsIdle s c.client.index → (task_at s c.client.index).births ≡ c.client.birth → (task_at s c.server.index).births ≡ c.server.birth → (F c.client.index → ⊥) → IsSaneBut Every F T W g (with_call c s)
 unfolding with_call task_at line_at
 keeps-with_call {s = s} c h fit number well idle client server apart = record {
@@ -81,7 +81,7 @@ same_listen : (s : State) (k : Call) (i : ℕ) → listen_of (with_call k s) i �
 unfolding with_call listen_of
 same_listen s k i = refl
 
--- then it is taken at once, or fits no listen
+-- then the call is taken at once, or fits no listen
 pub sane-offers : {g : Setup} (k : Call) (t : Turn) → Sane g t.state → IsFitCall g k → k.number ≡ t.state.next_call → (task_at t.state k.client.index).health ≡ Well → IsIdle t.state k.client.index → (task_at t.state k.client.index).births ≡ k.client.birth → (task_at t.state k.server.index).births ≡ k.server.birth → Sane g (offers_call k t).state
 unfolding offered noted
 sane-offers {g} k t h fit number well idle client server = by_listen (listen_of t.state k.server.index) refl
@@ -148,7 +148,7 @@ fold_keeps P f a (suc n) b h step =
     let e : a + 1 + n ≡ a + suc n = omega arith in
     rw e at (fold_keeps P f (a + 1) n (f b a) (step a b (omega arith) (omega arith) h) (λ k x from below. step k x (omega arith) (omega arith)))
 
--- of the waits for task i it is said of those of the tasks below k alone
+-- of the waits for task i, only those of the tasks below k are required to be for a present birth
 Below : ℕ → ℕ → ℕ → ℕ → Type 0
 Below i k w p = p ≡ i → w < k
 

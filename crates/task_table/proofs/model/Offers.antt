@@ -1,4 +1,4 @@
--- What offers a receiver finds, and that its best sender is none only where nothing is offered.
+-- Which offers a receiver finds. It has no best sender only if no call is offered to it.
 use Rattle.std.proofs.Common.{◌≡◌, ◌≢◌, ◌+◌, ◌-◌, ◌<◌, ◌≤◌, ◌⊎◌, inl, inr, ℕ, zero, suc, Bool, true, false, not, ◌&&◌, ◌||◌, List, [], ◌∷◌, length, Option, Some, None, refl, arith, eqb, leb, is_some}
 use Rattle.std.specs.Prelude.{Contains, find}
 use Rattle.std.specs.List.{range_with_len, list_all}
@@ -35,7 +35,7 @@ offer_is s i c k e =
     let ends = and_parts (eqb k.client.index i) (eqb k.server.index c) both.0 in
     record { here = r.0; client_is = eqb-true _ _ ends.0; server_is = eqb-true _ _ ends.1; offered = offered_phase k.phase both.1 }
 
--- where a client offers none, an offered call is another's
+-- if a client offers no call, an offered call is that of another client
 pub no_offer : (s : State) (i c : ℕ) (k : Call) → offer_by s i c ≡ None → Contains s.calls k → k.phase ≡ Offered → k.server.index ≡ c → k.client.index ≢ i
 unfolding offer_by offers_to
 no_offer s i c k none here offered server = λ client. not_found (offers_to i c) s.calls k none here (rw (eq-eqb _ _ client, eq-eqb _ _ server, offered) refl)
@@ -61,7 +61,7 @@ all_or_not f (x ∷ xs) = elim (cases_Bool (f x)) [
   | inr b ↦ inr (x, (zero, omega arith, refl), b)
 ]
 
--- where some pass, some with the least key do
+-- if some items pass a test, one with the least key does
 least : (p : ℕ → Bool) (key : ℕ → ℕ) (xs : List ℕ) (m i : ℕ) → Contains xs i → p i ≡ true → key i < m → (j : ℕ) × Contains xs j × (p j ≡ true) × (list_all (λ k. not (p k) || leb (key j) (key k)) xs ≡ true)
 least p key xs zero i here pass lt = absurd (omega arith)
 least p key xs (suc m) i here pass lt = elim (all_or_not (λ k. not (p k) || leb (key i) (key k)) xs) [
@@ -89,7 +89,7 @@ some_none (Some x) h e = absurd (none_some e)
     none_some : {B : Type 0} {b : B} → Some b ≡ None → ⊥
     none_some e = cc
 
--- what a receive from any asks of the best sender: where it offers nothing, no call is offered
+-- what RECV from any task requires of the best sender: if it offers no call, no call is offered
 abbrev pub IsBestOf : State → ℕ → Option ℕ → Type 0
 IsBestOf s c best = (k : Call) → offer_of s c best ≡ None → Contains s.calls k → k.phase ≡ Offered → k.server.index ≡ c → ⊥
 

@@ -1,4 +1,4 @@
--- How often something stands in a list that changes.
+-- How often an item is in a list that changes.
 use Rattle.std.proofs.Common.{◌≡◌, ◌+◌, ◌≤◌, ℕ, Bool, true, false, cond, List, [], ◌∷◌, ◌++◌, Some, None, inl, inr, refl, ap, arith, eqb}
 use Rattle.std.specs.Prelude.{find, filter, map}
 use Rattle.std.specs.List.{count_by}
@@ -40,7 +40,7 @@ none_of {X} p (x ∷ xs) h = by_test (p x) refl h (λ none. none_of p xs none)
 pushed : {X : Type 0} (p : X → Bool) (xs : List X) (x : X) → count_by p (xs ++ x ∷ []) ≡ count_by p xs + bit (p x)
 pushed p xs x = let all = sum_by-append (λ y. cond (p y) 1 0) xs (x ∷ []) in let last = counted p x [] in omega (arith, all, last)
 
--- what has a new key stands there once
+-- an item with a new key is in the list once
 pub once_more : {X : Type 0} (key : X → ℕ) (xs : List X) (x : X) → ((i : ℕ) → count_by (λ y. eqb (key y) i) xs ≤ 1) → find (λ y. eqb (key y) (key x)) xs ≡ None → (i : ℕ) → count_by (λ y. eqb (key y) i) (xs ++ x ∷ []) ≤ 1
 once_more key xs x once none i =
     let more = pushed (λ y. eqb (key y) i) xs x in

@@ -1,5 +1,5 @@
--- How a system call comes out: its caller faults, or goes on by steps that spare it, or restarts a task and goes on; and devices
--- stay.
+-- The outcomes of a system call: its caller faults; or it goes on after steps that do not fault it; or it restarts
+-- a task and goes on. Devices do not change.
 use Rattle.std.proofs.Common.{◌≡◌, ◌≢◌, ◌<◌, ◌≤◌, inl, ℕ, Bool, true, false, cond, List, length, Option, refl, ◌∙◌, arith}
 use Rattle.kernel_abi.specs.declared.Ending.TheVariants.{Client}
 use Rattle.kernel_abi.specs.declared.Fault.{Fault}
@@ -30,7 +30,7 @@ chain-outcome g s c _ _ (GoesAfterRestart i start values u inside other there fe
 abbrev pub Made : Setup → State → ℕ → Turn → Turn → Type 0
 Made g s c u v = (step : Step g s c u v) × SparesDevices step
 
--- what leads from t to u by such steps, and what may come of t in its turn
+-- what leads from t to u by such steps, and what turn t may become
 abbrev pub Leads : Setup → ℕ → Turn → Turn → Type 0
 Leads g c t u = Chain (Made g t.state c) t u
 

@@ -1,4 +1,4 @@
--- What comes from outside stands aside: a tick and an interrupt write nothing, and touch no call.
+-- Events from outside do not touch calls or memory: a tick and an interrupt write nothing, and touch no call.
 use Rattle.std.proofs.Common.{◌≡◌, ◌+◌, ℕ, Bool, true, false, cond, length, Option, Some, None, refl, ◌∙◌, leb}
 use Rattle.std.specs.List.{range_with_len}
 use Rattle.kernel_abi.specs.declared.Handled.TheVariants.{Posted, Held, Unowned}
@@ -35,7 +35,7 @@ now-clocked : (t : Turn) → (clocked t).state.now ≡ t.state.now + 1
 unfolding clocked noted
 now-clocked t = refl
 
--- the time is one more
+-- the time advances by one
 pub now-ticked : (t : Turn) → (ticked t).state.now ≡ t.state.now + 1
 now-ticked t = (all_expired t).now ∙ now-clocked t
 

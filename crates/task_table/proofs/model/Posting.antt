@@ -17,7 +17,7 @@ use Rattle.task_table.proofs.model.Keeps.{idle_listen, found_in, keeps-with_task
 pub still : {M F T M' F' T' : ℕ → Type 0} {W W' : ℕ → ℕ → Type 0} {g : Setup} {s u : State} {i : ℕ} → IsSaneBut M F T W g s → IsSaneBut M' F' T' W' g u → i < length s.tasks → i < length u.tasks
 still a b inside = rw (b.steady.as_many, ← a.steady.as_many) inside
 
--- more is said of posted bits, or less
+-- the property of posted bits, required for more tasks or for fewer
 pub with_unmet : {M M' F T : ℕ → Type 0} {W : ℕ → ℕ → Type 0} {g : Setup} {s : State} → IsSaneBut M F T W g s → AreUnmet M' s → IsSaneBut M' F T W g s
 with_unmet h u = record { steady = h.steady; well = h.well; present = h.present; unmet = u; unfit = h.unfit; ahead = h.ahead }
 
@@ -110,7 +110,7 @@ unfolding listen_of
 found_listen s i l h = let r = found_in (λ (m : Listen). eqb m.task i) s.listens l h in (r.0, eqb-true _ _ r.1)
 
 module _ {F T : ℕ → Type 0} {W : ℕ → ℕ → Type 0} {g : Setup} where
-  -- once bits are added, nothing is said of the mask of that task
+  -- after bits are added, nothing is required of the mask of that task
   keeps-added : (i bits : ℕ) (t : Turn) → IsSaneBut Every F T W g t.state → i < length t.state.tasks → IsSaneBut (but i) F T W g (bits_added i bits t).state
   unfolding bits_added noted but
   keeps-added i bits t h inside =

@@ -18,7 +18,7 @@ ready_same s = record { count = refl; health = λ i. refl; ready = λ i. refl; c
 pub ready_then : (s u v : State) → IsAsReady s u → IsAsReady u v → IsAsReady s v
 ready_then s u v a b = record { count = b.count ∙ a.count; health = λ i. b.health i ∙ a.health i; ready = λ i. b.ready i ∙ a.ready i; current = b.current ∙ a.current }
 
--- ## a task changed but for its health
+-- ## a task changed, except its health
 
 set_either : (xs : List Task) (k j : ℕ) (x : Task) → x.health ≡ (get_or xs k no_task).health → (get_or (set xs k x) j no_task).health ≡ (get_or xs j no_task).health
 set_either [] k j x e = refl
@@ -64,7 +64,7 @@ more-closed : (i : ℕ) (ending : Ending) (u : Turn) (k : Call) → call_of u.st
 unfolding closed
 more-closed i ending u k e = rw e (one_longer u.notes _)
 
--- where a task has no call there is none to close, and where it has one, its end is noted
+-- if a task has no call, there is none to close; if it has one, its end is noted
 ready-closed : (i : ℕ) (ending : Ending) (u : Turn) (o : Option Call) → call_of u.state i ≡ o → length (closed i ending u).notes ≤ length u.notes → IsAsReady u.state (closed i ending u).state
 ready-closed i ending u None e few = rw (closed_none i ending u e) (ready_same u.state)
 ready-closed i ending u (Some k) e few = absurd (not_more few (more-closed i ending u k e))

@@ -33,7 +33,7 @@ ram_byte m base size a w from below = elim w [ inl none ↦ absurd (omega arith)
 a_byte : (m : Memory) (base size a : ℕ) → IsWithin m base size → base ≤ a → a < base + size → IsWithin m a 1
 a_byte m base size a w from below = elim w [ inl r ↦ inl (ram_byte m base size a r from below) | inr x ↦ inr (omega arith, omega arith) ]
 
--- a byte that a region which is no device gives lies in flash or in RAM
+-- a byte of a region that is not a device lies in flash or in RAM
 pub within-given : (g : Setup) (m : Memory) (i : ℕ) (right : Right) (a : ℕ) → ArePlaced g m → may_copy (setup_at g i).regions right a ≡ true → IsWithin m a 1
 within-given g m i right a placed h =
     let found = Any-from_list_any (gives_copy right a) (setup_at g i).regions h in
@@ -55,7 +55,7 @@ one_in_ram m a w = elim w [ inl none ↦ absurd (omega arith) | inr x ↦ (x.0, 
 one_in : (m : Memory) (a : ℕ) → IsWithin m a 1 → ((0x20000000 ≤ a) × (a < 0x20000000 + length m.ram)) ⊎ ((0x08000000 ≤ a) × (a < 0x08000000 + length m.flash))
 one_in m a w = elim w [ inl r ↦ inl (one_in_ram m a r) | inr x ↦ inr (x.0, omega arith) ]
 
--- bytes in a row, each in memory, lie in one of the two
+-- consecutive bytes that all lie in memory lie in one of the two
 pub within-bytes : (m : Memory) (base n : ℕ) → length m.flash ≤ 1048576 → ((a : ℕ) → base ≤ a → a < base + n → IsWithin m a 1) → IsWithin m base n
 within-bytes m base zero small h = inl (inl refl)
 within-bytes m base (suc n) small h =

@@ -1,4 +1,4 @@
--- What going past a system call leaves alone, and what the tests of RECV tell.
+-- What going past a system call does not change, and what the tests of RECV say.
 use Rattle.std.proofs.Common.{◌≡◌, ◌<◌, ℕ, Bool, true, false, not, ◌&&◌, ◌||◌, length, Option, Some, None, refl, sym, ◌∙◌, eqb, is_some}
 use Rattle.std.proofs.lemmas.Bool.{eqb-true, leb-false, false≢true, and_parts}
 use Rattle.kernel_abi.specs.Ids.{index_of}
@@ -10,7 +10,7 @@ use Rattle.task_table.specs.model.Effects.{with_task, past_syscall}
 use Rattle.task_table.proofs.model.Changes.{call_of-with_task, listen_of-with_task}
 use Rattle.task_table.proofs.model.Keeps.{task_rule, births_kept}
 
--- ## what an go_past_syscall leaves alone
+-- ## what go_past_syscall does not change
 
 pub births-past_syscall : (c : ℕ) (t : Turn) (j : ℕ) → c < length t.state.tasks → (task_at (past_syscall c t).state j).births ≡ (task_at t.state j).births
 unfolding past_syscall
@@ -75,7 +75,7 @@ no_any_birth e = cc
 pub one_birth : {a b : Birth} → One a ≡ One b → a ≡ b
 one_birth e = cc
 
--- a closed receive that is not from the kernel alone names another task that is there
+-- a closed receive that is not from the kernel only names another task that exists
 pub names_another : (closed kernel out own : Bool) → closed ≡ true → ((closed && not kernel) && (out || own)) ≡ false → (closed && kernel) ≡ false → (out ≡ false) × (own ≡ false)
 names_another true false false false a b d = (refl, refl)
 names_another true false false true a b d = absurd (false≢true (sym b))

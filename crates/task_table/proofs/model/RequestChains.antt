@@ -67,7 +67,7 @@ each_found P (o ∷ list) number each = by_number (eqb o.number number) each.0 (
     by_number true here rest = here
     by_number false here rest = rest
 
--- the supervisor, where a request may not be about it
+-- the supervisor, if a request may not be about it
 not_itself : (index : ℕ) (on_supervisor : Bool) → (eqb index 0 && not on_supervisor) ≡ false → on_supervisor ≡ false → index ≢ 0
 not_itself index true h e = absurd (false≢true (sym e))
 not_itself index false h e = λ zero. absurd (false≢true (sym (rw zero at h)))
@@ -75,7 +75,7 @@ not_itself index false h e = λ zero. absurd (false≢true (sym (rw zero at h)))
 module _ (g : Setup) (c : ℕ) (t : Turn) (h : Sane g t.state) (inside : c < length g.tasks) where
   -- ## what each request does
 
-  -- a request that c may give is done, and c goes on
+  -- a request that c may make is done, and c goes on
   abbrev IsDone : SendArgs → Request → Type 0
   IsDone x o = (index : ℕ) → index < length g.tasks → (o.on_supervisor ≡ false → index ≢ c) → o.reply ≤ x.reply_capacity → Comes g c t (goes_on_with c (0 ∷ o.reply ∷ []) (o.does g x index t))
 

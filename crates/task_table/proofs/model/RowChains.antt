@@ -1,4 +1,5 @@
--- Each row of each system call faults its caller, or is a chain of steps that spare it, or a restart: the one walk over the rows.
+-- Each row of each system call faults its caller, or is a chain of steps that do not fault it, or a restart. This
+-- is the only proof that goes through all rows.
 use Rattle.std.proofs.Common.{◌≡◌, ◌≢◌, ◌/◌, ◌%◌, ◌^◌, ◌<◌, ◌≤◌, ℕ, Bool, true, false, cond, not, ◌&&◌, ◌||◌, List, [], ◌∷◌, length, Option, Some, None, refl, sym, ◌∙◌, arith, eqb, leb, bit_and, is_some}
 use Rattle.std.specs.Prelude.{Contains, filter}
 use Rattle.std.specs.List.{list_any}

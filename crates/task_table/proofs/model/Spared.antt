@@ -1,4 +1,5 @@
--- What a step that spares its caller leaves of tasks: the births of each, and the health of whoever is not struck.
+-- What a step that does not fault its caller keeps: the births of each task, and the health of each task that does
+-- not fault.
 use Rattle.std.proofs.Common.{◌≡◌, ◌≢◌, ◌⊎◌, inl, inr, ◌%◌, ℕ, zero, suc, Bool, true, false, cond, List, [], ◌∷◌, length, Option, Some, None, refl, ◌∙◌, ap, eqb, bit_and, get_or, set}
 use Rattle.std.specs.Prelude.{fold}
 use Rattle.std.specs.List.{range_with_len}
@@ -147,7 +148,7 @@ module _ {A : Type 0} (part : Task → A) (decided : (x y : Task) → x.births �
 
   -- ## a task faults
 
-  -- a fault of task i leaves the part of task j: it is another task, or the part is none of its health
+  -- a fault of task i keeps the part of task j: j is another task, or the part is not of its health
   abbrev pub FaultsLeave : ℕ → Type 0
   FaultsLeave i = (j ≢ i) ⊎ ((x : Task) (fault : Fault) → part record x { health = Faulted fault } ≡ part x)
 

@@ -22,7 +22,7 @@ use Rattle.task_table.proofs.model.Offering.{fold_keeps}
 Upto : ℕ → ℕ → Type 0
 Upto k i = i < k
 
--- of one more task it is said that its timer is ahead
+-- the timer of one more task is known to be ahead
 one_more : {g : Setup} {s : State} (k : ℕ) → IsSaneBut Every Every (Upto k) Both g s → IfSome (task_at s k).timer (λ x. s.now < x.deadline) → IsSaneBut Every Every (Upto (k + 1)) Both g s
 unfolding Upto
 one_more {s = s} k h here = record {

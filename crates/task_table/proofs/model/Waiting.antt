@@ -1,4 +1,4 @@
--- What is read off a state once a listen is added, or a call is taken.
+-- The functions of a state after a listen is added, or a call is taken.
 use Rattle.std.proofs.Common.{◌≡◌, ◌≢◌, ℕ, Bool, true, false, cond, List, [], ◌∷◌, ◌++◌, Some, None, inl, inr, refl, sym, ◌∙◌, ap, eqb}
 use Rattle.std.specs.Prelude.{find, map}
 use Rattle.std.specs.Option.{option_map}

@@ -8,13 +8,13 @@ use Rattle.task_table.specs.model.State.{Setup, Turn}
 use Rattle.task_table.specs.model.Syscalls.{Meaning}
 use Rattle.task_table.specs.declared.kernel.Kernel.{Kernel}
 
--- a task may call: it is there and ready, and the turn has room for what the call notes
+-- a task may make a system call: it exists and is ready, and the turn has room for the notes of the call
 pub record MayCall (k : Kernel) (caller : ℕ) : Type 0 where
   pub there : caller < task_count k
   pub ready : (g : Setup) × (t : Turn) × Stands g k t × (is_ready t.state caller ≡ true)
   pub room : note_count k + syscall_notes ≤ turn_notes
 
--- a call of a task that is ready performs its row, and notes no more than a call may
+-- a system call of a ready task does what its rows say, and makes no more notes than a call may
 pub record Performs (row : Meaning) (old : Kernel) (caller : ℕ) (new : Kernel) : Type 0 where
   pub stands : (g : Setup) (t : Turn) → Stands g old t → is_ready t.state caller ≡ true → Stands g new (row g caller t)
   pub frame : AddsAtMost old syscall_notes new

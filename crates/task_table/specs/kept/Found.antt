@@ -6,7 +6,7 @@ use Rattle.task_table.specs.model.Reading.{task_at, is_out, is_dead}
 use Rattle.task_table.specs.declared.slot.Found.{Found}
 use Rattle.task_table.specs.declared.slot.Found.TheVariants.{Live, Dead, Out}
 
--- the task whose present birth it names; else the present generation of that task, else no task
+-- the task, if the id names its present birth; the task's present generation, if it names an earlier birth; or no task
 abbrev pub IsFound : State → ℕ → Found → Type 0
 IsFound s id (Live i) = (is_out s id ≡ false) × (is_dead s id ≡ false) × (i ≡ index_of id)
 IsFound s id (Dead g) = (is_out s id ≡ false) × (is_dead s id ≡ true) × (g.number ≡ (task_at s (index_of id)).births % 64)

@@ -1,4 +1,4 @@
--- When the code's kernel stands for what a turn has come to.
+-- When the code's kernel stands for a turn of the abstract kernel.
 use Rattle.std.specs.Prelude.{ℕ, ◌%◌, ◌<◌, ◌≡◌, Bool, true, false, ◌&&◌, List, length, map, Option, Some, None, IfSome, slice_index_or, ◌==◌, if◌then◌else◌}
 use Rattle.kernel_abi.specs.Ids.{id_of, index_of}
 use Rattle.kernel_abi.specs.declared.Note.{Note}
@@ -25,7 +25,7 @@ use Rattle.task_table.specs.model.Reading.{is_offered, is_taken, task_at, call_o
 abbrev pub id_at : Birth → TaskId
 id_at b = record { number = id_of b.index b.birth }
 
--- an open call and a listen, with ids in the place of births
+-- an open call and a listen, with ids instead of births
 abbrev pub kept_call : Call → OpenCall
 kept_call c =
     record {
@@ -54,7 +54,7 @@ wait_of (Some c) l = wait.Call (kept_call c)
 wait_of None (Some l) = wait.Listen (kept_listen l)
 wait_of None None = wait.Nothing
 
--- what is kept of a task that waits so: its births modulo 64
+-- the slot of a task with this wait; its number of births is kept modulo 64
 abbrev pub packed_task : Task → Wait → Slot
 packed_task task waits =
     record {
@@ -76,13 +76,13 @@ pub record IsKept (s : State) (i : ℕ) (slot : Slot) : Type 0 where
 
 -- ## what is read off a slot
 
--- the call for whose end it waits
+-- the call that the task waits to end
 abbrev pub call_in : Wait → Option OpenCall
 call_in (wait.Call c) = Some c
 call_in (wait.Listen l) = None
 call_in wait.Nothing = None
 
--- what it listens for
+-- what the task listens for
 abbrev pub listen_in : Wait → Option Listening
 listen_in (wait.Call c) = None
 listen_in (wait.Listen l) = Some l
@@ -106,7 +106,7 @@ taken_in (wait.Call c) server = if is_taken_at c server then Some c else None
 taken_in (wait.Listen l) server = None
 taken_in wait.Nothing server = None
 
--- a message of the task with an id is listened for, and into which buffer
+-- a message of the task with an id is accepted, and into which buffer it goes
 abbrev pub hears : FromId → TaskId → Bool
 hears from_id.Any client = true
 hears (from_id.One id) client = id.number == client.number
@@ -117,7 +117,7 @@ buffer_in (wait.Call c) client = None
 buffer_in (wait.Listen l) client = if hears l.from client then Some l.buffer else None
 buffer_in wait.Nothing client = None
 
--- the wait once its call is taken
+-- the wait after its call is taken
 abbrev pub taken_wait : Wait → Wait
 taken_wait (wait.Call c) = wait.Call record c { phase = Taken }
 taken_wait (wait.Listen l) = wait.Listen l
@@ -165,7 +165,7 @@ setup_of k =
       line_count = length k.lines;
     }
 
--- what of the code's kernel a turn shows
+-- the parts of the code's kernel that correspond to a turn
 pub record Kept : Type 0 where
   pub setup : Setup
   pub slots : List Slot
@@ -189,7 +189,7 @@ kept_of k =
       next_call = k.next_call;
     }
 
--- that is just what the turn has come to
+-- these parts are exactly those of the turn
 pub record Shows (g : Setup) (k : Kept) (t : Turn) : Type 0 where
   pub setup : k.setup ≡ g
   pub count : length k.slots ≡ length t.state.tasks
@@ -205,7 +205,7 @@ pub record Shows (g : Setup) (k : Kept) (t : Turn) : Type 0 where
 abbrev pub Holds : Setup → Kernel → Turn → Type 0
 Holds g k t = Shows g (kept_of k) t
 
--- it holds, and the state is sane
+-- the kernel holds the turn, and its state is sane
 pub record Stands (g : Setup) (k : Kernel) (t : Turn) : Type 0 where
   pub holds : Holds g k t
   pub sane : Sane g t.state

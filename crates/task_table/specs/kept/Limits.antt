@@ -1,4 +1,4 @@
--- How many of each thing there may be.
+-- Upper limits.
 use Rattle.std.specs.Prelude.{ℕ}
 
 -- tasks of an application

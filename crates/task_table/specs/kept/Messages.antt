@@ -1,4 +1,4 @@
--- What the code's kernel is handed about messages.
+-- What operations of the code's kernel on messages require.
 use Rattle.std.specs.Prelude.{ℕ, ◌≡◌, ◌<◌, ◌≤◌, ◌+◌, ◌*◌, Option, None, Some, if◌then◌else◌}
 use Rattle.std.specs.Option.{option_map}
 use Rattle.kernel_abi.specs.Arguments.{recv_args}
@@ -20,7 +20,7 @@ use Rattle.task_table.specs.model.Rows.{listened_from, buffer_of}
 use Rattle.task_table.specs.model.Sends.{message_of, reply_of}
 use Rattle.task_table.specs.kept.Holds.{Stands, kept_call}
 
--- whom a task listens to; a task that is named is one of n
+-- whose messages a task listens for; a task that is named has an index below n
 abbrev pub from_of : State → FromIndex → From
 from_of s from_index.Any = Any
 from_of s from_index.Kernel = KernelOnly
@@ -31,26 +31,26 @@ IsListened n from_index.Any = Unit {0}
 IsListened n from_index.Kernel = Unit {0}
 IsListened n (from_index.One i) = i < n
 
--- a task listens by the arguments of its call
+-- a task starts to listen, by the arguments of its system call
 abbrev pub listening : ℕ → RecvArgs → From → Turn → Turn
 listening c x from t =
     t
     ⨾ changed (with_listen record { task = c; from = from; mask = x.mask; buffer = buffer_of x })
     ⨾ noted (note.Listen c (listened_from from) x.mask)
 
--- the caller of RECV may have its buffer written
+-- the caller of RECV may write its buffer
 pub record IsReceiving (k : Kernel) (c : ℕ) : Type 0 where
   pub setup : Setup
   pub turn : Turn
   pub stands : Stands setup k turn
   pub writable : bad_byte setup c Write (buffer_of (recv_args (arguments turn.state c))) ≡ None
 
--- a client offers this call to it besides
+-- and a client offers this call to it
 pub record IsReceivable (k : Kernel) (c client : ℕ) (call : OpenCall) : Type 0 where
   pub receiving : IsReceiving k c
   pub offered : option_map kept_call (offer_by receiving.turn.state client c) ≡ Some call
 
--- the buffer of a listen that is open to a client
+-- the buffer of a listen that accepts a client
 abbrev pub buffer_for : Birth → Option Listen → Option Slice
 buffer_for client None = None
 buffer_for client (Some l) = if admits l.from client then Some l.buffer else None
@@ -79,7 +79,7 @@ pub record IsLent (k : Kernel) (lender borrower : ℕ) (call : OpenCall) : Type 
   pub stands : Stands setup k turn
   pub taken : option_map kept_call (taken_by turn.state lender borrower) ≡ Some call
 
--- an entry of its table, which the lender may read, is what memory has there
+-- and an entry of the call's lease table, which the lender may read, is what memory has there
 pub record IsRead (k : Kernel) (lender borrower : ℕ) (call : OpenCall) (x : KeptEntry) : Type 0 where
   pub lent : IsLent k lender borrower call
   pub listed : x.lease < call.leases

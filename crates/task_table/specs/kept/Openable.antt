@@ -8,21 +8,21 @@ use Rattle.task_table.specs.model.State.{TaskSetup}
 abbrev pub span_of : Region → ℕ × ℕ
 span_of r = (r.base, r.size)
 
--- each region of a task that is no device was given to the memory
+-- each region of a task that is not a device was given to the memory
 abbrev pub AreOpenable : List (ℕ × ℕ) → List TaskSetup → Type 0
 AreOpenable given tasks = (task : TaskSetup) (r : Region) → Contains tasks task → Contains task.regions r → r.rights.device ≡ false → Contains given (span_of r)
 
--- one of some regions that is no device, and has bytes
+-- one of these regions, which is not a device and is not empty
 pub record IsUsable (regions : List Region) (r : Region) : Type 0 where
   pub here : Contains regions r
   pub no_device : r.rights.device ≡ false
   pub some : 0 < r.size
 
--- such a one in the RAM, or none
+-- such a region in the RAM, or none
 abbrev pub IsUsableOrNone : List Region → Region → Type 0
 IsUsableOrNone regions r = IsNoRegion (span_of r) ⊎ (IsUsable regions r × (0x20000000 ≤ r.base))
 
--- four of some regions: one in the flash, and three in the RAM, of which each may be none
+-- four of these regions: one in the flash, and three different ones in the RAM, of which each may be none
 pub record AreUsable (regions : List Region) (flash ram area second : Region) : Type 0 where
   pub flash_usable : IsUsable regions flash
   pub below : flash.base < 0x20000000

@@ -31,7 +31,7 @@ pub record AreOrdered (priorities keys places : List ℕ) : Type 0 where
   pub place : (p : ℕ) → p < length priorities → place_in places (key_in keys p % 1024) ≡ p
   pub rising : (p q : ℕ) → p < q → q < length priorities → key_in keys p < key_in keys q
 
--- each of n tasks has a place below n, and no two have the same
+-- each of n tasks has a place below n, and no two have the same place
 pub record ArePlaces (n : ℕ) (places : List ℕ) : Type 0 where
   pub count : length places ≡ n
   pub below : (i : ℕ) → i < n → place_in places i < n
@@ -41,25 +41,25 @@ pub record ArePlaces (n : ℕ) (places : List ℕ) : Type 0 where
 abbrev pub has_task : List ℕ → List ℕ → ℕ → Bool
 has_task places words i = has words (place_in places i)
 
--- a set of places in the order of some tasks has just those of which a test holds
+-- a set of places in the order of these tasks has exactly those tasks for which a test is true
 pub record AreAtPlaces (tasks : List TaskSetup) (order : Order) (words : List ℕ) (test : ℕ → Bool) : Type 0 where
   pub ordered : AreOrdered (priorities_of tasks) order.keys.items order.places.items
   pub each : (i : ℕ) → i < length tasks → has_task order.places.items words i ≡ test i
 
--- it is among them, and none of them has a lower priority number
+-- a task passes a test, and no task that passes it has a lower priority number
 abbrev pub is_lowest : List ℕ → (ℕ → Bool) → ℕ → ℕ → Bool
 is_lowest priorities among n i = among i && list_all (λ j. not (among j) || nat_le (priority_at priorities i) (priority_at priorities j)) (range_with_len 0 n)
 
--- of n tasks the first of those from a task on, cyclically
+-- the first of those tasks, cyclically from a task on, of n tasks
 unfoldable pub first_around : List ℕ → (ℕ → Bool) → ℕ → ℕ → Option ℕ
 first_around priorities among n from = find (is_lowest priorities among n) (around n from)
 
--- the least place from which on no key is below one
+-- the least place from which on no key is below this key
 pub record IsPlaceOf (keys : List ℕ) (key place : ℕ) : Type 0 where
   pub below : (p : ℕ) → p < place → key_in keys p < key
   pub above : (p : ℕ) → place ≤ p → p < length keys → key ≤ key_in keys p
 
--- the key of the first place of a set from one on, where it has this priority number, or else another key
+-- the key at the first place of a set from a place on, if it has this priority number, or else another key
 abbrev pub IsKeyOf : List ℕ → ℕ → ℕ → ℕ → Option ℕ → Type 0
 IsKeyOf keys priority other key None = key ≡ other
 IsKeyOf keys priority other key (Some found) = key ≡ (if key_in keys found / 1024 == priority then key_in keys found else other)
@@ -74,7 +74,7 @@ abbrev pub keyed : ℕ → List ℕ → List ℕ
 keyed k [] = []
 keyed k (p ∷ ps) = (1024 * p + k) ∷ keyed (k + 1) ps
 
--- whether a key is of a task, as a number
+-- 1 if a key is that of a task, else 0
 abbrev pub is_of : ℕ → ℕ → ℕ
 is_of task key = if key % 1024 == task then 1 else 0
 
@@ -82,6 +82,6 @@ is_of task key = if key % 1024 == task then 1 else 0
 abbrev pub AreOnce : List ℕ → Type 0
 AreOnce keys = (task : ℕ) → sum_by (is_of task) keys ≤ 1
 
--- the tasks of the first n keys have their places
+-- the tasks of the first n keys have the places of these keys
 abbrev pub HavePlaces : List ℕ → ℕ → List ℕ → Type 0
 HavePlaces keys n places = (p : ℕ) → p < n → place_in places (key_in keys p % 1024) ≡ p

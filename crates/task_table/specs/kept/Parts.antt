@@ -1,4 +1,4 @@
--- The setup that the parts of an image spell, and when it is sound.
+-- The setup that the parts of an image give, and when it is sound.
 use Rattle.std.specs.Prelude.{ℕ, ◌<◌, List, length, map}
 use Rattle.task_table.specs.declared.start.TaskStart.{TaskStart}
 use Rattle.task_table.specs.declared.start.LineStart.{LineStart}
@@ -26,7 +26,7 @@ setup_of_parts memory fault_bits tasks lines =
       line_count = board_lines;
     }
 
--- what a sound image gives: a task, regions and owners that are there, and bytes of flash
+-- what is true of a sound image: there is at least one task, regions and owners exist, and the flash has bytes
 pub record IsSound (g : Setup) : Type 0 where
   pub some : 0 < length g.tasks
   pub placed : ArePlaced g (start g).memory

@@ -24,7 +24,7 @@ use Rattle.task_table.specs.model.Rows.{first_row, misused, denied, goes_on_with
 abbrev pub entry_range : Call → ℕ → Slice
 entry_range k lease = record { base = k.table + 12 * lease; len = 12 }
 
--- as it stands in memory
+-- the entry as memory has it
 unfoldable pub grant : State → Call → ℕ → LeaseEntry
 grant s k lease =
     record {
@@ -36,15 +36,15 @@ grant s k lease =
 abbrev pub lease_range : LeaseEntry → Slice
 lease_range e = record { base = e.base; len = e.len }
 
--- it is read
+-- the turn reads the entry
 abbrev pub entry_read : Call → ℕ → LeaseEntry → Turn → Turn
 entry_read k lease e t =
     t ⨾ looked record { call = k.number; part = Entry e.attributes e.base e.len; base = k.table + 12 * lease; len = 12 }
 
 -- ## the two ways in which bytes move
 
--- what a way needs of the lender at the lease and of the borrower at its buffer, each as a right and as the access
--- that a fault tells, and the bit of the attributes that allows it
+-- What a way needs: the right of the lender at the lease and that of the borrower at its buffer, for each of the
+-- two the access that its fault reports, and the bit of the lease's attributes that allows it.
 pub record Way : Type 0 where
   pub borrow : Borrow
   pub lender : Right
@@ -72,14 +72,14 @@ moved borrow.Info k leased own n t = t
 abbrev pub no_lease : ℕ
 no_lease = 1
 
--- the borrower gets a code, and that nothing moved
+-- the borrower gets a code and the count 0, since nothing moved
 abbrev pub refused : ℕ → ℕ → Turn → Turn
 refused c code t = t ⨾ goes_on_with c (code ∷ 0 ∷ [])
 
 abbrev pub buffer_of : BorrowArgs → Slice
 buffer_of x = record { base = x.buffer_base; len = x.buffer_length }
 
--- the bytes from the offset on, as many as buffer and lease have
+-- the bytes of the lease from the offset on, as many as both the lease and the buffer have
 abbrev pub part_of : BorrowArgs → LeaseEntry → Slice
 part_of x e = record { base = e.base + x.offset; len = min x.buffer_length (e.len - x.offset) }
 
@@ -94,7 +94,7 @@ lent g way c x k part t =
     ⨾ noted (note.Borrow k.number way.borrow x.lease x.offset part.len)
     ⨾ goes_on_with c (0 ∷ part.len ∷ []))
 
--- the rows on the borrower's buffer
+-- the rows that check the borrower's buffer
 abbrev pub buffered : Setup → Way → ℕ → BorrowArgs → Call → LeaseEntry → Turn → Turn
 buffered g way c x k e t =
     let buffer = buffer_of x in
@@ -103,7 +103,7 @@ buffered g way c x k e t =
     ∷ (is_some (bad_byte g c way.own buffer), t ⨾ denied g c (access_number way.own_access) (bad_byte g c way.own buffer))
     ∷ []) (t ⨾ lent g way c x k (part_of x e))
 
--- those on the lease come before
+-- the rows that check the lease, which come first
 abbrev pub granted : Setup → Way → ℕ → BorrowArgs → Call → LeaseEntry → Turn → Turn
 granted g way c x k e t =
     first_row (

@@ -1,4 +1,4 @@
--- What a call comes to that names an earlier birth of a task. (Hubris Reference: task ids and generations.)
+-- What a system call does that names an earlier birth of a task. (Hubris Reference: task ids and generations.)
 use Rattle.words_core.specs.Regs.{program_counter}
 use Rattle.std.specs.Prelude.{ℕ, ◌≡◌, ◌≢◌, ◌+◌, ◌%◌, ◌^◌, true, false, List, [], ◌∷◌, ◌++◌, None, slice_set, bit_and, slice_range}
 use Rattle.kernel_abi.specs.Arguments.{send_args, recv_args, reply_args, id_args, borrow_args, info_args}
@@ -14,7 +14,7 @@ use Rattle.task_table.specs.model.Rows.{buffer_of, goes_on_with}
 use Rattle.task_table.specs.model.Sends.{message_of, reply_room, table_of}
 use Rattle.task_table.specs.model.Syscalls.{is_to_kernel}
 
--- the caller makes this call
+-- the caller makes this system call
 abbrev pub IsCalling : Syscall → ℕ → Turn → Type 0
 IsCalling call c t = register t.state c syscall_selector ≡ syscall_number call
 
@@ -69,9 +69,9 @@ pub record MayReceiveFrom (g : Setup) (c : ℕ) (s : State) : Type 0 where
   pub other : index_of (recv_args (arguments s c)).sender.number ≢ c
   pub quiet : bit_and (task_at s c).posted (recv_args (arguments s c)).mask ≡ 0
 
--- the caller has these results from r4 on, is past its call and else as it was, and that is noted; every other task with
--- its call and its listen is as it was, and so are the open calls, the listens, the memory, the time, the lines and the
--- number of the next call; nothing was written, and nothing read for another task
+-- The caller has these results from r4 on and is past its system call; this is noted. Nothing else of it changes.
+-- Every other task with its call and its listen is as it was. So are the open calls, the listens, the memory, the
+-- time, the lines and the number of the next call. Nothing was written, and nothing was read for another task.
 pub record IsAnsweredAlone (c : ℕ) (values : List ℕ) (t u : Turn) : Type 0 where
   pub caller : task_at u.state c ≡ record (task_at t.state c) { registers = (task_at u.state c).registers }
   pub registers : (task_at u.state c).registers ≡ slice_set (with_results values (task_at t.state c).registers) program_counter ((register t.state c program_counter + 2) % 2 ^ 32)

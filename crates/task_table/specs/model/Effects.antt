@@ -1,5 +1,5 @@
--- What happens to a state within a turn. Each effect takes what the turn has come to so far, and
--- appends its own notes and writes. (Hubris Reference: tasks, syscalls, supervision.)
+-- What happens to a state within a turn. Each effect takes the turn so far, and appends its notes and writes.
+-- (Hubris Reference: tasks, syscalls, supervision.)
 use Rattle.words_core.specs.Regs.{program_counter}
 use Rattle.std.specs.Prelude.{ℕ, ◌+◌, ◌-◌, ◌%◌, ◌^◌, Bool, false, not, List, [], ◌∷◌, ◌++◌, length, take, drop, filter, map, min, slice_set, slice_range, Option, None, Some, ◌==◌, if◌then◌else◌, bit_and, bit_or, fold}
 use Rattle.std.specs.List.{range_with_len}
@@ -25,7 +25,7 @@ use Rattle.task_table.specs.model.Reading.{task_at, setup_at, register, call_of,
 unfoldable pub with_task : ℕ → Task → State → State
 with_task i task s = record s { tasks = slice_set s.tasks i task }
 
--- without the call of a client; without the listen of a task
+-- the state without the call of a client; without the listen of a task
 unfoldable pub without_call : ℕ → State → State
 without_call i s = record s { calls = filter (λ c. not (c.client.index == i)) s.calls }
 
@@ -35,7 +35,7 @@ without_listen i s = record s { listens = filter (λ l. not (l.task == i)) s.lis
 unfoldable pub with_listen : Listen → State → State
 with_listen l s = record s { listens = s.listens ++ l ∷ [] }
 
--- the call of a client is taken
+-- the open call, taken if it is that of this client
 abbrev pub taken_from : ℕ → Call → Call
 taken_from i c = record c { phase = if c.client.index == i then Taken else c.phase }
 
@@ -55,7 +55,7 @@ changed f t = record t { state = f t.state }
 unfoldable pub noted : Note → Turn → Turn
 noted n t = record t { notes = t.notes ++ n ∷ [] }
 
--- the registers and flags of a task become these
+-- a task gets these registers and flags
 unfoldable pub with_processor : ℕ → List ℕ → Flags → Turn → Turn
 with_processor i registers flags t =
     t ⨾ changed (with_task i record (task_at t.state i) { registers = registers; flags = flags })
@@ -68,7 +68,7 @@ abbrev pub writes_on : Ground → ℕ → List ℕ → List Write
 writes_on on at [] = []
 writes_on on at (byte ∷ bytes) = record { on = on; address = at; byte = byte } ∷ writes_on on (at + 1) bytes
 
--- bytes are written, on this ground
+-- bytes are written on this ground
 unfoldable pub stored : Ground → ℕ → List ℕ → Turn → Turn
 stored on at bytes t =
     record {
@@ -78,7 +78,7 @@ stored on at bytes t =
       reads = t.reads;
     }
 
--- bytes are copied, on this ground
+-- bytes are copied on this ground
 unfoldable pub copied : Ground → ℕ → ℕ → ℕ → Turn → Turn
 copied on from to n t =
     record {
@@ -88,13 +88,13 @@ copied on from to n t =
       reads = t.reads;
     }
 
--- another task's bytes are read
+-- bytes of another task are read
 unfoldable pub looked : Read → Turn → Turn
 looked r t = record t { reads = t.reads ++ r ∷ [] }
 
 -- ## a system call ends
 
--- these registers with values from r4 on
+-- these registers, with values from r4 on
 abbrev pub with_results : List ℕ → List ℕ → List ℕ
 with_results values registers = take 4 registers ++ values ++ drop (4 + length values) registers
 
@@ -107,7 +107,7 @@ given i values t =
 unfoldable pub returned : ℕ → Turn → Turn
 returned i t = t ⨾ noted (note.Ret i (slice_range (task_at t.state i).registers 4 10))
 
--- the program counter goes past the system call
+-- the program counter of a task goes past its system call
 unfoldable pub past_syscall : ℕ → Turn → Turn
 past_syscall i t =
     t ⨾ changed (with_task i record (task_at t.state i) { registers = slice_set (task_at t.state i).registers program_counter ((register t.state i program_counter + 2) % 2 ^ 32) })
@@ -125,7 +125,7 @@ unfoldable pub bits_cleared : ℕ → ℕ → Turn → Turn
 bits_cleared i mask t =
     t ⨾ changed (with_task i record (task_at t.state i) { posted = bit_and (task_at t.state i).posted (2 ^ 32 - 1 - mask) })
 
--- a task that listens takes its posted bits under its mask, where there are any, and listens no more
+-- if a task listens and has posted bits under its mask, it takes them and no longer listens
 abbrev pub woken_by : ℕ → Option Listen → Turn → Turn
 woken_by i None t = t
 woken_by i (Some l) t =
@@ -146,21 +146,21 @@ posted i bits t = t ⨾ bits_added i bits ⨾ woken i
 unfoldable pub with_timer : ℕ → Option Timer → Turn → Turn
 with_timer i timer t = t ⨾ changed (with_task i record (task_at t.state i) { timer = timer })
 
--- the time goes on by one
+-- the time advances by one tick
 unfoldable pub clocked : Turn → Turn
 clocked t = t ⨾ changed (λ s. record s { now = s.now + 1 }) ⨾ noted (note.Tick (t.state.now + 1))
 
--- an interrupt line is so from now on; a line that is not there stays away
+-- an interrupt line gets this state; if there is no such line, nothing changes
 unfoldable pub with_line : ℕ → Line → Turn → Turn
 with_line k line t = t ⨾ changed (λ s. record s { lines = slice_set s.lines k line })
 
 -- ## devices
 
--- the devices are these from now on
+-- the devices become these
 unfoldable pub with_devices : List DeviceData → Turn → Turn
 with_devices devices t = t ⨾ changed (λ s. record s { devices = devices })
 
--- a byte is given out, where there is one
+-- a byte is given out, if there is one
 abbrev pub given_out : Option Given → Turn → Turn
 given_out None t = t
 given_out (Some x) t = t ⨾ noted (note.Out x.device x.byte)
@@ -170,7 +170,7 @@ unfoldable pub device_stored : ℕ → ℕ → Turn → Turn
 device_stored addr value t =
     t ⨾ with_devices (devices_stored t.state.devices addr) ⨾ given_out (device_out t.state.devices addr value)
 
--- the device behind an address was loaded from, and gives up what it gave
+-- a load from the device behind an address removes what it gave from the device
 unfoldable pub device_taken : ℕ → Turn → Turn
 device_taken addr t = t ⨾ with_devices (devices_loaded t.state.devices addr)
 
@@ -185,20 +185,20 @@ unfoldable pub closed : ℕ → Ending → Turn → Turn
 closed i ending t =
     record t { state = without_call i t.state; notes = t.notes ++ close_notes ending (call_of t.state i) }
 
--- it is Faulted, its listen is dropped, the call of which it is the client is closed, and task 0 is
--- posted the fault bits; a fault of task 0 itself posts nothing. Calls of which it is the server stay
+-- The task becomes Faulted, its listen is dropped, and the call of which it is the client is closed. The fault bits
+-- are posted to task 0; a fault of task 0 itself posts nothing. Calls of which the task is the server stay open.
 unfoldable pub faulted_as : Setup → ℕ → Fault → Ending → Turn → Turn
 faulted_as g i fault ending t =
     let shut = t ⨾ with_health i (Faulted fault) ⨾ changed (without_listen i) ⨾ noted (note.Fault i fault) ⨾ closed i ending in
     if i == 0 then shut else (shut ⨾ posted 0 g.fault_bits)
 
--- the same where its server did not fault it
+-- the same, for a fault that its server did not cause
 abbrev pub faulted : Setup → ℕ → Fault → Turn → Turn
 faulted g i fault t = faulted_as g i fault Client t
 
 -- ## a call is offered
 
--- it is open from now on, under the number that was the next one
+-- the call becomes open, under the next number
 unfoldable pub with_call : Call → State → State
 with_call k s = record s { calls = s.calls ++ k ∷ []; next_call = s.next_call + 1 }
 
@@ -221,7 +221,7 @@ handed on c buffer t =
 
 -- ## a task at birth
 
--- all registers and flags are zero but SP, LR and PC
+-- all registers and flags are zero except SP, LR and PC
 abbrev pub at_birth : TaskSetup → ℕ → Health → Task
 at_birth setup births health =
     record {
@@ -235,12 +235,12 @@ at_birth setup births health =
 
 -- ## a task is born again
 
--- its births rise by one; what the image does not say is at birth as it was
+-- its number of births rises by one, and the rest is as at birth
 unfoldable pub reborn : Setup → ℕ → Bool → State → State
 reborn g i start s =
     with_task i (at_birth (setup_at g i) ((task_at s i).births + 1) (if start then Well else Stopped)) s
 
--- the call is to a task; the listen is closed to it
+-- the call is to a task; the listen is for that task only
 abbrev pub is_to : ℕ → Option Call → Bool
 is_to i None = false
 is_to i (Some c) = c.server.index == i
@@ -258,7 +258,8 @@ dead_answered i t j =
     then (t ⨾ changed (without_listen j) ⨾ given j (code ∷ 0 ∷ 0 ∷ 0 ∷ 0 ∷ 0 ∷ []) ⨾ returned j)
     else t)
 
--- its own call and listen are dropped, it is born again, and then each other task that waited gets that, in order
+-- the call and the listen of the task are dropped, and it is born again; then each other task that waited for it
+-- gets the dead code, in the order of their indices
 unfoldable pub restarted : Setup → ℕ → Bool → Turn → Turn
 restarted g i start t =
     let born = t ⨾ closed i Restart ⨾ changed (without_listen i) ⨾ changed (reborn g i start) in

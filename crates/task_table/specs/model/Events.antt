@@ -1,5 +1,6 @@
--- What comes from outside within a turn: ticks of the clock, interrupts and bytes for devices. (Hubris Reference: timers,
--- interrupts; that a timer is due at its deadline, and that an interrupt on a disabled line is held once, is this project's profile.)
+-- What comes from outside within a turn: ticks of the clock, interrupts and bytes for devices. (Hubris Reference:
+-- timers, interrupts; this project's profile says that a timer is due at its deadline, and that an interrupt on a
+-- disabled line is held once.)
 use Rattle.std.specs.Prelude.{ℕ, length, Option, None, Some, true, false, ◌==◌, nat_le, if◌then◌else◌, find, fold}
 use Rattle.std.specs.List.{range_with_len}
 use Rattle.kernel_abi.specs.declared.Handled.TheVariants.{Posted, Held, Unowned}
@@ -12,7 +13,7 @@ use Rattle.task_table.specs.model.Effects.{◌⨾◌, noted, posted, with_timer,
 
 -- ## a tick
 
--- the timer of a task that is due is off, and its bits are posted
+-- a timer that is due is turned off, and its bits are posted to its task
 abbrev pub expired_by : ℕ → Option Timer → Turn → Turn
 expired_by i None t = t
 expired_by i (Some x) t =
@@ -21,13 +22,13 @@ expired_by i (Some x) t =
 abbrev pub expired : Turn → ℕ → Turn
 expired t i = t ⨾ expired_by i (task_at t.state i).timer
 
--- the time goes on by one, then each task in order whose timer is due is posted
+-- the time advances by one tick; then each task whose timer is due gets its bits posted, in order
 unfoldable pub ticked : Turn → Turn
 ticked t = fold expired (clocked t) (range_with_len 0 (length t.state.tasks))
 
 -- ## a byte for a device
 
--- it is put into the device's queue, where there is such a device, it is a port and has room
+-- the byte is put into the queue of the device, if there is such a device, it is a port and its queue has room
 unfoldable pub fed : ℕ → ℕ → Turn → Turn
 fed device byte t =
     t ⨾ with_devices (devices_fed t.state.devices device byte) ⨾ noted (note.In device byte (feed_answer t.state.devices device))
@@ -38,7 +39,8 @@ fed device byte t =
 unfoldable pub owner_of : Setup → ℕ → Option LineSetup
 owner_of g k = find (λ o. o.line == k) g.lines
 
--- an enabled line posts and is disabled; a disabled one is pending, once; one without an owner does nothing
+-- an enabled line posts its bits and is disabled; a disabled line becomes pending, once; a line without an owner
+-- does nothing
 abbrev pub interrupted_by : ℕ → Option LineSetup → Turn → Turn
 interrupted_by k None t = t ⨾ noted (note.Irq k Unowned)
 interrupted_by k (Some o) t =

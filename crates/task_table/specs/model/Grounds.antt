@@ -1,5 +1,5 @@
--- On whose ground a task's turn writes, and which calls it touches.
--- (s: the state after the events of the turn; c: the chosen task; u: what the turn has come to)
+-- On which grounds the turn of a task writes, and which calls it touches. (s: the state after the events of the
+-- turn; c: the chosen task; u: the turn so far)
 use Rattle.std.specs.Prelude.{ℕ, ◌+◌, ◌*◌, ◌<◌, ◌≤◌, ◌≡◌, ◌≢◌, ◌⊎◌, true, Option, None, Some, IfSome, Contains, bit_and, List, [], ◌∷◌, fold}
 use Rattle.kernel_abi.specs.declared.LeaseEntry.{LeaseEntry}
 use Rattle.kernel_abi.specs.declared.Note.{Note}
@@ -17,7 +17,7 @@ use Rattle.task_table.specs.model.Borrows.{grant}
 abbrev pub Lies : Slice → ℕ → Type 0
 Lies r a = (r.base ≤ a) × (a < r.base + r.len)
 
--- a task may write the byte, in a region that is no device
+-- a task may write the byte, in a region that is not a device
 abbrev pub MayWrite : Setup → ℕ → ℕ → Type 0
 MayWrite g i a = may_copy (setup_at g i).regions Write a ≡ true
 
@@ -30,7 +30,7 @@ pub record IsTakenBy (s : State) (server k : ℕ) (call : Call) : Type 0 where
   pub server_is : call.server.index ≡ server
   pub phase : call.phase ≡ Taken
 
--- the byte lies in the buffer of a task that listens, to which c offers call k in this turn, and which takes it
+-- the byte lies in the buffer of a task that listens; c offers call k to that task in this turn, and the task takes it
 pub record IsMessageGround (g : Setup) (s : State) (c : ℕ) (u : Turn) (k a : ℕ) : Type 0 where
   pub listen : Listen
   pub here : Contains s.listens listen
@@ -40,15 +40,15 @@ pub record IsMessageGround (g : Setup) (s : State) (c : ℕ) (u : Turn) (k a : �
   pub lies : Lies listen.buffer a
   pub may : MayWrite g listen.task a
 
--- it lies in the reply range of call k, which c has taken, and its client may write it
+-- the byte lies in the reply buffer of call k, which c has taken, and the client of k may write it
 pub record IsReplyGround (g : Setup) (s : State) (c k a : ℕ) : Type 0 where
   pub call : Call
   pub taken : IsTakenBy s c k call
   pub lies : Lies call.reply a
   pub may : MayWrite g call.client.index a
 
--- it lies in the range of a lease of call k, which c has taken; the lease's entry was read in this turn as memory has it
--- after the events, its bit 1 is set, and the client may write the byte
+-- The byte lies in the range of a lease of call k, which c has taken. The entry of the lease was read in this turn
+-- as memory has it after the events. Its bit 1 is set, and the client may write the byte.
 pub record IsLeaseGround (g : Setup) (s : State) (c : ℕ) (u : Turn) (k a : ℕ) : Type 0 where
   pub call : Call
   pub taken : IsTakenBy s c k call
@@ -68,31 +68,31 @@ MayChange g s c u (Message k) a = IsMessageGround g s c u k a
 MayChange g s c u (Reply k) a = IsReplyGround g s c k a
 MayChange g s c u (Lease k) a = IsLeaseGround g s c u k a
 
--- a task may use the byte so
+-- a task may use the byte with this right
 abbrev pub MayUse : Setup → ℕ → Right → ℕ → Type 0
 MayUse g i right a = may_use (setup_at g i).regions right a ≡ true
 
--- devices become these where c loads from an address that it may read, or stores to one that it may write
+-- c changes the devices to these by a load from an address that it may read, or by a store to one that it may write
 abbrev pub IsReached : Setup → ℕ → List DeviceData → List DeviceData → Type 0
 IsReached g c old new =
     ((a : ℕ) × MayUse g c Read a × (new ≡ devices_loaded old a)) ⊎ ((a : ℕ) × MayUse g c Write a × (new ≡ devices_stored old a))
 
--- the devices of a turn of c: each change is one of these
+-- in a turn of c, each change of the devices is one of these
 pub data AreReached (g : Setup) (c : ℕ) : List DeviceData → List DeviceData → Type 0 where
   Untouched : (devices : List DeviceData) → AreReached g c devices devices
   Once : (old between new : List DeviceData) → AreReached g c old between → IsReached g c between new → AreReached g c old new
 
--- every write stands on its ground
+-- the task has the ground of each write
 abbrev pub AreGrounded : Setup → State → ℕ → Turn → Type 0
 AreGrounded g s c u = (w : Written) → Contains u.writes w → MayChange g s c u w.on w.address
 
--- the memory once all this is written, in order
+-- the memory after all these writes, in order
 abbrev pub with_writes : Memory → List Written → Memory
 with_writes m writes = fold (λ v w. with_bytes v w.address (w.byte ∷ [])) m writes
 
 -- ## what a turn may read of a lease
 
--- a task may read the byte, in a region that is no device
+-- a task may read the byte, in a region that is not a device
 abbrev pub MayRead : Setup → ℕ → ℕ → Type 0
 MayRead g i a = may_copy (setup_at g i).regions Read a ≡ true
 
@@ -120,13 +120,13 @@ pub record IsLeaseRead (g : Setup) (s : State) (c : ℕ) (r : ReadPart) : Type 0
   pub high : r.base + r.len ≤ entry.base + entry.len
   pub may : (a : ℕ) → r.base ≤ a → a < r.base + r.len → MayRead g lent.call.client.index a
 
--- by its part; of the front of a message nothing more is said than that its call is alive
+-- the condition on a read, by what it reads; of a message only that its call is alive, which is said below
 abbrev pub IsRightRead : Setup → State → ℕ → ReadPart → Part → Type 0
 IsRightRead g s c r MessageFront = Unit {0}
 IsRightRead g s c r (Entry attributes base length) = IsEntryRead g s c r record { attributes = attributes; base = base; len = length }
 IsRightRead g s c r Leased = IsLeaseRead g s c r
 
--- every read of an entry or of a lease is as memory grants it
+-- each read of an entry or of a lease is one that memory grants
 abbrev pub AreGranted : Setup → State → ℕ → Turn → Type 0
 AreGranted g s c u = (r : ReadPart) → Contains u.reads r → IsRightRead g s c r r.part
 
@@ -166,7 +166,7 @@ touched note.Idle = None
 touched (note.Low registers) = None
 touched (note.High registers n z c v) = None
 
--- who writes on a call's ground, reads for it, takes it or borrows from it finds it alive
+-- each call on whose ground c writes, for which it reads, which it takes or from which it borrows is alive
 pub record AreAlive (s : State) (c : ℕ) (u : Turn) : Type 0 where
   pub written : (w : Written) → Contains u.writes w → IfSome (call_of_ground w.on) (IsAlive s c u)
   pub read : (r : ReadPart) → Contains u.reads r → IsAlive s c u r.call

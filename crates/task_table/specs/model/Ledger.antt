@@ -36,7 +36,7 @@ saying note.Idle = Nothing
 saying (note.Low registers) = Nothing
 saying (note.High registers n z c v) = Nothing
 
--- by a server's answer
+-- the call ends by an answer of its server
 abbrev pub is_answer : Ending → Bool
 is_answer Reply = true
 is_answer ReplyFault = true
@@ -67,7 +67,7 @@ says_answer k (Takes call) = false
 says_answer k (Closes call ending) = (call == k) && is_answer ending
 says_answer k Nothing = false
 
--- the note offers, takes, closes call k; it closes it by an answer
+-- the note offers, takes or closes call k; the note closes it by an answer
 abbrev pub is_offer_of : ℕ → Note → Bool
 is_offer_of k n = says_offer k (saying n)
 
@@ -83,9 +83,9 @@ is_answer_of k n = says_answer k (saying n)
 abbrev pub IsOpen : State → ℕ → Type 0
 IsOpen s k = (call : Call) × Contains s.calls call × (call.number ≡ k)
 
--- each number from 1 on that is below the next one is offered by exactly one note, and no other number is;
--- it is taken by at most one note and closed by at most one, both after the offer, and answered only after
--- the take; it is open exactly where it was offered and not closed
+-- Each number from 1 up to the last one that was used is offered by exactly one note, and no other number is. A
+-- call is taken by at most one note and closed by at most one, both after its offer, and is answered only after it
+-- was taken. It is open exactly if it was offered and not closed.
 pub record IsLedger (notes : List Note) (s : State) : Type 0 where
   pub offered : (k : ℕ) → 1 ≤ k → k < s.next_call → count_by (is_offer_of k) notes ≡ 1
   pub no_other : (k : ℕ) → (k ≡ 0) ⊎ (s.next_call ≤ k) → count_by (is_offer_of k) notes ≡ 0

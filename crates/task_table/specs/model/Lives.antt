@@ -1,4 +1,4 @@
--- The lives of calls, as the notes of a run say them, and what a turn begins with.
+-- The lives of calls, by the notes of a run and by a state, and what is true at the beginning of a turn.
 use Rattle.std.specs.Prelude.{ℕ, ◌<◌, ◌≤◌, ◌≡◌, ◌≢◌, ◌⊎◌, Bool, List, [], ◌∷◌, Contains, Some, ◌==◌, if◌then◌else◌, true}
 use Rattle.kernel_abi.specs.declared.Note.{Note}
 use Rattle.task_table.specs.model.State.{State, Call, Offered, Taken, Write as Written, Turn}
@@ -8,7 +8,7 @@ use Rattle.task_table.specs.model.Step.{is_plain, IsOpenAs}
 
 -- ## what notes say
 
--- not offered yet; offered; taken; closed; what cannot be
+-- not offered yet; offered; taken; closed; or a history that is wrong
 pub data Life : Type 0 where
   New : Life
   Waiting : Life
@@ -38,21 +38,21 @@ after_close answer Held = Over
 after_close answer Over = Wrong
 after_close answer Wrong = Wrong
 
--- the life of call k goes on by a saying
+-- the life of call k after one more saying
 abbrev pub after : ℕ → Saying → Life → Life
 after k (Offers call) l = if call == k then after_offer l else l
 after k (Takes call) l = if call == k then after_take l else l
 after k (Closes call ending) l = if call == k then after_close (is_answer ending) l else l
 after k Nothing l = l
 
--- and by notes in order
+-- the life of call k after more notes, in order
 abbrev pub lived : ℕ → Life → List Note → Life
 lived k l [] = l
 lived k l (n ∷ ns) = lived k (after k (saying n) l) ns
 
 -- ## what a state says
 
--- the numbers of open calls are from 1 to below the next one; no two have the same client or number
+-- the numbers of open calls are at least 1 and below the next one; no two calls have the same client or number
 pub record AreApart (s : State) : Type 0 where
   pub some : 1 ≤ s.next_call
   pub from : (c : Call) → Contains s.calls c → 1 ≤ c.number
@@ -68,14 +68,14 @@ Lives s k Held = IsOpenAs s k Taken
 Lives s k Over = (1 ≤ k) × (k < s.next_call) × ((c : Call) → Contains s.calls c → c.number ≢ k)
 Lives s k Wrong = ⊥
 
--- as the notes of a run say it, so it is
+-- the life of each call in the state is the one that the notes of the run say
 pub record IsAsNoted (notes : List Note) (s : State) : Type 0 where
   pub apart : AreApart s
   pub lives : (k : ℕ) → Lives s k (lived k New notes)
 
 -- ## within a turn
 
--- since s nothing has happened to calls and memory, nothing was written or read, and no note speaks of a call
+-- since s calls and memory have not changed, nothing was written or read, and no note is about a call
 pub record IsFresh (s : State) (u : Turn) : Type 0 where
   pub calls : u.state.calls ≡ s.calls
   pub next_call : u.state.next_call ≡ s.next_call
@@ -84,7 +84,7 @@ pub record IsFresh (s : State) (u : Turn) : Type 0 where
   pub reads : u.reads ≡ []
   pub plain : (n : Note) → Contains u.notes n → is_plain n ≡ true
 
--- the number was given, and its call is not open
+-- the number was used, and its call is not open
 abbrev pub IsClosed : State → ℕ → Type 0
 IsClosed s k = (k < s.next_call) × (IsOpen s k → ⊥)
 

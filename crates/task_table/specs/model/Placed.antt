@@ -5,7 +5,7 @@ use Rattle.mem_banks.specs.Memory.{Memory, IsWithin, IsWithinRam}
 use Rattle.task_table.specs.model.State.{Setup, LineSetup}
 use Rattle.task_table.specs.model.Reading.{setup_at}
 
--- each region that is no device lies in flash or in RAM, and in RAM if it may be written
+-- each region that is not a device lies in flash or in RAM, and in RAM if it may be written
 pub record ArePlaced (g : Setup) (m : Memory) : Type 0 where
   pub within : (i : ℕ) (r : Region) → Contains (setup_at g i).regions r → r.rights.device ≡ false → IsWithin m r.base r.size
   pub writable : (i : ℕ) (r : Region) → Contains (setup_at g i).regions r → r.rights.device ≡ false → r.rights.write ≡ true → IsWithinRam m r.base r.size

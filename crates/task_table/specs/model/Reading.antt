@@ -1,4 +1,4 @@
--- What is read off a state of the abstract kernel.
+-- Functions of a state of the abstract kernel.
 use Rattle.std.specs.Prelude.{ℕ, ◌≡◌, ◌≢◌, ◌+◌, ◌^◌, ◌-◌, ◌%◌, Bool, true, false, ◌&&◌, ◌||◌, not, List, [], ◌++◌, length, Option, None, slice_index, slice_index_or, slice_range, find, nat_le, ◌==◌, is_none, is_some}
 use Rattle.std.specs.List.{range_with_len, list_all}
 use Rattle.kernel_abi.specs.Ids.{index_of, generation_of, id_of, dead_code_of}
@@ -13,7 +13,7 @@ use Rattle.task_table.specs.model.State.{Setup, TaskSetup, Task, Call, Listen, S
 abbrev pub no_flags : Flags
 no_flags = record { n = false; z = false; c = false; v = false }
 
--- a task that is not there
+-- the value for a task that does not exist
 abbrev pub no_task : Task
 no_task = record { births = 0; registers = []; flags = no_flags; health = Stopped; posted = 0; timer = None }
 
@@ -26,11 +26,11 @@ setup_in tasks i = slice_index_or tasks i record { priority = 0; entry = 0; stac
 abbrev pub setup_at : Setup → ℕ → TaskSetup
 setup_at g i = setup_in g.tasks i
 
--- a line that is not there is disabled with nothing pending
+-- a line that does not exist counts as disabled, with nothing pending
 abbrev pub no_line : Line
 no_line = record { enabled = false; pending = false }
 
--- a disabled line, and one that is enabled, of which nothing is pending
+-- a disabled line, which may have an interrupt pending, and an enabled line, which has none
 abbrev pub line_off : Bool → Line
 line_off pending = record { enabled = false; pending = pending }
 
@@ -69,7 +69,7 @@ is_faulted Well = false
 is_faulted Stopped = false
 is_faulted (Faulted f) = true
 
--- an id names no task; it names an earlier birth of one
+-- an id names no task; an id names an earlier birth of a task
 unfoldable pub is_out : State → ℕ → Bool
 is_out s id = nat_le (length s.tasks) (index_of id)
 
@@ -88,20 +88,20 @@ present_id s i = id_of i (task_at s i).births
 unfoldable pub dead_code_for : State → ℕ → ℕ
 dead_code_for s id = dead_code_of ((task_at s (index_of id)).births % 64)
 
--- ready: well, client of no open call, and not listening
+-- a task is ready: it is well, is client of no open call, and does not listen
 unfoldable pub is_ready : State → ℕ → Bool
 is_ready s i = is_well (task_at s i).health && is_none (call_of s i) && is_none (listen_of s i)
 
 abbrev pub same_birth : Birth → Birth → Bool
 same_birth a b = (a.index == b.index) && (a.birth == b.birth)
 
--- a listen is open to a client, or closed to it
+-- whether a listen accepts messages of a client
 abbrev pub admits : From → Birth → Bool
 admits Any client = true
 admits (One b) client = same_birth b client
 admits KernelOnly client = false
 
--- a slice is valid where it ends inside the address space
+-- a slice is valid if it ends inside the address space
 abbrev pub is_valid : Slice → Bool
 is_valid r = nat_le (r.base + r.len) (2 ^ 32)
 
@@ -114,15 +114,15 @@ bad_byte g i right r = first_bad (setup_at g i).regions right r.base r.len
 abbrev pub priority : Setup → ℕ → ℕ
 priority g i = (setup_at g i).priority
 
--- ready, and no ready task has a lower priority number
+-- a task is ready, and no ready task has a lower priority number
 abbrev pub qualifies : Setup → State → ℕ → Bool
 qualifies g s i = is_ready s i && list_all (λ j. not (is_ready s j) || nat_le (priority g i) (priority g j)) (range_with_len 0 (length s.tasks))
 
--- the indices below n in order, from i on and around
+-- the indices below n in cyclic order: those from i on, and then those below i
 abbrev pub around : ℕ → ℕ → List ℕ
 around n i = range_with_len i (n - i) ++ range_with_len 0 i
 
--- the current task where it qualifies, else the first that does after it, cyclically
+-- the current task if it qualifies, else the next one after it that does, cyclically
 unfoldable pub chosen : Setup → State → Option ℕ
 chosen g s = find (qualifies g s) (around (length s.tasks) s.current)
 
@@ -147,15 +147,15 @@ taken_by s client server = find (λ k. (k.client.index == client) && (k.server.i
 abbrev pub offers : State → ℕ → ℕ → Bool
 offers s server client = is_some (offer_by s client server)
 
--- it offers to the server, and no task that does has a lower priority number
+-- a client offers a call to the server, and no other client of the server has a lower priority number
 abbrev pub is_best : Setup → State → ℕ → ℕ → Bool
 is_best g s server i = offers s server i && list_all (λ j. not (offers s server j) || nat_le (priority g i) (priority g j)) (range_with_len 0 (length s.tasks))
 
--- the best sender: the first after the receiver, cyclically
+-- the best sender: the first of these after the receiver, cyclically
 unfoldable pub best_sender : Setup → State → ℕ → Option ℕ
 best_sender g s server = find (is_best g s server) (around (length s.tasks) (server + 1))
 
--- u is s but for task i, its call and its listen
+-- u is s, except for task i, its call and its listen
 pub record IsSameBut (i : ℕ) (s u : State) : Type 0 where
   pub count : length u.tasks ≡ length s.tasks
   pub task : (j : ℕ) → j ≢ i → task_at u j ≡ task_at s j
@@ -180,16 +180,16 @@ pub record IsSameAt (i : ℕ) (s u : State) : Type 0 where
   pub call : call_of u i ≡ call_of s i
   pub listen : listen_of u i ≡ listen_of s i
 
--- task i is as well as before, and waits for the same
+-- the health and the wait of task i are the same in both
 pub record WaitsAlike (i : ℕ) (s u : State) : Type 0 where
   pub health : (task_at u i).health ≡ (task_at s i).health
   pub call : call_of u i ≡ call_of s i
   pub listen : listen_of u i ≡ listen_of s i
 
--- the timer of task i is set alike in both
+-- the timer of task i is the same in both
 abbrev pub TimersAlike : ℕ → State → State → Type 0
 TimersAlike i s u = (task_at u i).timer ≡ (task_at s i).timer
 
--- u is s but for the rest of task i, which is neither its health nor its wait nor its timer
+-- u is s, except for parts of task i that are not its health, its wait or its timer
 abbrev pub DiffersInRest : ℕ → State → State → Type 0
 DiffersInRest i s u = IsSameBut i s u × WaitsAlike i s u × TimersAlike i s u

@@ -20,8 +20,8 @@ use Rattle.task_table.specs.model.Sends.{message_of, reply_room}
 
 -- ## what a kernel message asks for
 
--- its number; how many bytes its message and its answer have; whether it may be about the supervisor itself; and what it
--- does to the task that its message names
+-- The number of the request, how many bytes its message and its answer have, whether it may be about the supervisor
+-- itself, and what it does to the task that its message names.
 pub record Request : Type 0 where
   pub number : ℕ
   pub message : ℕ
@@ -33,21 +33,21 @@ pub record Request : Type 0 where
 abbrev pub word_bytes : ℕ → List ℕ
 word_bytes w = w % 256 ∷ w / 2 ^ 8 % 256 ∷ w / 2 ^ 16 % 256 ∷ w / 2 ^ 24 % 256 ∷ []
 
--- how a task is, in four words: health, and of a fault its number, x and y
+-- the status of a task in four words: its health, and for a fault its number, x and y
 abbrev pub status_bytes : Health → List ℕ
 status_bytes Well = word_bytes 0 ++ word_bytes 0 ++ word_bytes 0 ++ word_bytes 0
 status_bytes Stopped = word_bytes 1 ++ word_bytes 0 ++ word_bytes 0 ++ word_bytes 0
 status_bytes (Faulted f) = word_bytes 2 ++ word_bytes f.number ++ word_bytes f.x ++ word_bytes f.y
 
--- its answer is how the task is
+-- the answer is the status of the task
 abbrev pub status_given : SendArgs → ℕ → Turn → Turn
 status_given x index t = t ⨾ stored Own x.reply_base (status_bytes (task_at t.state index).health)
 
--- the second word of the message says whether the task is started; 0 leaves it stopped
+-- the task is restarted; the second word of the message says whether it is started, and 0 leaves it stopped
 abbrev pub restart_made : Setup → SendArgs → ℕ → Turn → Turn
 restart_made g x index t = t ⨾ restarted g index (not (number_at t.state.memory (x.message_base + 4) 4 == 0))
 
--- a task is made to fault; a faulted one stays as it is
+-- a task is made to fault; a faulted task does not change
 abbrev pub injected_by : Setup → ℕ → Health → Turn → Turn
 injected_by g i Well t = t ⨾ faulted g i injected_fault
 injected_by g i Stopped t = t ⨾ faulted g i injected_fault
@@ -56,17 +56,17 @@ injected_by g i (Faulted f) t = t
 unfoldable pub injected : Setup → ℕ → Turn → Turn
 injected g i t = t ⨾ injected_by g i (task_at t.state i).health
 
--- the first task from an index on that has faulted; 0 where there is none
+-- the first task from an index on that has faulted; 0 if there is none
 abbrev pub first_faulted : State → ℕ → ℕ
 first_faulted s index = unwrap_or (find (λ i. is_faulted (task_at s i).health) (range_with_len index (length s.tasks - index))) 0
 
--- its answer is that task
+-- the answer is that task
 abbrev pub fault_found : SendArgs → ℕ → Turn → Turn
 fault_found x index t =
     let found = first_faulted t.state index in
     t ⨾ stored Own x.reply_base (word_bytes found) ⨾ noted (note.Find index found)
 
--- 1 tells how a task is, 2 restarts one, 3 makes one fault, 9 finds one that has faulted
+-- request 1 tells the status of a task, 2 restarts a task, 3 makes a task fault, 9 finds a task that has faulted
 abbrev pub requests : List Request
 requests =
     record { number = 1; message = 4; reply = 16; on_supervisor = true; does = λ g x index t. status_given x index t }
@@ -92,7 +92,7 @@ served g c x (Some o) t =
 abbrev pub request_of : ℕ → Option Request
 request_of number = find (λ o. o.number == number) requests
 
--- r4 bits 15 to 0 operation, r5 and r6 message, r7 and r8 reply buffer; leases are not looked at
+-- r4 bits 15 to 0 operation, r5 and r6 message, r7 and r8 reply buffer; leases are ignored
 unfoldable pub requested : Setup → ℕ → Turn → Turn
 requested g c t =
     let s = t.state in

@@ -1,4 +1,4 @@
--- The rows of the system calls. Of the rows of one the first applies whose condition holds.
+-- The rows of the system calls. For each system call the first row applies whose condition is true.
 use Rattle.kernel_abi.specs.declared.Access.TheVariants.{KernelWrite}
 use Rattle.kernel_abi.specs.declared.Usage.TheVariants.{NoIrq, InvalidSlice, BadTaskIndex}
 use Rattle.kernel_abi.specs.Faults.{usage_number, access_number, usage_fault_by, access_fault_by, panic_fault}
@@ -22,7 +22,7 @@ abbrev pub first_row : List (Bool × Turn) → Turn → Turn
 first_row [] otherwise = otherwise
 first_row (row ∷ rows) otherwise = cond row.0 row.1 (first_row rows otherwise)
 
--- the caller faults by its usage
+-- the caller faults because of a usage error
 abbrev pub misused : Setup → ℕ → ℕ → Turn → Turn
 misused g c usage t = t ⨾ faulted g c (usage_fault_by usage)
 
@@ -30,14 +30,14 @@ misused g c usage t = t ⨾ faulted g c (usage_fault_by usage)
 abbrev pub denied : Setup → ℕ → ℕ → Option ℕ → Turn → Turn
 denied g c y bad t = t ⨾ faulted g c (access_fault_by (unwrap_or bad 0) y)
 
--- the caller goes on after its system call, and with results from r4 on
+-- the caller goes on after its system call; the same with results from r4 on
 abbrev pub goes_on : ℕ → Turn → Turn
 goes_on c t = t ⨾ past_syscall c ⨾ returned c
 
 abbrev pub goes_on_with : ℕ → List ℕ → Turn → Turn
 goes_on_with c values t = t ⨾ given c values ⨾ goes_on c
 
--- ## PANIC: r4 and r5 are its x and y, nothing is read
+-- ## PANIC: r4 and r5 are its x and y; no memory is read
 
 unfoldable pub panicked : Setup → ℕ → Turn → Turn
 panicked g c t = t ⨾ faulted g c (panic_fault (register t.state c r4) (register t.state c r5))
@@ -53,7 +53,7 @@ timer_set c t =
     ∷ (nat_le x.deadline t.state.now, t ⨾ with_timer c None ⨾ posted c x.bits ⨾ goes_on c)
     ∷ []) (t ⨾ with_timer c (Some record { deadline = x.deadline; bits = x.bits }) ⨾ goes_on c)
 
--- ## GET_TIMER: r4 and r5 are now, r6 is 1 where a timer is set, r7 and r8 its deadline, r9 its bits
+-- ## GET_TIMER: r4 and r5 are now, r6 is 1 if a timer is set, r7 and r8 its deadline, r9 its bits
 
 abbrev pub timer_words : Option Timer → List ℕ
 timer_words None = 0 ∷ 0 ∷ 0 ∷ 0 ∷ []
@@ -69,8 +69,8 @@ timer_answered c t =
 abbrev pub owns_with : ℕ → ℕ → LineSetup → Bool
 owns_with c bits o = (o.owner == c) && (o.bits == bits)
 
--- line k is disabled; or it is enabled, but where an interrupt is pending, that is cleared and posted,
--- which leaves the line disabled
+-- Line k is disabled or enabled. If it is to be enabled and an interrupt is pending, the interrupt is cleared and
+-- its bits are posted instead, which leaves the line disabled.
 abbrev pub line_controlled : ℕ → ℕ → Bool → ℕ → Turn → Turn
 line_controlled c bits enable k t =
     let pending = (line_at t.state k).pending in
@@ -87,8 +87,8 @@ irq_controlled g c t =
 
 -- ## IRQ_STATUS: r4 bits
 
--- of the lines that the caller owns with these bits: 1 where one is enabled, 2 where on one an interrupt is
--- pending, 4 where some of these bits are posted to the caller; their sum
+-- A sum over the lines that the caller owns with these bits: 1 if one of them is enabled, 2 if an interrupt is
+-- pending on one of them, 4 if some of these bits are posted to the caller.
 abbrev pub status_of_lines : Setup → State → ℕ → ℕ → ℕ
 status_of_lines g s c bits =
     let own = filter (owns_with c bits) g.lines in
@@ -130,23 +130,24 @@ listens c x from t =
 abbrev pub receives : ℕ → RecvArgs → Call → Turn → Turn
 receives c x k t = t ⨾ past_syscall c ⨾ handed Own k (buffer_of x) ⨾ returned c
 
--- it takes the call that is offered, where one is; else it listens
+-- the caller takes the offered call if there is one; else it listens
 abbrev pub receives_or_listens : ℕ → RecvArgs → From → Option Call → Turn → Turn
 receives_or_listens c x from None t = listens c x from t
 receives_or_listens c x from (Some k) t = receives c x k t
 
--- it takes its posted bits under its mask
+-- the caller takes its posted bits under its mask
 abbrev pub takes_bits : ℕ → ℕ → Turn → Turn
 takes_bits c mask t =
     let under = bit_and (task_at t.state c).posted mask in
     t ⨾ bits_cleared c mask ⨾ goes_on_with c (0 ∷ 0xFFFF ∷ under ∷ 0 ∷ 0 ∷ 0 ∷ [])
 
--- the offered call of a sender, where there is one
+-- the offered call of a sender, if there is one
 abbrev pub offer_of : State → ℕ → Option ℕ → Option Call
 offer_of s c None = None
 offer_of s c (Some i) = offer_by s i c
 
--- a message, once no posted bit is under the mask: from the kernel alone, from a dead task, from one task, from any
+-- RECV of a message, if no posted bit is under the mask: from the kernel only, from a dead id, from one task, or
+-- from any task
 abbrev pub message_received : ℕ → Option ℕ → Turn → Turn
 message_received c best t =
     let s = t.state in
@@ -158,7 +159,7 @@ message_received c best t =
     ∷ (x.closed, t ⨾ receives_or_listens c x (One (present s (index_of id))) (offer_by s (index_of id) c))
     ∷ []) (t ⨾ receives_or_listens c x Any (offer_of s c best))
 
--- bits or a message, once the buffer and the sender are checked
+-- RECV of posted bits or of a message, after the checks of the buffer and the sender
 abbrev pub input_received : ℕ → Option ℕ → Turn → Turn
 input_received c best t =
     let mask = (asked t.state c).mask in
@@ -181,6 +182,6 @@ received g c best t =
 
 -- ## a system call
 
--- the line of a system call: its number in r11, its arguments in r4 to r10
+-- the note of a system call: its number, which is in r11, and its arguments, in r4 to r10
 unfoldable pub syscall_noted : ℕ → Turn → Turn
 syscall_noted c t = t ⨾ noted (note.Syscall c (register t.state c syscall_selector) (slice_range (task_at t.state c).registers 4 11))

@@ -1,4 +1,4 @@
--- What holds of a state after every event and instruction, in parts, and between turns besides.
+-- What is true of a state after every event and instruction, in parts; and what is also true between turns.
 use Rattle.words_core.specs.Regs.{stack_pointer, program_counter}
 use Rattle.std.specs.Prelude.{ℕ, ◌+◌, ◌*◌, ◌%◌, ◌<◌, ◌≤◌, ◌≡◌, ◌≢◌, true, false, List, length, None, Contains, slice_index, IfSome, bit_and, ◌==◌}
 use Rattle.std.specs.List.{count_by}
@@ -11,7 +11,7 @@ use Rattle.task_table.specs.model.Placed.{ArePlaced}
 use Rattle.task_table.specs.model.State.{Setup, LineSetup, Task, Call, Listen, State, Birth, Offered, One}
 use Rattle.task_table.specs.model.Reading.{task_at, line_at, admits, is_valid, bad_byte}
 
--- ## the parts, each over no more of a state than it speaks of
+-- ## the parts, each a property of as little of a state as possible
 
 -- what an open call keeps from its offer to its close
 pub record IsFitCall (g : Setup) (c : Call) : Type 0 where
@@ -22,7 +22,7 @@ pub record IsFitCall (g : Setup) (c : Call) : Type 0 where
   pub readable : bad_byte g c.client.index Read c.message ≡ None
   pub writable : bad_byte g c.client.index Write c.reply ≡ None
 
--- no two open calls have the same client or number, none stands twice in the list, and each number is below the next one
+-- no two open calls have the same client or number, no call is in the list twice, and each number is below the next one
 pub record AreCalls (g : Setup) (next : ℕ) (calls : List Call) : Type 0 where
   pub once : (i : ℕ) → count_by (λ c. c.client.index == i) calls ≤ 1
   pub fit : (c : Call) → Contains calls c → IsFitCall g c
@@ -36,34 +36,34 @@ pub record IsFitListen (g : Setup) (l : Listen) : Type 0 where
   pub valid : is_valid l.buffer ≡ true
   pub writable : bad_byte g l.task Write l.buffer ≡ None
 
--- a task has one listen, which stands once in the list
+-- a task has at most one listen, which is in the list once
 pub record AreListens (g : Setup) (listens : List Listen) : Type 0 where
   pub once : (i : ℕ) → count_by (λ l. l.task == i) listens ≤ 1
   pub fit : (l : Listen) → Contains listens l → IsFitListen g l
   pub task : (l m : Listen) → Contains listens l → Contains listens m → l.task ≡ m.task → l ≡ m
 
--- who waits is well, and not twice
+-- a task that waits is well, and waits for one thing only
 pub record AreWell (s : State) : Type 0 where
   pub client : (c : Call) → Contains s.calls c → (task_at s c.client.index).health ≡ Well
   pub listener : (l : Listen) → Contains s.listens l → (task_at s l.task).health ≡ Well
   pub alone : (c : Call) (l : Listen) → Contains s.calls c → Contains s.listens l → c.client.index ≢ l.task
 
--- the births of those who wait and of those waited for are the present ones
--- (W: of which task's waits for which it is said)
+-- the births of the tasks that wait, and of the tasks that they wait for, are the present ones (W: the pairs of
+-- tasks for which this is required)
 pub record ArePresent (W : ℕ → ℕ → Type 0) (s : State) : Type 0 where
   pub client : (c : Call) → Contains s.calls c → (task_at s c.client.index).births ≡ c.client.birth
   pub server : (c : Call) → Contains s.calls c → W c.client.index c.server.index → (task_at s c.server.index).births ≡ c.server.birth
   pub named : (l : Listen) (b : Birth) → Contains s.listens l → l.from ≡ One b → W l.task b.index → (task_at s b.index).births ≡ b.birth
 
--- no mask meets a posted bit (M: of which tasks it is said)
+-- no task that listens has a posted bit under its mask (M: the tasks for which this is required)
 abbrev pub AreUnmet : (ℕ → Type 0) → State → Type 0
 AreUnmet M s = (l : Listen) → Contains s.listens l → M l.task → bit_and (task_at s l.task).posted l.mask ≡ 0
 
--- no offered call to a listening task fits its listen (F: of which clients it is said)
+-- no call that is offered to a listening task is one that its listen accepts (F: the clients for which this is required)
 abbrev pub AreUnfit : (ℕ → Type 0) → State → Type 0
 AreUnfit F s = (c : Call) (l : Listen) → Contains s.calls c → Contains s.listens l → c.phase ≡ Offered → c.server.index ≡ l.task → F c.client.index → admits l.from c.client ≡ false
 
--- a set timer's deadline is above now (T: of which tasks it is said)
+-- the deadline of a set timer is above now (T: the tasks for which this is required)
 abbrev pub AreAhead : (ℕ → Type 0) → State → Type 0
 AreAhead T s = (i : ℕ) → i < length s.tasks → T i → IfSome (task_at s i).timer (λ x. s.now < x.deadline)
 
@@ -86,7 +86,7 @@ IsOwned g k = (o : LineSetup) × Contains g.lines o × (o.line ≡ k)
 abbrev pub AreLines : Setup → State → Type 0
 AreLines g s = (k : ℕ) → (line_at s k).pending ≡ true → ((line_at s k).enabled ≡ false) × IsOwned g k
 
--- what rests on the image alone, and what no effect breaks
+-- the parts that depend only on the image, or that no effect breaks
 pub record IsSteady (g : Setup) (s : State) : Type 0 where
   pub calls : AreCalls g s.next_call s.calls
   pub listens : AreListens g s.listens
@@ -100,7 +100,7 @@ pub record IsSteady (g : Setup) (s : State) : Type 0 where
   pub placed : ArePlaced g s.memory
   pub devices : AreSaneDevices s.devices
 
--- sane, but for what M, F, T and W leave out
+-- sane, except for the tasks that M, F, T and W leave out
 pub record IsSaneBut (M F T : ℕ → Type 0) (W : ℕ → ℕ → Type 0) (g : Setup) (s : State) : Type 0 where
   pub steady : IsSteady g s
   pub well : AreWell s
@@ -118,7 +118,7 @@ Both i j = Unit {0}
 abbrev pub Sane : Setup → State → Type 0
 Sane g s = IsSaneBut Every Every Every Both g s
 
--- between turns alone
+-- what is true only between turns
 pub record IsCounted (s : State) : Type 0 where
   pub some : 1 ≤ s.next_call
   pub calls : s.next_call ≤ s.turn + 1

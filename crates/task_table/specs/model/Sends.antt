@@ -23,7 +23,7 @@ message_of x = record { base = x.message_base; len = x.message_length }
 abbrev pub reply_room : SendArgs → Slice
 reply_room x = record { base = x.reply_base; len = x.reply_capacity }
 
--- twelve bytes a lease
+-- the lease table: twelve bytes for each lease
 abbrev pub table_of : SendArgs → Slice
 table_of x = record { base = x.table; len = 12 * x.leases }
 
@@ -56,7 +56,7 @@ offers_call k t = t ⨾ offered k ⨾ taken_at_once k (listen_of t.state k.serve
 abbrev pub sends : ℕ → SendArgs → ℕ → Turn → Turn
 sends c x server t = let u = t ⨾ past_syscall c in u ⨾ offers_call (call_made u.state c x server)
 
--- to another task: message, reply buffer and lease table are checked in this order
+-- a SEND to another task: the message, the reply buffer and the lease table are checked in this order
 abbrev pub sent_to : Setup → ℕ → SendArgs → Turn → Turn
 sent_to g c x t =
     let s = t.state in
@@ -68,7 +68,7 @@ sent_to g c x t =
     ∷ (is_dead s id, t ⨾ goes_on_with c (dead_code_for s id ∷ 0 ∷ []))
     ∷ []) (t ⨾ sends c x (index_of id))
 
--- to a task that is there, and not to the caller itself
+-- SEND: the recipient has to be a task, and not the caller itself
 unfoldable pub sent : Setup → ℕ → Turn → Turn
 sent g c t =
     let s = t.state in
@@ -83,7 +83,7 @@ sent g c t =
 abbrev pub reply_of : ReplyArgs → Slice
 reply_of x = record { base = x.reply_base; len = x.reply_length }
 
--- the client gets the reply, the code and the reply's length, and its call is closed
+-- the client gets the reply, the code and the length of the reply, and its call is closed
 abbrev pub answers : ℕ → ReplyArgs → Call → Turn → Turn
 answers c x k t =
     t
@@ -93,7 +93,7 @@ answers c x k t =
     ⨾ returned k.client.index
     ⨾ goes_on c
 
--- a client that awaits no reply of the caller is left alone
+-- a client that does not await a reply of the caller does not change
 abbrev pub replied_to : Setup → ℕ → ReplyArgs → Option Call → Turn → Turn
 replied_to g c x None t = t ⨾ goes_on c
 replied_to g c x (Some k) t =
@@ -115,7 +115,7 @@ replied g c t =
 
 -- ## REPLY_FAULT: r4 client, r5 reason
 
--- that of the client, by its server and for a reason
+-- the fault of the client, which its server caused for a reason
 abbrev pub reply_fault_of : State → ℕ → ℕ → Fault
 reply_fault_of s c reason = reply_fault_by (present_id s c) reason
 

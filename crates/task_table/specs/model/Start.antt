@@ -5,11 +5,12 @@ use Rattle.task_table.specs.model.State.{Setup, TaskSetup, Task, State, Turn}
 use Rattle.task_table.specs.model.Reading.{no_line}
 use Rattle.task_table.specs.model.Effects.{at_birth}
 
--- the first birth of a task: Well where the image starts it, else Stopped
+-- the first birth of a task: well if the image starts it, else stopped
 abbrev pub born : TaskSetup → Task
 born x = at_birth x 0 (if x.start then Well else Stopped)
 
--- turn 0: the image's flash, RAM of zeros, nothing waits, lines are disabled with nothing pending, no device
+-- turn 0: the flash of the image, zeros in the RAM, no task waits, lines are disabled with nothing pending, and
+-- there is no device
 unfoldable pub start : Setup → State
 start g =
     record {
@@ -25,6 +26,6 @@ start g =
       devices = [];
     }
 
--- a turn that has come to nothing yet
+-- a turn in which nothing has happened yet
 unfoldable pub begun : State → Turn
 begun s = record { state = s; notes = []; writes = []; reads = [] }

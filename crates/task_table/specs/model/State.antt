@@ -1,5 +1,5 @@
--- The state of the abstract kernel. (Hubris Reference: task ids and generations, IPC, leases,
--- notifications; what is this project's own choice where the reference leaves one, its profile, is said in docs/FORMATS.md.)
+-- The state of the abstract kernel. (Hubris Reference: task ids and generations, IPC, leases, notifications;
+-- docs/FORMATS.md says what this project chooses where the reference leaves a choice: its profile.)
 use Rattle.std.specs.Prelude.{ℕ, List, Option, Bool}
 use Rattle.kernel_abi.specs.declared.Health.{Health}
 use Rattle.words_core.specs.declared.Flags.{Flags}
@@ -13,7 +13,7 @@ pub use Rattle.task_table.specs.declared.slot.Phase.{Phase}
 pub use Rattle.task_table.specs.declared.slot.Phase.TheVariants.{Offered, Taken}
 pub use Rattle.task_table.specs.declared.slot.Slice.{Slice}
 
--- what the image says of a task, of a line, and of all; it never changes
+-- what the image says of a task
 pub record TaskSetup : Type 0 where
   pub priority : ℕ
   pub entry : ℕ
@@ -26,17 +26,17 @@ pub record LineSetup : Type 0 where
   pub owner : ℕ
   pub bits : ℕ
 
--- what an image fixes for ever
+-- what the image says of all tasks and lines; it never changes in a run
 pub record Setup : Type 0 where
   pub tasks : List TaskSetup
   pub lines : List LineSetup
   pub fault_bits : ℕ
-  pub flash : List ℕ  -- its bytes
+  pub flash : List ℕ  -- the bytes of the flash
   pub ram : ℕ  -- how many bytes
   pub line_count : ℕ  -- how many interrupt lines the board has
 
 pub record Task : Type 0 where
-  pub births : ℕ  -- how often it was born again, without bound
+  pub births : ℕ  -- how often the task was restarted, without bound
   pub registers : List ℕ  -- sixteen
   pub flags : Flags
   pub health : Health
@@ -74,7 +74,7 @@ pub record State : Type 0 where
   pub turn : ℕ
   pub memory : Memory
   pub tasks : List Task
-  pub calls : List Call  -- the open ones
+  pub calls : List Call  -- the open calls
   pub listens : List Listen
   pub now : ℕ
   pub lines : List Line
@@ -94,8 +94,8 @@ pub record Write : Type 0 where
   pub address : ℕ
   pub byte : ℕ
 
--- what a turn reads for a task at another one's place: the front of a message, an entry of a lease
--- table with what it said, the bytes of a lease
+-- what a turn reads of another task for its own: the front of a message, an entry of a lease table with its
+-- contents, or the bytes of a lease
 pub data Part : Type 0 where
   MessageFront : Part
   Entry : ℕ → ℕ → ℕ → Part  -- attributes, base, length
@@ -107,7 +107,7 @@ pub record Read : Type 0 where
   pub base : ℕ
   pub len : ℕ
 
--- what a turn has come to so far: the state, and the notes, writes and reads that led there
+-- a turn so far: the state, and the notes, writes and reads that led to it
 pub record Turn : Type 0 where
   pub state : State
   pub notes : List Note

@@ -1,6 +1,6 @@
--- What may happen in a turn, each with what makes it good: whatever is kept by each step is kept by every call and
--- every instruction, since each is a chain of steps.
--- (s: the state after the events of the turn; c: the chosen task; u: what the turn has come to)
+-- The steps that may happen in a turn, each with its conditions. Each system call and each instruction is a chain
+-- of steps, so what each step keeps, each of them keeps. (s: the state after the events of the turn; c: the chosen
+-- task; u: the turn so far)
 use Rattle.std.specs.Prelude.{ℕ, ◌≡◌, ◌≢◌, ◌+◌, ◌<◌, ◌≤◌, ◌⊎◌, Bool, true, false, List, length, Option, None, Contains, IfSome, bit_and, nat_lt}
 use Rattle.kernel_abi.specs.Faults.{injected_fault}
 use Rattle.kernel_abi.specs.declared.Borrow.{Borrow}
@@ -27,7 +27,8 @@ use Rattle.task_table.specs.model.Counts.{AreWhole}
 use Rattle.task_table.specs.model.Grounds.{IsReached, MayChange, IsAlive, IsRightRead}
 use Rattle.task_table.specs.model.Chain.{Chain}
 
--- a note that offers, takes, closes and borrows from no call; a byte comes from one of the devices that there may be
+-- a note that does not offer, take, close or borrow from a call; if a device gives out a byte, its number is one
+-- that a device may have
 abbrev pub is_plain : Note → Bool
 is_plain (note.Offer call client server) = false
 is_plain (note.Take call copied) = false
@@ -50,7 +51,7 @@ is_plain note.Idle = true
 is_plain (note.Low registers) = true
 is_plain (note.High registers n z c v) = true
 
--- who has a part in what c does: c itself, and the client of an open call
+-- the tasks that c may change: c itself, and the client of an open call
 abbrev pub IsParty : State → ℕ → ℕ → Type 0
 IsParty s c i = (i ≡ c) ⊎ ((call : Call) × Contains s.calls call × (call.client.index ≡ i))
 
@@ -58,7 +59,7 @@ IsParty s c i = (i ≡ c) ⊎ ((call : Call) × Contains s.calls call × (call.c
 abbrev pub IsOpenAs : State → ℕ → Phase → Type 0
 IsOpenAs s k p = (call : Call) × Contains s.calls call × (call.number ≡ k) × (call.phase ≡ p)
 
--- for information nothing moves, from offset 0
+-- a borrow for information moves nothing, from offset 0
 abbrev pub IsMoved : Borrow → ℕ → ℕ → Type 0
 IsMoved borrow.Read offset moved = Unit {0}
 IsMoved borrow.Write offset moved = Unit {0}
@@ -73,7 +74,7 @@ pub record MayListen (g : Setup) (s : State) (l : Listen) : Type 0 where
   pub unmet : bit_and (task_at s l.task).posted l.mask ≡ 0
   pub unfit : (k : Call) → Contains s.calls k → k.phase ≡ Offered → k.server.index ≡ l.task → admits l.from k.client ≡ false
 
--- a new call of c, which has none, under the number that is the next one; it is the first of the turn
+-- a new call of c, which has no call yet, under the next number; it is the first new call of the turn
 pub record IsNew (s : State) (c : ℕ) (u : Turn) (k : Call) : Type 0 where
   pub client : k.client.index ≡ c
   pub free : call_of u.state c ≡ None
@@ -81,7 +82,7 @@ pub record IsNew (s : State) (c : ℕ) (u : Turn) (k : Call) : Type 0 where
   pub next : u.state.next_call ≡ s.next_call
   pub phase : k.phase ≡ Offered
 
--- a call that c may offer; who listens did so at the beginning of the turn
+-- a call that c may offer; a task that listens also listened at the beginning of the turn
 pub record MayOffer (g : Setup) (s : State) (c : ℕ) (u : Turn) (k : Call) : Type 0 where
   pub fit : IsFitCall g k
   pub new : IsNew s c u k
@@ -92,7 +93,7 @@ pub record MayOffer (g : Setup) (s : State) (c : ℕ) (u : Turn) (k : Call) : Ty
   pub listens : u.state.listens ≡ s.listens
   pub fit_listens : (l : Listen) → Contains s.listens l → IsFitListen g l
 
--- an offered call that c may take, into a buffer of its own
+-- an offered call that c may take, into a buffer that c may write
 pub record MayReceive (g : Setup) (s : State) (c : ℕ) (u : Turn) (k : Call) (buffer : Slice) : Type 0 where
   pub here : Contains u.state.calls k
   pub before : Contains s.calls k
@@ -100,7 +101,7 @@ pub record MayReceive (g : Setup) (s : State) (c : ℕ) (u : Turn) (k : Call) (b
   pub server : k.server.index ≡ c
   pub good : bad_byte g c Write buffer ≡ None
 
--- n bytes from an address on are in a range that task i may write, and the range begins there
+-- n bytes from an address on lie in a range that task i may write, and the range begins at that address
 pub record IsTarget (g : Setup) (i : ℕ) (r : Slice) (at n : ℕ) : Type 0 where
   pub good : bad_byte g i Write r ≡ None
   pub base : at ≡ r.base
@@ -110,7 +111,7 @@ pub record IsTarget (g : Setup) (i : ℕ) (r : Slice) (at n : ℕ) : Type 0 wher
 abbrev pub MayChangeAll : Setup → State → ℕ → Turn → Ground → ℕ → ℕ → Type 0
 MayChangeAll g s c u on at n = (a : ℕ) → at ≤ a → a < at + n → MayChange g s c u on a
 
--- a call that its client has may end so: an answer ends one that is taken
+-- an ending that the call of a client may have: an answer ends only a taken call
 abbrev pub Ends : Ending → Option Call → Type 0
 Ends Reply call = IfSome call (λ k. k.phase ≡ Taken)
 Ends ReplyFault call = IfSome call (λ k. k.phase ≡ Taken)
@@ -140,9 +141,9 @@ pub data Step (g : Setup) (s : State) (c : ℕ) : Turn → Turn → Type 0 where
   Strikes : (i : ℕ) (fault : Fault) (ending : Ending) (u : Turn) → i ≢ c → i < length g.tasks → 1 ≤ fault.number → fault.number ≤ 10 → IsParty s c i ⊎ (fault ≡ injected_fault) → Ends ending (call_of u.state i) → Step g s c u (faulted_as g i fault ending u)
   Restarts : (i : ℕ) (start : Bool) (u : Turn) → i ≢ c → i < length g.tasks → Step g s c u (restarted g i start u)
 
--- ## what a call or an instruction comes to
+-- ## what a system call or an instruction does as a whole
 
--- the step is not the fault of c, and restarts nobody
+-- the step does not fault c, and restarts no task
 abbrev pub Spares : {g : Setup} {s : State} {c : ℕ} {u v : Turn} → Step g s c u v → Type 0
 Spares (Notes n u a) = Unit {0}
 Spares (Gives i values u a b d) = Unit {0}
@@ -166,7 +167,7 @@ Spares (Halts fault u a b d) = ⊥
 Spares (Strikes i fault ending u a b d e f h) = Unit {0}
 Spares (Restarts i start u a b) = ⊥
 
--- a step that spares c and all births
+-- a step that does not fault c and changes no birth
 abbrev pub Spared : Setup → State → ℕ → Turn → Turn → Type 0
 Spared g s c u v = (step : Step g s c u v) × Spares step
 
@@ -176,12 +177,13 @@ IsEntry MessageFront = ⊥
 IsEntry (Entry attributes base length) = Unit {0}
 IsEntry Leased = ⊥
 
--- from u to v nothing was read at another task's place but entries of lease tables
+-- from u to v nothing of another task was read except entries of lease tables
 abbrev pub ReadsEntries : Turn → Turn → Type 0
 ReadsEntries u v = (r : Read) → Contains v.reads r → Contains u.reads r ⊎ IsEntry r.part
 
--- c faults at once, or after steps that changed nothing, noted nothing, wrote nothing and read entries alone; or steps
--- that spare it; or it restarts another task at once, and goes on with results
+-- One of three things. c faults, at once or after steps that changed, noted and wrote nothing and read only
+-- entries. Or there are only steps that do not fault c and restart no task. Or c restarts another task at once, and
+-- goes on with results.
 pub data CallOutcome (g : Setup) (s : State) (c : ℕ) : Turn → Turn → Type 0 where
   Faults : (fault : Fault) (u v : Turn) → c < length g.tasks → 1 ≤ fault.number → fault.number ≤ 10 → Chain (Spared g s c) u v → v.state ≡ u.state → v.notes ≡ u.notes → v.writes ≡ u.writes → ReadsEntries u v → CallOutcome g s c u (faulted g c fault v)
   Goes : (u v : Turn) → Chain (Spared g s c) u v → CallOutcome g s c u v

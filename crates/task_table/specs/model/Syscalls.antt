@@ -12,7 +12,7 @@ use Rattle.task_table.specs.model.Sends.{sent, replied, reply_faulted, post_made
 use Rattle.task_table.specs.model.Borrows.{reading, writing, borrowed, informed}
 use Rattle.task_table.specs.model.Requests.{requested}
 
--- what a system call makes of its caller's turn
+-- what a system call does, to the turn of its caller
 abbrev pub Meaning : Type 0
 Meaning = Setup → ℕ → Turn → Turn
 
@@ -38,7 +38,7 @@ syscalls =
     ∷ (syscall_number IrqStatus, irq_answered)
     ∷ []
 
--- what a number means among some system calls; one that none of them has is usage 1, BadCall
+-- the meaning of a number among these system calls; a number that none of them has is usage 1, BadCall
 abbrev pub meaning_among : List (ℕ × Meaning) → ℕ → Meaning
 meaning_among [] n g c t = misused g c (usage_number BadCall) t
 meaning_among (syscall ∷ syscalls) n g c t = if n == syscall.0 then syscall.1 g c t else meaning_among syscalls n g c t

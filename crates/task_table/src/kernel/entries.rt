@@ -16,8 +16,8 @@ impl Kernel {
     ghost use Rattle.task_table.specs.declared.entry.KeptEntry.{KeptEntry};
     ghost use Rattle.task_table.specs.declared.slot.OpenCall.{OpenCall};
 
-    /// The entry that begins at an address, where it is kept for a task: the task may read it, and
-    /// it is what memory has there.
+    /// The entry that begins at an address, if it is kept for a task. The task may read it, and
+    /// memory has the same there.
     pub fn kept_entry(&self, task: usize, base: u32) -> Option<LeaseEntry>
         requires { task < task_count self.now }
         ensures kept { IfSome result (λ e. IsKeptFor (entries_of self.now) task base e) }
@@ -37,8 +37,8 @@ impl Kernel {
         }
     }
 
-    /// Keeps an entry that was read for a task, in the place of another: it is of a lease of the
-    /// taken call for whose end the task waits, and the task may read it.
+    /// Keeps an entry that was read for a task, instead of the one that was kept for it before. It
+    /// is the entry of a lease of the task's call, which is taken, and the task may read it.
     pub fn keep_entry(&mut self, task: usize, kept: KeptEntry)
         requires there { task < task_count self.old }
         requires read { (borrower : ℕ) × (call : OpenCall)
@@ -51,8 +51,8 @@ impl Kernel {
         self.entries[task] = Some(kept);
     }
 
-    /// So many bytes from an address on are about to be written: an entry that has one of them is
-    /// kept no more, and the others are. Nothing else changes.
+    /// Has to be called before `len` bytes from an address on are written. An entry that has any of
+    /// them is dropped, and the others stay. Nothing else changes.
     #[inline(always)]
     pub fn touched(&mut self, base: u32, len: usize)
         ensures holds { (g : Setup) (t : Turn) → Holds g self.old t → Holds g self.new t }
@@ -72,7 +72,7 @@ impl Kernel {
         }
     }
 
-    /// As `touched`, where an entry may have one of the bytes.
+    /// As `touched`, if an entry may have one of the bytes.
     #[cold]
     #[inline(never)]
     fn drop_touched(&mut self, base: u32, len: usize)

@@ -1,5 +1,5 @@
-//! Parts of a kernel that become as they are told, each for itself: what is kept of all of them
-//! follows. The state in between need not be sane.
+//! Setters for single parts of a kernel. What the kernel keeps besides, such as its sets of tasks,
+//! is brought up to date. The state between two of them need not be sane.
 
 use super::Kernel;
 use crate::slot::Slot;
@@ -14,7 +14,7 @@ impl Kernel {
     ghost use Rattle.task_table.specs.kept.Holds.{Holds, task_count, note_count, memory_of};
     ghost use Rattle.task_table.specs.kept.Frames.{AddsNotes};
 
-    /// The time is so from now on.
+    /// Sets the time.
     pub fn set_now(&mut self, time: u64)
         ensures holds { (g : Setup) (t : Turn) → Holds g self.old t →
             Holds g self.new (changed (λ s. record s { now = time }) t) }
@@ -23,7 +23,7 @@ impl Kernel {
         self.clock = time;
     }
 
-    /// The next call gets this number.
+    /// Sets the number that the next call gets.
     pub fn set_next_call(&mut self, number: u32)
         ensures holds { (g : Setup) (t : Turn) → Holds g self.old t →
             Holds g self.new (changed (λ s. record s { next_call = number }) t) }
@@ -32,8 +32,8 @@ impl Kernel {
         self.next_call = number;
     }
 
-    /// A task is so from now on, and waits so; it was born as often as its generation says. No
-    /// entry is kept for it any more.
+    /// Sets the slot of a task. In the model its number of births becomes its generation. Its kept
+    /// entry is dropped.
     pub fn set_task(&mut self, task: usize, slot: Slot)
         requires there { task < task_count self.old }
         requires told { IsTold task slot }
@@ -45,8 +45,7 @@ impl Kernel {
         self.set_slot(task, slot);
     }
 
-    /// A byte of the flash or of the RAM is so from now on. The flash that the setup fixes is that
-    /// of the memory.
+    /// Sets a byte of the flash or of the RAM. The flash of the setup becomes that of the memory.
     pub fn set_byte(&mut self, addr: u32, byte: u8)
         requires { is_held (memory_of self.old) addr ≡ true }
         ensures holds { (g : Setup) (t : Turn) → Holds g self.old t →
@@ -60,7 +59,7 @@ impl Kernel {
         self.memory.store(addr, &[byte]);
     }
 
-    /// All bytes of the RAM are so from now on.
+    /// Sets all bytes of the RAM.
     pub fn set_ram(&mut self, bytes: &[u8])
         requires { length bytes.now ≡ length (memory_of self.old).ram }
         ensures holds { (g : Setup) (t : Turn) → Holds g self.old t →

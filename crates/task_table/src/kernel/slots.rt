@@ -1,4 +1,4 @@
-//! What is kept of a task, and how it is written.
+//! The slots of the tasks, and how they are written.
 
 use super::Kernel;
 use crate::readiness::{follow_readiness, move_member};
@@ -15,10 +15,10 @@ impl Kernel {
     ghost use Rattle.task_table.specs.kept.Holds.{Holds, IsKept, task_count, entries_of};
     ghost use Rattle.task_table.specs.kept.Frames.{AddsNotes};
 
-    /// Keeps this of a task but for its timer, which stays as it is; the sets of the tasks that are
-    /// ready and that offer a call follow, and no entry is kept for it any more. Only here does its
-    /// health or its wait change. The slot is written first: what stays of it as it was just read
-    /// costs nothing then.
+    /// Sets the slot of a task, except its timer, which does not change. The sets of the tasks that
+    /// are ready and of those that offer a call are brought up to date, and its kept entry is
+    /// dropped. This is the only place where its health or its wait changes. The slot is written
+    /// first: parts of it that were just read and do not change then cost nothing.
     #[inline(always)]
     pub(crate) fn set_slot(&mut self, task: usize, slot: Slot)
         requires { task < task_count self.old }
@@ -45,7 +45,7 @@ impl Kernel {
         self.entries[task] = None;
     }
 
-    /// Keeps this of a task but for its health, its wait and its timer, which stay as they are.
+    /// Sets the slot of a task, except its health, its wait and its timer, which do not change.
     #[inline(always)]
     pub(crate) fn set_rest(&mut self, task: usize, rest: &Slot)
         requires { task < task_count self.old }
@@ -62,7 +62,7 @@ impl Kernel {
         slot.posted = rest.posted;
     }
 
-    /// A task has these registers and flags from now on.
+    /// Sets the registers and flags of a task.
     pub fn set_processor(&mut self, task: usize, registers: [u32; 16], flags: Flags)
         requires { task < task_count self.old }
         ensures holds { (g : Setup) (t : Turn) → Holds g self.old t →
@@ -75,9 +75,9 @@ impl Kernel {
         self.set_rest(task, &slot);
     }
 
-    /// A task is born again: its generation goes up by one, modulo 64, and its registers and flags,
-    /// its posted bits and its timer are as at its first birth. It is well where it is started,
-    /// else stopped, and waits as before (Hubris Reference, on supervision).
+    /// A task is born again. Its generation goes up by one, modulo 64. Its registers, flags, posted
+    /// bits and timer are as at its first birth. It is well if it is started, else stopped. Its
+    /// wait does not change (Hubris Reference, on supervision).
     pub fn reset_task(&mut self, task: usize, start: bool)
         requires there { task < task_count self.old }
         ensures holds { (g : Setup) (t : Turn) → Holds g self.old t →

@@ -1,4 +1,4 @@
-//! The timers of the tasks, and the tasks whose timers are due at a time.
+//! The timers of the tasks, and which tasks have a timer that is due.
 
 use super::Kernel;
 use crate::limits::WHEEL;
@@ -15,8 +15,8 @@ impl Kernel {
     ghost use Rattle.task_table.specs.kept.Holds.{Holds, task_count};
     ghost use Rattle.task_table.specs.kept.Frames.{AddsNotes};
 
-    /// The timer of a task is set from now on, or off; the sets of the tasks by their deadlines
-    /// follow. Only here does it change.
+    /// Sets the timer of a task, or turns it off. The sets of the tasks by their deadlines are
+    /// brought up to date. This is the only place where a timer changes.
     pub fn set_timer(&mut self, task: usize, timer: Option<Timer>)
         requires { task < task_count self.old }
         ensures holds { (g : Setup) (t : Turn) → Holds g self.old t →
@@ -28,7 +28,7 @@ impl Kernel {
         self.slots[task].timer = timer;
     }
 
-    /// Tasks, by index, among them each whose timer is due at just this time. Others have a
+    /// A set of tasks, by index. It has each task whose timer is due now. The others in it have a
     /// deadline that is a multiple of `WHEEL` ticks away.
     #[inline(always)]
     pub fn due(&self) -> &TaskSet
@@ -43,7 +43,7 @@ impl Kernel {
 ghost use Rattle.std.specs.Prelude.{◌≡◌};
 ghost use Rattle.task_table.specs.kept.Deadlines.{wheel_set};
 
-/// The number of the set that a task with this timer is in, where it is set.
+/// The number of the set that a task with this timer is in; None if the timer is off.
 #[inline(always)]
 fn wheel_set(timer: Option<Timer>) -> Option<usize>
     ensures { result ≡ wheel_set timer }

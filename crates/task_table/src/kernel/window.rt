@@ -1,4 +1,4 @@
-//! The bytes of four regions, handed to somebody for the time of one call.
+//! The bytes of four regions, lent to a user for the time of one call.
 
 use super::Kernel;
 use mem_banks::WindowUser;
@@ -15,8 +15,8 @@ impl Kernel {
     ghost use Rattle.task_table.specs.kept.Openable.{AreUsable};
     ghost use Rattle.task_table.specs.kept.Window.{IsWindowOpened};
 
-    /// As `touched`, of bytes of which there may be none. Most tasks have no area, and an entry may
-    /// be kept where its empty region begins.
+    /// As `touched`, for a range that may be empty. Most tasks have no area, and a kept entry may
+    /// lie where its empty region begins.
     #[inline(always)]
     fn area_touched(&mut self, base: u32, len: usize)
         ensures holds { (g : Setup) (t : Turn) → Holds g self.old t → Holds g self.new t }
@@ -33,10 +33,10 @@ impl Kernel {
         }
     }
 
-    /// Opens the bytes of a region of code and of three of the RAM, where each has a bank of its
-    /// own; each of those may be empty, and begin where the RAM does. Else the answer is false.
-    /// Those of a task that lie so are opened. An entry of a lease table that has one of the bytes
-    /// in the RAM is kept no more, since the user may write over it.
+    /// Opens the bytes of a region of code and of three regions of the RAM, if each of them has a
+    /// bank for itself; otherwise the answer is false. A region of the RAM may be empty, and then
+    /// begins where the RAM does. It succeeds for usable regions of one task. A kept entry that has
+    /// a byte of the three is dropped, because the user may write over it.
     #[inline(always)]
     pub fn open_window<B: WindowUser>(
         &mut self,

@@ -1,4 +1,4 @@
-//! What a first word names.
+//! What the first word of a statement means.
 
 ghost use Rattle.std.specs.Prelude.{◌≡◌};
 ghost use Rattle.thumb_asm.specs.Syntax.{mnemonic};
@@ -94,7 +94,7 @@ const MNEMONICS: &[(&[u8], Mnemonic)] = &[
     (b".align", Mnemonic::Align),
 ];
 
-/// What a first word names.
+/// What the first word of a statement means.
 pub(crate) fn mnemonic(word: &[u8]) -> Option<Mnemonic>
     ensures { result ≡ mnemonic word.now }
 {

@@ -1,5 +1,5 @@
-//! The shape of a statement by its mnemonic and up to three operands: a function for each number
-//! and kinds of operands, with an arm for each mnemonic that takes them.
+//! The shape of a statement, by its mnemonic and up to three operands. There is a function for each
+//! number and kinds of operands, with an arm for each mnemonic that takes them.
 
 ghost use Rattle.std.specs.Prelude.{◌≡◌, [], option_map};
 ghost use Rattle.thumb_asm.specs.Syntax.{shaped, at_sp, keyword, Fixed};
@@ -44,7 +44,7 @@ fn at_sp(r: Reg, shape: Shape<'_>) -> Shape<'_>
     }
 }
 
-/// An instruction with a word that stands for itself.
+/// An instruction whose operand is a keyword.
 fn keyword<'a>(text: &[u8], word: &[u8], insn: Insn) -> Option<Shape<'a>>
     ensures { option_map shape_of result ≡ keyword text.now word.now (Fixed insn) }
 {

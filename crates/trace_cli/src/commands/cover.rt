@@ -10,9 +10,8 @@ ghost use Rattle.outside_io.specs.Seen.{OnlyReads};
 ghost use Rattle.trace_cli.specs.Pushed.{SaysCovered};
 ghost use Rattle.trace_cli.specs.Answer.{AnswersJob};
 
-use crate::lines::{status_by, tell_named_fault};
-use crate::preparing::{prepare_app, prepare_run};
 use board_core::Board;
+use command_files::{prepare_app, prepare_run, status_by, tell_named_fault};
 use devices::Device;
 use outside_io::{Files, Sink};
 use run_cover::{Cover, write_cover};

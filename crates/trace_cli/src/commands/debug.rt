@@ -8,19 +8,21 @@ ghost use Rattle.debug_core.specs.Listed.{listed};
 ghost use Rattle.debug_core.specs.Reading.{commands_or_fault};
 ghost use Rattle.command_line.specs.CommandLine.{debug as debug_job};
 ghost use Rattle.outside_io.specs.Seen.{OnlyReads};
-ghost use Rattle.trace_cli.specs.Contents.{file_limit, commands_refusal};
-ghost use Rattle.trace_cli.specs.Sources.{commands_file};
-ghost use Rattle.trace_cli.specs.FileFaults.{IsFaultFor, IsNamedFaultOf};
-ghost use Rattle.trace_cli.specs.Ready.{IsCommandsFile, IsDebugReady, IsNamedFaultIn};
-ghost use Rattle.trace_cli.specs.Pushed.{Says};
+ghost use Rattle.command_files.specs.Contents.{file_limit};
+ghost use Rattle.trace_cli.specs.Contents.{commands_refusal};
+ghost use Rattle.trace_cli.specs.Sources.{commands_file, files_of};
+ghost use Rattle.command_files.specs.FileFaults.{IsFaultFor, IsNamedFaultOf};
+ghost use Rattle.trace_cli.specs.Ready.{IsCommandsFile, IsDebugReady};
+ghost use Rattle.command_files.specs.Ready.{IsNamedFaultIn};
+ghost use Rattle.command_files.specs.Pushed.{Says};
 ghost use Rattle.trace_cli.specs.Verdict.{debugged};
 ghost use Rattle.trace_cli.specs.Answer.{AnswersJob};
 
-use crate::file_faults::{FileFault, NamedFault, fault_named, refused_at_number};
-use crate::lines::tell_named_fault;
-use crate::preparing::{read_image, read_script};
-use crate::sources::{FILE_LIMIT, read_contents};
 use board_core::Board;
+use command_files::{
+    FILE_LIMIT, FileFault, NamedFault, fault_named, read_contents, read_image, read_script,
+    refused_at_number, tell_named_fault,
+};
 use debug_core::{CommandFault, Commands, Debugger};
 use devices::Device;
 use outside_io::{Files, Sink};
@@ -75,7 +77,8 @@ fn prepare_debug<F: Files>(
         (debug_job image.now script.now commands.now) (F.seen files.old).contents (listed p.1)
         p.0) }
     ensures named_fault { IfErr result
-        (IsNamedFaultIn (map shown devices.items) (debug_job image.now script.now commands.now)
+        (IsNamedFaultIn (files_of (map shown devices.items)
+        (debug_job image.now script.now commands.now))
         (F.seen files.old) (F.seen files.new)) }
     ensures only_reads { OnlyReads (F.seen files.old) (F.seen files.new) }
 {

@@ -9,9 +9,8 @@ ghost use Rattle.outside_io.specs.Seen.{OnlyReads};
 ghost use Rattle.trace_cli.specs.Pushed.{SaysLive};
 ghost use Rattle.trace_cli.specs.Answer.{AnswersJob};
 
-use crate::lines::{line_of_unread, tell, tell_named_fault};
-use crate::preparing::prepare_run;
 use board_core::Board;
+use command_files::{line_of_unread, prepare_run, tell, tell_named_fault};
 use debug_core::{Debugger, LiveFault};
 use devices::Device;
 use outside_io::{Files, Sink};

@@ -5,13 +5,12 @@ ghost use Rattle.board_model.specs.Script.{Scenario, start_of};
 ghost use Rattle.board_core.specs.Data.{boxed};
 ghost use Rattle.board_core.specs.Stands.{Stands, StandsForSome, count_of, turns_of};
 ghost use Rattle.command_line.specs.CommandLine.{picture as picture_job};
-ghost use Rattle.trace_cli.specs.Answer.{AnswersJob, Tells};
+ghost use Rattle.trace_cli.specs.Answer.{AnswersJob};
+ghost use Rattle.command_files.specs.Answer.{Tells};
 ghost use Rattle.trace_cli.specs.Verdict.{drawn};
 
-use crate::lines::{line_of_drawn, tell_named_fault};
-use crate::naming::prepare_named;
-use crate::putting::put_told;
 use board_core::Board;
+use command_files::{line_of_drawn, prepare_named, put_told, tell_named_fault};
 use devices::Device;
 use outside_io::{Files, Sink};
 use run_lanes::draw_run;

@@ -8,19 +8,21 @@ ghost use Rattle.board_core.specs.Data.{boxed};
 ghost use Rattle.sweep_core.specs.Sweeping.{IsReady as IsReadyToSweep, asked};
 ghost use Rattle.command_line.specs.CommandLine.{sweep as sweep_job};
 ghost use Rattle.outside_io.specs.Seen.{OnlyReads};
-ghost use Rattle.trace_cli.specs.Contents.{file_limit, arrival_refusal, script_of};
-ghost use Rattle.trace_cli.specs.Sources.{arrival_file};
-ghost use Rattle.trace_cli.specs.FileFaults.{IsFaultFor, IsNamedFaultOf};
-ghost use Rattle.trace_cli.specs.Ready.{IsArrivalFile, IsSweepReady, IsNamedFaultIn};
-ghost use Rattle.trace_cli.specs.Pushed.{Pushed};
+ghost use Rattle.command_files.specs.Contents.{file_limit, script_of};
+ghost use Rattle.trace_cli.specs.Contents.{arrival_refusal};
+ghost use Rattle.trace_cli.specs.Sources.{arrival_file, files_of};
+ghost use Rattle.command_files.specs.FileFaults.{IsFaultFor, IsNamedFaultOf};
+ghost use Rattle.trace_cli.specs.Ready.{IsArrivalFile, IsSweepReady};
+ghost use Rattle.command_files.specs.Ready.{IsNamedFaultIn};
+ghost use Rattle.command_files.specs.Pushed.{Pushed};
 ghost use Rattle.trace_cli.specs.Verdict.{swept};
 ghost use Rattle.trace_cli.specs.Answer.{AnswersJob};
 
-use crate::file_faults::{FileFault, NamedFault, fault_named, refused_at_number};
-use crate::lines::tell_named_fault;
-use crate::preparing::{read_image, read_script};
-use crate::sources::{FILE_LIMIT, read_contents, script_in};
 use board_core::Board;
+use command_files::{
+    FILE_LIMIT, FileFault, NamedFault, fault_named, read_contents, read_image, read_script,
+    refused_at_number, script_in, tell_named_fault,
+};
 use devices::Device;
 use outside_io::{Files, Sink};
 use run_script::Script;
@@ -84,8 +86,8 @@ fn prepare_sweep<F: Files>(
         (sweep_job image.now script.now arrival.now from to limit mem) (F.seen files.old).contents
         from to limit mem) }
     ensures named_fault { (from to limit : ℕ) (mem : Bool) →
-        IfErr result (IsNamedFaultIn (map shown devices.items)
-        (sweep_job image.now script.now arrival.now from to limit mem) (F.seen files.old)
+        IfErr result (IsNamedFaultIn (files_of (map shown devices.items)
+        (sweep_job image.now script.now arrival.now from to limit mem)) (F.seen files.old)
         (F.seen files.new)) }
     ensures only_reads { OnlyReads (F.seen files.old) (F.seen files.new) }
 {

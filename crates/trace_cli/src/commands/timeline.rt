@@ -6,13 +6,12 @@ ghost use Rattle.board_core.specs.Data.{boxed};
 ghost use Rattle.board_core.specs.Stands.{Stands, StandsForSome, count_of, turns_of};
 ghost use Rattle.command_line.specs.CommandLine.{timeline as timeline_job};
 ghost use Rattle.outside_io.specs.Seen.{OnlyReads};
-ghost use Rattle.trace_cli.specs.Pushed.{Says};
+ghost use Rattle.command_files.specs.Pushed.{Says};
 ghost use Rattle.trace_cli.specs.Verdict.{timed};
 ghost use Rattle.trace_cli.specs.Answer.{AnswersJob};
 
-use crate::lines::{status_by, tell_named_fault};
-use crate::naming::prepare_named;
 use board_core::Board;
+use command_files::{prepare_named, status_by, tell_named_fault};
 use devices::Device;
 use outside_io::{Files, Sink};
 use run_lanes::{TimelineFault, write_timeline};

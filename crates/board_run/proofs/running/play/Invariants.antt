@@ -10,7 +10,7 @@ abbrev pub invariant-turns : goal.invariant-turns
 invariant-turns g l =
     let shown = boxed (λ p. (goal.Device-dyn g p).shown p.1) in
     record {
-      midway : (x : Scenario) (s : State) → Stands shown x l.fn.board s → Midway shown g.T.Observer.heard l.level x l.fn.teller l.teller s l.board;
+      midway : (x : Scenario) (s : State) → Stands shown x l.fn.board s → Midway shown g.T.Observer.heard l.level x l.fn.observer l.observer s l.board;
       stood : StandsForSome shown l.board;
       turns : turns_of l.board ≤ l.limit;
       due : l.due ≤ l.limit;

@@ -7,6 +7,6 @@ pub returns : goal.returns
 returns c =
     let a = c.args.first.now in
     let b = c.args.second.now in
-    let seven : length a.words ≡ 7 = omega arith in
-    ap (λ (l : List ℕ). record { words = l; faulted = a.faulted || b.faulted; born = a.born || b.born })
-    (c.add_counts.ensures ∙ ap (λ (n : ℕ). map (λ w. both (get_or a.words w 0) (get_or b.words w 0)) (range_with_len 0 n)) seven)
+    let seven : length a.turns ≡ 7 = omega arith in
+    ap (λ (l : List ℕ). record { turns = l; faulted = a.faulted || b.faulted; born = a.born || b.born })
+    (c.add_counts.ensures ∙ ap (λ (n : ℕ). map (λ w. both (get_or a.turns w 0) (get_or b.turns w 0)) (range_with_len 0 n)) seven)

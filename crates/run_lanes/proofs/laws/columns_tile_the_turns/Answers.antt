@@ -1,6 +1,6 @@
 use Rattle.std.proofs.Common.{length, arith}
 use Rattle.run_lanes.specs.Columns.{column_turns}
-use Rattle.run_lanes.proofs.Celled.{words_sum}
+use Rattle.run_lanes.proofs.Celled.{activities_add_up}
 use Rattle.run_lanes.proofs.Tiled.{few_columns, tile_by}
 use Rattle.run_lanes.proofs.Widths.{width_enough, width_least, width_some}
 use Rattle.run_lanes.proofs.laws.columns_tile_the_turns.Goals as goal
@@ -14,5 +14,5 @@ returns-clause-most c = λ n le. few_columns n (column_turns n) (width_some 20 1
 pub returns-clause-least : goal.returns-clause-least
 returns-clause-least c = λ n. width_least 20 1 n
 
-pub returns-clause-words : goal.returns-clause-words
-returns-clause-words c = λ i turns. words_sum i turns
+pub returns-clause-activities : goal.returns-clause-activities
+returns-clause-activities c = λ i turns. activities_add_up i turns

@@ -4,12 +4,12 @@ use Rattle.board_model.specs.Run.{run}
 use Rattle.board_core.specs.Data.{boxed}
 use Rattle.board_run.proofs.Going.{turns_seen}
 use Rattle.run_lanes.specs.Pictured.{picture_text}
-use Rattle.run_lanes.specs.Words.{sights}
+use Rattle.run_lanes.specs.Activities.{sights}
 use Rattle.run_lanes.proofs.Painting.{after_all}
 use Rattle.run_lanes.proofs.picture.draw_run.Goals as goal
 
 pub watch_all-end-requires-clause-one_each : goal.watch_all-end-requires-clause-one_each
-watch_all-end-requires-clause-one_each g c = λ x s st. omega (arith, c.deref_mut.ensures.len, c.in_ok-words.ensures.len, c.task_count-tasks.ensures.tasks x s st, st.sane.steady.as_many)
+watch_all-end-requires-clause-one_each g c = λ x s st. omega (arith, c.deref_mut.ensures.len, c.in_ok-activities.ensures.len, c.task_count-tasks.ensures.tasks x s st, st.sane.steady.as_many)
 
 pub overflow_sub-turns : goal.overflow_sub-turns
 overflow_sub-turns g c =

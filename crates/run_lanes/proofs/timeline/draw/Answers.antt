@@ -1,7 +1,7 @@
 use Rattle.std.proofs.Common.{◌-◌, ◌∙◌}
 use Rattle.std.proofs.lemmas.Result.{err_from_is_err_and}
 use Rattle.run_lanes.specs.Kept.{kept_of}
-use Rattle.run_lanes.specs.Words.{sights}
+use Rattle.run_lanes.specs.Activities.{sights}
 use Rattle.run_lanes.proofs.Told.{drawn_breaks, drawn_fails, drawn_whole}
 use Rattle.run_lanes.proofs.timeline.draw.Goals as goal
 

@@ -3,7 +3,7 @@ use Rattle.std.proofs.Common.{◌-◌}
 use Rattle.outside_io.proofs.Pushing.{front_wider, pushes_more}
 use Rattle.run_lanes.specs.Kept.{kept_of}
 use Rattle.run_lanes.specs.Timeline.{drawn_text}
-use Rattle.run_lanes.specs.Words.{sights}
+use Rattle.run_lanes.specs.Activities.{sights}
 use Rattle.run_lanes.proofs.timeline.draw_whole.Goals as goal
 
 pub returns-in_err-push_head-clause-text : goal.returns-in_err-push_head-clause-text

@@ -11,7 +11,7 @@ use Rattle.run_lanes.proofs.Told.{front_none, timeline_is}
 use Rattle.run_lanes.proofs.timeline.write_timeline.Goals as goal
 
 pub draw_whole-requires-clause-one_each : goal.draw_whole-requires-clause-one_each
-draw_whole-requires-clause-one_each g c = λ x s st. omega (arith, c.deref_mut.ensures.len, c.in_ok-words.ensures.len, c.task_count-tasks.ensures.tasks x s st, st.sane.steady.as_many)
+draw_whole-requires-clause-one_each g c = λ x s st. omega (arith, c.deref_mut.ensures.len, c.in_ok-activities.ensures.len, c.task_count-tasks.ensures.tasks x s st, st.sane.steady.as_many)
 
 -- ## no memory
 
@@ -19,9 +19,9 @@ pub returns-in_err-lines-clause-text : goal.returns-in_err-lines-clause-text
 returns-in_err-lines-clause-text g c = λ x s st.
     let p = err_from_is_err_and c.from_residual.result c.from_residual.ensures.1 in rw (p.1) (front_none _ _)
 
-pub returns-in_err-words-clause-text : goal.returns-in_err-words-clause-text
-returns-in_err-words-clause-text g c = λ x s st.
-    let p = err_from_is_err_and c.from_residual-in_err-words.result c.from_residual-in_err-words.ensures.1 in rw (p.1) (front_none _ _)
+pub returns-in_err-activities-clause-text : goal.returns-in_err-activities-clause-text
+returns-in_err-activities-clause-text g c = λ x s st.
+    let p = err_from_is_err_and c.from_residual-in_err-activities.result c.from_residual-in_err-activities.ensures.1 in rw (p.1) (front_none _ _)
 
 pub returns-in_err-lanes-clause-text : goal.returns-in_err-lanes-clause-text
 returns-in_err-lanes-clause-text g c = λ x s st.

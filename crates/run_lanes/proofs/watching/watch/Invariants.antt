@@ -13,7 +13,7 @@ invariant-turns g l =
       seen : (x : Scenario) (s : State) → Stands shown x l.fn.board s → HasWatched shown (Paired g.W.Watcher.saw) x (l.fn.watcher, l.fn.out) (l.watcher, l.out) s l.board;
       stood : StandsForSome shown l.board;
       turns : turns_of l.board ≤ l.limit;
-      one_each : (x : Scenario) (s : State) → Stands shown x l.fn.board s → length l.words ≡ length x.setup.tasks;
+      one_each : (x : Scenario) (s : State) → Stands shown x l.fn.board s → length l.activities ≡ length x.setup.tasks;
     }
 
 abbrev pub decreases-turns : goal.decreases-turns

@@ -14,4 +14,4 @@ told_so mem end other tally heard last t is told h = subst (λ e. IsToldAt mem e
 pub returns-clause-told : goal.returns-clause-told
 returns-clause-told g c = λ x s st.
     let last = (run Calls x (c.args.limit - s.turn) s).last in
-    told_so c.args.mem c.in-Ok.end _ c.play.new.teller _ last c.told_at.result (c.in-Ok.ensures.end x s st) (c.in-Ok.ensures.told x s st) (c.told_at.ensures x last (c.in-Ok.ensures.last x s st))
+    told_so c.args.mem c.in-Ok.end _ c.play.new.observer _ last c.told_at.result (c.in-Ok.ensures.end x s st) (c.in-Ok.ensures.told x s st) (c.told_at.ensures x last (c.in-Ok.ensures.last x s st))

@@ -3,7 +3,7 @@ use Rattle.task_table.specs.kept.Entries.{kept_at, meets, IsWatched}
 use Rattle.task_table.specs.declared.entry.KeptEntry.{KeptEntry}
 use Rattle.task_table.proofs.entry.drop_met.Given as goal
 
--- so far those that are left of the first tasks have none of the bytes, and are watched
+-- so far the entries that are left for the first tasks have none of the bytes, and are watched
 abbrev pub invariant-loop-task : goal.invariant-loop-task
 invariant-loop-task l = record {
   there : (i : ℕ) (x : KeptEntry) → kept_at l.entries i ≡ Some x → kept_at l.initial.entries i ≡ Some x;

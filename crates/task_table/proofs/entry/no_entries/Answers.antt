@@ -4,7 +4,7 @@ use Rattle.task_table.specs.kept.Entries.{kept_at}
 use Rattle.task_table.specs.declared.entry.KeptEntry.{KeptEntry}
 use Rattle.task_table.proofs.entry.no_entries.Goals as goal
 
--- none besides leaves none
+-- adding None to a list that has only None
 none_pushed : (xs : List (Option KeptEntry)) → ((i : ℕ) → kept_at xs i ≡ None) → (i : ℕ) → kept_at (xs ++ None ∷ []) i ≡ None
 none_pushed [] none zero = refl
 none_pushed [] none (suc i) = refl

@@ -2,7 +2,7 @@ use Rattle.std.proofs.Common.{◌≡◌, ℕ, None, length}
 use Rattle.task_table.specs.kept.Entries.{kept_at}
 use Rattle.task_table.proofs.entry.no_entries.Given as goal
 
--- so many, and each is none
+-- so far the list has this many items, and each is None
 abbrev pub invariant-loop : goal.invariant-loop
 invariant-loop l = record {
   count : length l.entries.items ≡ l.counter;

@@ -30,7 +30,7 @@ pub(in crate::syntax) fn two<'a>(
     }
 }
 
-/// The same where the first is a register.
+/// The same if the first operand is a register.
 fn register_and(mnemonic: Mnemonic, r: Reg, operand: Operand<'_>) -> Option<Shape<'_>>
     requires { IsPlain mnemonic }
     ensures { option_map shape_of result ≡ shaped mnemonic
@@ -140,7 +140,7 @@ fn expression_register<'a>(mnemonic: Mnemonic, e: &'a [u8], n: Reg) -> Option<Sh
     }
 }
 
-/// A load from `[rn, #0]`: SP has rows of its own.
+/// A load from `[rn, #0]`. SP as a base has separate rows.
 fn loaded(size: Size, t: Reg, n: Reg) -> Insn
     ensures fill { fill result ≡ loaded size t n }
     ensures zero { result ≡ loaded size t n 0 }

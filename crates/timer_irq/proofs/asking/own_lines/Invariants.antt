@@ -7,6 +7,6 @@ use Rattle.task_table.specs.kept.Holds.{Holds}
 use Rattle.timer_irq.specs.Midway.{lines_together}
 use Rattle.timer_irq.proofs.asking.own_lines.Given as goal
 
--- so far the lines of the first owners are taken together
+-- so far the line is that of the first owners together
 abbrev pub invariant-loop-owner : goal.invariant-loop-owner
 invariant-loop-owner l = (g : Setup) (t : Turn) → Holds g l.k t → l.together ≡ lines_together t.state (filter (owns_with l.caller l.bits) (take l.owner-index (map line_setup l.owner-items)))

@@ -6,7 +6,7 @@ use Rattle.task_table.specs.kept.Holds.{Holds}
 use Rattle.task_table.specs.kept.Frames.{AddsAtMost}
 use Rattle.timer_irq.proofs.controlling.control_all.Given as goal
 
--- so far the lines of the first owners are seen to
+-- so far the lines of the first owners are done
 abbrev pub invariant-loop-i : goal.invariant-loop-i
 invariant-loop-i l = record {
   frame : AddsAtMost l.initial.k (2 * l.i) l.k;

@@ -8,7 +8,7 @@ use Rattle.task_table.specs.kept.Frames.{AddsAtMost}
 use Rattle.timer_irq.specs.Midway.{AreNotPast}
 use Rattle.timer_irq.proofs.ticks.expire_all.Given as goal
 
--- so far the timers of the first tasks are seen to
+-- so far the timers of the first tasks are done
 abbrev pub invariant-members : goal.invariant-members
 invariant-members l = record {
   within : l.from ≤ task_count l.initial.k;

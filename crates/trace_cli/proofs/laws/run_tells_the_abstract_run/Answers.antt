@@ -3,10 +3,12 @@ use Rattle.std.proofs.lemmas.Option.{same_Some}
 use Rattle.kernel_abi.specs.Devices.{DeviceData}
 use Rattle.command_line.specs.CommandLine.{run}
 use Rattle.command_line.specs.declared.job.Detail.{Detail}
-use Rattle.trace_cli.specs.Contents.{image_refusal, script_refusal, image_data_of, scenario_of}
+use Rattle.command_files.specs.Contents.{image_refusal, script_refusal, image_data_of, scenario_of}
 use Rattle.trace_cli.specs.Words.{job_in}
-use Rattle.trace_cli.specs.Sources.{image_file, script_file, Are, Takes}
-use Rattle.trace_cli.specs.Verdict.{Verdict, IsVerdict, does, ran}
+use Rattle.command_files.specs.Sources.{image_file, script_file, Are, Takes}
+use Rattle.command_files.specs.Verdict.{Verdict}
+use Rattle.trace_cli.specs.Verdict.{IsVerdict, does}
+use Rattle.board_commands.specs.Verdict.{ran}
 use Rattle.trace_cli.proofs.OneVerdict.{one_verdict}
 use Rattle.trace_cli.proofs.laws.run_tells_the_abstract_run.Goals as goal
 

@@ -4,12 +4,13 @@ use Rattle.trace_cli.specs.Words.{texts_of}
 use Rattle.trace_cli.proofs.Deciding.{no_job_of}
 use Rattle.trace_cli.proofs.EachState.{each_of_words}
 use Rattle.trace_cli.proofs.Statuses.{answers_usage, by_job}
+use Rattle.trace_cli.proofs.Readying.{answers_below}
 use Rattle.trace_cli.proofs.program.answer.Goals as goal
 
 pub returns-in-Ok-Build-clause-answer : goal.returns-in-Ok-Build-clause-answer
 returns-in-Ok-Build-clause-answer g c =
     let job = rw c.in-Ok-Build.field-0-is at c.in-Ok-Build.ensures.job in
-    by_job _ _ _ _ _ _ _ c.in-Ok-Build.ensures.accepted job (c.build_file.ensures.answer _)
+    by_job _ _ _ _ _ _ _ c.in-Ok-Build.ensures.accepted job (answers_below c.build_file.ensures.answer _ (λ first. refl) (λ contents v done. done) (λ v. tt))
 
 pub returns-in-Ok-Run-clause-answer : goal.returns-in-Ok-Run-clause-answer
 returns-in-Ok-Run-clause-answer g c =
@@ -24,32 +25,32 @@ returns-in-Ok-Go-clause-answer g c =
 pub returns-in-Ok-List-clause-answer : goal.returns-in-Ok-List-clause-answer
 returns-in-Ok-List-clause-answer g c =
     let job = rw c.in-Ok-List.field-0-is at c.in-Ok-List.ensures.job in
-    by_job _ _ _ _ _ _ _ c.in-Ok-List.ensures.accepted job (c.list_file.ensures.answer _)
+    by_job _ _ _ _ _ _ _ c.in-Ok-List.ensures.accepted job (answers_below c.list_file.ensures.answer _ (λ first. refl) (λ contents v done. done) (λ v. tt))
 
 pub returns-in-Ok-Sample-clause-answer : goal.returns-in-Ok-Sample-clause-answer
 returns-in-Ok-Sample-clause-answer g c =
     let job = rw c.in-Ok-Sample.field-0-is at c.in-Ok-Sample.ensures.job in
-    by_job _ _ _ _ _ _ _ c.in-Ok-Sample.ensures.accepted job (c.run_sample.ensures _ _ _ refl)
+    by_job _ _ _ _ _ _ _ c.in-Ok-Sample.ensures.accepted job (answers_below (c.run_sample.ensures (g.F.Files.seen c.args.files.now) (g.F.Files.seen c.args.files.now) refl) _ (λ first. refl) (λ contents v done. done) (λ v. tt))
 
 pub returns-in-Ok-Migrate-clause-answer : goal.returns-in-Ok-Migrate-clause-answer
 returns-in-Ok-Migrate-clause-answer g c =
     let job = rw c.in-Ok-Migrate.field-0-is at c.in-Ok-Migrate.ensures.job in
-    by_job _ _ _ _ _ _ _ c.in-Ok-Migrate.ensures.accepted job (c.migrate_file.ensures.answer _)
+    by_job _ _ _ _ _ _ _ c.in-Ok-Migrate.ensures.accepted job (answers_below c.migrate_file.ensures.answer _ (λ first. refl) (λ contents v done. done) (λ v. tt))
 
 pub returns-in-Ok-Audit-clause-answer : goal.returns-in-Ok-Audit-clause-answer
 returns-in-Ok-Audit-clause-answer g c =
     let job = rw c.in-Ok-Audit.field-0-is at c.in-Ok-Audit.ensures.job in
-    by_job _ _ _ _ _ _ _ c.in-Ok-Audit.ensures.accepted job (c.audit_file.ensures.answer _)
+    by_job _ _ _ _ _ _ _ c.in-Ok-Audit.ensures.accepted job (answers_below c.audit_file.ensures.answer _ (λ first. refl) (λ contents v done. done) (λ v. tt))
 
 pub returns-in-Ok-Save-clause-answer : goal.returns-in-Ok-Save-clause-answer
 returns-in-Ok-Save-clause-answer g c =
     let job = rw c.in-Ok-Save.field-0-is at c.in-Ok-Save.ensures.job in
-    by_job _ _ _ _ _ _ _ c.in-Ok-Save.ensures.accepted job c.save_file.ensures.answer
+    by_job _ _ _ _ _ _ _ c.in-Ok-Save.ensures.accepted job (answers_below c.save_file.ensures.answer _ (λ first. refl) (λ contents v done. done) (λ v. tt))
 
 pub returns-in-Ok-Resume-clause-answer : goal.returns-in-Ok-Resume-clause-answer
 returns-in-Ok-Resume-clause-answer g c =
     let job = rw c.in-Ok-Resume.field-0-is at c.in-Ok-Resume.ensures.job in
-    by_job _ _ _ _ _ _ _ c.in-Ok-Resume.ensures.accepted job c.resume_files.ensures.answer
+    by_job _ _ _ _ _ _ _ c.in-Ok-Resume.ensures.accepted job (answers_below c.resume_files.ensures.answer _ (λ first. refl) (λ contents v done. done) (λ v. tt))
 
 pub returns-in-Ok-Resume-clause-each : goal.returns-in-Ok-Resume-clause-each
 returns-in-Ok-Resume-clause-each g c =
@@ -109,7 +110,7 @@ returns-in-Ok-Live-clause-each g c =
 pub returns-in-Ok-Help-clause-answer : goal.returns-in-Ok-Help-clause-answer
 returns-in-Ok-Help-clause-answer g c =
     let job = rw c.in-Ok-Help.field-0-is at c.in-Ok-Help.ensures.job in
-    by_job _ _ _ _ _ _ _ c.in-Ok-Help.ensures.accepted job (c.help.ensures _ _ _ refl)
+    by_job _ _ _ _ _ _ _ c.in-Ok-Help.ensures.accepted job (answers_below (c.help.ensures (g.F.Files.seen c.args.files.now) (g.F.Files.seen c.args.files.now) refl) _ (λ first. refl) (λ contents v done. done) (λ v. tt))
 
 pub returns-in-Ok-Help-clause-each : goal.returns-in-Ok-Help-clause-each
 returns-in-Ok-Help-clause-each g c =

@@ -1,5 +1,6 @@
 use Rattle.devices.proofs.Fresh.{none_fresh}
-use Rattle.trace_cli.proofs.Handed.{no_devices, verdict_of_none, answered_without, each_without, on_without, front_without, refused_without, unread_without, done_without}
+use Rattle.board_commands.proofs.Seeding.{no_devices}
+use Rattle.trace_cli.proofs.Handed.{verdict_of_none, answered_without, each_without, on_without, front_without, refused_without, unread_without, done_without}
 use Rattle.trace_cli.proofs.program.hubris_main.Goals as goal
 
 pub hubris_main_with-requires : goal.hubris_main_with-requires

@@ -11,4 +11,4 @@ pub returns-clause-answer : goal.returns-clause-answer
 returns-clause-answer boxes c = λ x s h. c.here.ensures x (forward x 0 c.args.turn) (c.to_turn.ensures x s.cursor h.at)
 
 pub returns-clause-session : goal.returns-clause-session
-returns-clause-session boxes c = λ x s h. record { at = c.to_turn.ensures x s.cursor h.at; breakpoints = h.breakpoints }
+returns-clause-session boxes c = λ x s h. record { at = c.to_turn.ensures x s.cursor h.at; breakpoints = h.breakpoints; over = h.over }

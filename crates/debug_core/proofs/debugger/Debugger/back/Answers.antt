@@ -33,4 +33,5 @@ returns-clause-session boxes c = λ x s h.
     record {
       at = subst (λ n. IsAt shown x c.back_to.new.self n) is (c.back_to.ensures x s.cursor h.at (omega arith));
       breakpoints = h.breakpoints;
+      over = h.over;
     }

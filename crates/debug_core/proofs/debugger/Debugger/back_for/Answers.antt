@@ -40,6 +40,7 @@ returns-in-None-clause-session boxes c = λ x s h.
     record {
       at = if_can _ x s what c.back_for.new.self (gone_back s n (behind x s n what)) (sym (c.if-not-can_find.ensures x s.cursor h.at)) (at_none_behind _ x s what n c.earlier-to.result low c.back_for.new.self went);
       breakpoints = h.breakpoints;
+      over = h.over;
     }
 
 pub returns-in-Some-clause-answer : goal.returns-in-Some-clause-answer
@@ -62,6 +63,7 @@ returns-in-Some-clause-session boxes c = λ x s h.
     record {
       at = if_can _ x s what c.back_for.new.self (gone_back s n (behind x s n what)) (sym (c.if-not-can_find.ensures x s.cursor h.at)) (at_behind _ x s what n c.earlier-to.result low c.back_for.new.self _ went);
       breakpoints = h.breakpoints;
+      over = h.over;
     }
 
 pub returns-then-not-can_find-clause-answer : goal.returns-then-not-can_find-clause-answer
@@ -75,4 +77,5 @@ returns-then-not-can_find-clause-session boxes c = λ x s h.
     record {
       at = if_not _ x s what c.args.self.now.replay (gone_back s c.args.turns (behind x s c.args.turns what)) (sym (c.if-not-can_find.ensures x s.cursor h.at)) h.at;
       breakpoints = h.breakpoints;
+      over = h.over;
     }

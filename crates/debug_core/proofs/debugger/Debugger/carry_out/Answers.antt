@@ -1,4 +1,4 @@
-use Rattle.std.proofs.Common.{◌∙◌, sym, ap, subst}
+use Rattle.std.proofs.Common.{◌∙◌, true, refl, sym, ap, subst}
 use Rattle.mem_banks.specs.Memory.{Memory}
 use Rattle.board_core.specs.Data.{boxed}
 use Rattle.debug_core.specs.declared.command.Command.{Command}
@@ -76,3 +76,9 @@ pub returns-in-Mem-clause-session : goal.returns-in-Mem-clause-session
 returns-in-Mem-clause-session boxes c = λ x s h.
     let shown = boxed (λ p. (goal.Device-dyn boxes p).shown p.1) in
     subst (λ (k : Command). IsSession shown x c.args.self.now (after x s k)) (sym c.in-Mem.is) h
+
+pub returns-in-Quit-clause-session : goal.returns-in-Quit-clause-session
+returns-in-Quit-clause-session boxes c = λ x s h.
+    let shown = boxed (λ p. (goal.Device-dyn boxes p).shown p.1) in
+    subst (λ (k : Command). IsSession shown x (record c.args.self.now { is_over = true }) (after x s k)) (sym c.in-Quit.is)
+    (record { at = h.at; breakpoints = h.breakpoints; over = refl })

@@ -1,16 +1,10 @@
-use Rattle.std.proofs.Common.{◌≡◌, ℕ, ◌≤◌, List, [], Option, sym, subst, arith}
+use Rattle.std.proofs.Common.{ℕ, ◌≤◌, arith}
 use Rattle.std.specs.Prelude.{Result, Ok, Err}
-use Rattle.std.specs.Io.KnownBytes.{Appends}
-use Rattle.std.proofs.lemmas.List.{append-nil}
 use Rattle.std.proofs.lemmas.Result.{err_from_is_err_and}
-use Rattle.outside_io.specs.Outside.{HasCause, Pushes}
+use Rattle.outside_io.specs.Outside.{HasCause}
+use Rattle.outside_io.proofs.Pushing.{pushes_kept}
 use Rattle.debug_core.specs.Answers.{told}
 use Rattle.debug_core.proofs.debugger.Debugger.command.Goals as goal
-
--- what was pushed is passed on
-then_flushed : {T E : Type 0} (a b c : Option (List ℕ)) (text : List ℕ) (r : Result T E) → Appends a b text → c ≡ b → Pushes a c text r
-then_flushed a b c text (Ok v) h same = subst (λ w. Appends a w text) (sym same) h
-then_flushed a b c text (Err e) h same = (text, ([], sym (append-nil text)), subst (λ w. Appends a w text) (sym same) h)
 
 then_caused : {T E : Type 0} (before now after : ℕ) (r : Result T E) → before ≤ now → HasCause now after r → HasCause before after r
 then_caused before now after (Ok v) le h = record { later = omega (arith, le, h.later); failed = tt }
@@ -22,7 +16,7 @@ returns-in_err-push_told-clause-told g c = λ x s h.
     rw (p.1) (c.in_err-push_told.ensures.told x s h)
 
 pub returns-clause-told : goal.returns-clause-told
-returns-clause-told g c = λ x s h. then_flushed _ _ _ (told x s c.args.command.now) c.flush.result (c.in_ok-push_told.ensures.told x s h) c.flush.ensures.written
+returns-clause-told g c = λ x s h. pushes_kept _ _ _ (told x s c.args.command.now) c.flush.result (c.in_ok-push_told.ensures.told x s h) c.flush.ensures.written
 
 pub returns-clause-cause : goal.returns-clause-cause
 returns-clause-cause g c = then_caused _ _ _ c.flush.result c.in_ok-push_told.ensures.cause.later c.flush.ensures.cause

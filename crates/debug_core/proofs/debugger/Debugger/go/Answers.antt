@@ -37,6 +37,7 @@ returns-in-None-clause-session boxes c = λ x s h.
     record {
       at = at_gone _ x s c.args.turns c.limit-to.result _ is (c.as_slice.ensures.value ∙ h.breakpoints) c.go_to_hit.new.self came;
       breakpoints = h.breakpoints;
+      over = h.over;
     }
 
 pub returns-in-Some-clause-answer : goal.returns-in-Some-clause-answer
@@ -55,4 +56,5 @@ returns-in-Some-clause-session boxes c = λ x s h.
     record {
       at = at_hit _ x s c.args.turns c.limit-to.result _ is (c.as_slice.ensures.value ∙ h.breakpoints) c.go_to_hit.new.self _ came;
       breakpoints = h.breakpoints;
+      over = h.over;
     }

@@ -54,4 +54,4 @@ returns-in-Some-clause-session boxes c = λ x s h.
     let next : k + 1 ≡ s.cursor = omega (arith, here, c.turns.ensures, c.in-Some.ensures.0, c.in-Some.ensures.1) in
     let at = c.back_to.ensures x s.cursor h.at (omega arith) in
     let on = goes_on x h.at.start s.cursor k h.at.reached lt in
-    record { at = subst (λ n. IsAt shown x c.make_turn.new.self n) next (c.make_turn.ensures.at x k at on (omega arith)); breakpoints = h.breakpoints }
+    record { at = subst (λ n. IsAt shown x c.make_turn.new.self n) next (c.make_turn.ensures.at x k at on (omega arith)); breakpoints = h.breakpoints; over = h.over }

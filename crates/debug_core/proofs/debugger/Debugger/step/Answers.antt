@@ -34,4 +34,5 @@ returns-clause-session boxes c = λ x s h.
     record {
       at = subst (λ n. IsAt shown x c.go_to.new.self (state_at x n).turn) is (c.go_to.ensures x s.cursor h.at (omega arith));
       breakpoints = h.breakpoints;
+      over = h.over;
     }

@@ -2,8 +2,8 @@ use Rattle.std.proofs.Common.{List, ℕ, [], ◌∷◌, ◌++◌, sym, subst}
 use Rattle.std.specs.Prelude.{OnErr, OnOk}
 use Rattle.outside_io.specs.Outside.{AppendsFront}
 use Rattle.board_core.specs.Data.{boxed}
-use Rattle.debug_core.specs.Live.{live_text}
-use Rattle.debug_core.specs.UnderWay.{IsAmid, IsAtLine, IsUnderWay, after_lines}
+use Rattle.debug_core.specs.Live.{after_lines, live_text}
+use Rattle.debug_core.specs.UnderWay.{IsAmid, IsAtLine, IsUnderWay}
 use Rattle.debug_core.proofs.Telling.{amid_ended, amid_fails, amid_lf, amid_more, when_err, when_ok}
 use Rattle.debug_core.proofs.debugger.Debugger.take_byte.Goals as goal
 

@@ -1,7 +1,7 @@
-use Rattle.std.proofs.Common.{◌≡◌, ◌∙◌, ◌+◌, ◌++◌, ◌<◌, ◌≤◌, [], List, ℕ, length, refl, sym, ap, subst, arith, take, drop}
-use Rattle.std.proofs.lemmas.List.{length-append, length-drop, length-take, take-append-le}
+use Rattle.std.proofs.Common.{◌≡◌, ◌∙◌, inl, inr, ◌+◌, ◌++◌, ◌<◌, ◌≤◌, [], List, ℕ, length, refl, sym, ap, subst, arith, take, drop}
+use Rattle.std.proofs.lemmas.List.{append-nil, length-append, length-drop, length-take, take-append-le}
 use Rattle.outside_io.specs.Outside.{IsPart, WhereSeen}
-use Rattle.debug_core.specs.Live.{begun_text}
+use Rattle.debug_core.specs.Live.{MayBeTaken, begun_text}
 use Rattle.outside_io.proofs.OnlyReading.{none_read, reads_more}
 use Rattle.debug_core.proofs.Taking.{IsRead, given_all, given_end, given_more, given_none, given_same, read_begun, read_end, read_most, read_none, read_on, read_within}
 use Rattle.debug_core.proofs.Telling.{amid_begun, amid_none}
@@ -16,6 +16,19 @@ pieces-init g c = record {
   later = omega arith;
   only_reads = none_read _;
 }
+
+pub returns-then-self-clause-amid : goal.returns-then-self-clause-amid
+returns-then-self-clause-amid g c = λ x s h.
+    let i = c.pieces.invariant.amid x s h in
+    let all = read_within _ c.pieces.place i.0 c.pieces.invariant.most i.1 in
+    record {
+      text = i.0;
+      rest = all.0;
+      taken = all.1;
+      given = given_all _ _ _ _ i.0 i.1 c.pieces.invariant.given;
+      amid = i.2;
+      all = inr (sym i.2.at.over ∙ c.if-self.true);
+    }
 
 pub returns-in_default-clause-unread : goal.returns-in_default-clause-unread
 returns-in_default-clause-unread g c = λ x s h e.
@@ -36,9 +49,11 @@ returns-then-count-eq0-clause-amid g c = λ x s h.
     subst (λ (n : ℕ). IsPart all c.pieces.place n c.read.new.buf) none (c.in-Ok.ensures.bytes.1 all contents) in
     record {
       text = i.0;
-      taken = read_end _ c.pieces.place i.0 c.read.new.buf c.pieces.invariant.most room i.1 part;
+      rest = [];
+      taken = subst (MayBeTaken _) (sym (append-nil i.0)) (read_end _ c.pieces.place i.0 c.read.new.buf c.pieces.invariant.most room i.1 part);
       given = given_all _ _ _ _ i.0 i.1 (given_end _ _ _ _ c.in-Ok.count c.pieces.invariant.given c.in-Ok.ensures.count none);
       amid = i.2;
+      all = inl refl;
     }
 
 pub take_piece-requires : goal.take_piece-requires
@@ -85,4 +100,11 @@ pub returns-clause-amid : goal.returns-clause-amid
 returns-clause-amid g c = λ x s h.
     let i = c.pieces.invariant.amid x s h in
     let all : c.pieces.place ≡ 4294967295 = omega (arith, c.pieces.invariant.most, c.pieces-test.false) in
-    record { text = i.0; taken = read_most _ c.pieces.place i.0 all i.1; given = given_all _ _ _ _ i.0 i.1 c.pieces.invariant.given; amid = i.2 }
+    record {
+      text = i.0;
+      rest = [];
+      taken = subst (MayBeTaken _) (sym (append-nil i.0)) (read_most _ c.pieces.place i.0 all i.1);
+      given = given_all _ _ _ _ i.0 i.1 c.pieces.invariant.given;
+      amid = i.2;
+      all = inl refl;
+    }

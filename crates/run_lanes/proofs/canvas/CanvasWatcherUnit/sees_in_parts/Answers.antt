@@ -1,7 +1,7 @@
 use Rattle.std.proofs.Common.{◌++◌, List, append_assoc, length-append, subst, sym, arith}
 use Rattle.std.proofs.lemmas.List.{append-nil}
 use Rattle.run_lanes.specs.Painted.{Painted}
-use Rattle.run_lanes.specs.Words.{TurnSight}
+use Rattle.run_lanes.specs.Activities.{TurnSight}
 use Rattle.run_lanes.proofs.canvas.CanvasWatcherUnit.sees_in_parts.Goals as goal
 
 pub returns-clause-nothing : goal.returns-clause-nothing

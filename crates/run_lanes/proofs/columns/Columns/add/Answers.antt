@@ -2,7 +2,7 @@ use Rattle.std.proofs.Common.{◌≡◌, ◌≤◌, ◌+◌, ◌*◌, ◌∙◌,
 use Rattle.std.specs.List.{list_any}
 use Rattle.run_lanes.specs.Columns.{is_outside}
 use Rattle.run_lanes.specs.Counted.{both}
-use Rattle.run_lanes.specs.Words.{TurnSight}
+use Rattle.run_lanes.specs.Activities.{TurnSight}
 use Rattle.run_lanes.proofs.Kept.{cells_more, cells_moved, outside_more, outside_moved}
 use Rattle.run_lanes.proofs.Tiled.{rows_below}
 use Rattle.run_lanes.proofs.columns.Columns.add.Goals as goal
@@ -20,7 +20,7 @@ returns-clause-added c = λ turn turns few h.
     let o = c.add_outside.new.self in
     let e = c.advance.new.self in
     let r = c.make_room.ensures.room turns few h in
-    let t : TurnSight = record { turn = turn; words = c.args.words.now; notes = c.args.notes.now } in
+    let t : TurnSight = record { turn = turn; activities = c.args.activities.now; notes = c.args.notes.now } in
     let wide : e.width ≡ b.width = c.advance.ensures.width ∙ c.add_outside.ensures.width ∙ c.add_cells.ensures.width in
     let many : e.tasks ≡ b.tasks = c.advance.ensures.tasks ∙ c.add_outside.ensures.tasks ∙ c.add_cells.ensures.tasks in
     let same : o.column * o.width + o.inside ≡ b.column * b.width + b.inside =

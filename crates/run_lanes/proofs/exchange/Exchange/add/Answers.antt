@@ -18,7 +18,7 @@ loop-note-preserved c =
     record {
       calls = calls_step c.args.turn cs c.loop-note.self.calls.items c.hear.new.self.calls.items notes i _ c.loop-note-test.true inv.calls c.hear.ensures.calls;
       arrows = λ most xs h.
-          arrows_step most _ _ _ xs c.args.turn cs c.loop-note.self.calls.items notes i _ c.loop-note-test.true inv.calls (c.hear.ensures.arrows most (xs ++ arrows_of_notes c.args.turn cs (take i notes)) (inv.arrows most xs h));
+          arrows_step most _ _ _ xs c.args.turn notes cs c.loop-note.self.calls.items notes i _ c.loop-note-test.true inv.calls (c.hear.ensures.arrows most (xs ++ arrows_of_notes c.args.turn notes cs (take i notes)) (inv.arrows most xs h));
     }
 
 pub returns-clause-calls : goal.returns-clause-calls
@@ -27,4 +27,4 @@ returns-clause-calls c =
 
 pub returns-clause-arrows : goal.returns-clause-arrows
 returns-clause-arrows c = λ most xs h.
-    first_moved most _ _ _ _ _ (ap (λ (l : List Note). xs ++ arrows_of_notes c.args.turn c.args.self.now.calls.items l) (take_all c.loop-note.note-index c.args.notes.now c.loop-note-test.false)) (c.loop-note.invariant.arrows most xs h)
+    first_moved most _ _ _ _ _ (ap (λ (l : List Note). xs ++ arrows_of_notes c.args.turn c.args.notes.now c.args.self.now.calls.items l) (take_all c.loop-note.note-index c.args.notes.now c.loop-note-test.false)) (c.loop-note.invariant.arrows most xs h)

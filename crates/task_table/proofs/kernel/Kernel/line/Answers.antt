@@ -5,7 +5,7 @@ use Rattle.std.proofs.lemmas.Option.{slice_get_read, slice_get_past}
 use Rattle.task_table.specs.declared.Line.{Line}
 use Rattle.task_table.proofs.kernel.Kernel.line.Goals as goal
 
--- what is read of a list is what stands there, where something does
+-- reading an item of a list with a default gives the item, if there is one
 read : (ls : List Line) (n : ℕ) (o : Option (Bor Line)) → is_some o ≡ nat_lt n (length ls) → IfSome o (λ x. x.now ≡ get_or ls n x.now) → option_copied o ≡ slice_get ls n
 read ls n (Some x) there is =
     let within : n < length ls = search rules in

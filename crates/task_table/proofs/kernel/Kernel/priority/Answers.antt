@@ -5,7 +5,7 @@ use Rattle.task_table.specs.kept.Parts.{task_setup}
 use Rattle.task_table.specs.declared.start.TaskStart.{TaskStart}
 use Rattle.task_table.proofs.kernel.Kernel.priority.Goals as goal
 
--- a task that is not there
+-- a task that does not exist
 abbrev no_setup : TaskSetup
 no_setup = record { priority = 0; entry = 0; stack = 0; regions = []; start = false }
 

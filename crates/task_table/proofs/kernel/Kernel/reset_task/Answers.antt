@@ -12,7 +12,7 @@ use Rattle.task_table.proofs.model.Changes.{task_at-with_task, same_but-with_tas
 use Rattle.task_table.proofs.kept.Births.{born_as}
 use Rattle.task_table.proofs.kernel.Kernel.reset_task.Goals as goal
 
--- a task that is not there
+-- a task that does not exist
 abbrev no_setup : TaskSetup
 no_setup = record { priority = 0; entry = 0; stack = 0; regions = []; start = false }
 

@@ -17,7 +17,7 @@ use Rattle.task_table.proofs.kept.Deadlines.{none_timed}
 use Rattle.task_table.proofs.kept.Starts.{shows_start, sane-begun}
 use Rattle.task_table.proofs.kernel.Kernel.start.Goals as goal
 
--- as many slots as tasks
+-- there are as many slots as tasks
 as_many : (slots : List Slot) (tasks : List TaskStart) → slots ≡ map (λ x. packed_task (born (task_setup x)) Nothing) tasks → length slots ≡ length tasks
 as_many slots tasks is = ap length is ∙ length-map tasks (λ x. packed_task (born (task_setup x)) Nothing)
 

@@ -3,7 +3,8 @@ use Rattle.app_toml.specs.Held.{app_of}
 use Rattle.command_line.specs.CommandLine.{cover}
 use Rattle.thumb_asm.specs.Listed.{labels_in}
 use Rattle.thumb_asm.specs.declared.listing.Label.{Label}
-use Rattle.trace_cli.proofs.Reaching.{answers_labelled, app_stood, labels_cover}
+use Rattle.trace_cli.proofs.Reaching.{answers_labelled, labels_cover}
+use Rattle.command_files.proofs.Readying.{app_stood}
 use Rattle.trace_cli.proofs.Readying.{answers_named_fault}
 use Rattle.trace_cli.proofs.commands.cover.cover_app.Goals as goal
 
@@ -26,5 +27,5 @@ returns-in-Err-clause-answer g c =
     let b = g.F.Files.seen c.prepare_app.new.files in
     let w = g.S.Sink.seen c.args.out.now in
     let w' = g.S.Sink.seen c.tell_named_fault.new.out in
-    answers_named_fault (cover c.args.app.now c.args.script.now c.args.steps true) a b w w' c.in-Err.named_fault c.tell_named_fault.result c.in-Err.ensures.only_reads.contents
-    (c.in-Err.ensures.named_fault _ (labels_cover _ c.args.app.now c.args.script.now c.args.steps)) c.tell_named_fault.ensures
+    answers_named_fault (cover c.args.app.now c.args.script.now c.args.steps true) a b w w' c.in-Err.named_fault c.tell_named_fault.result (λ v. tt) c.in-Err.ensures.only_reads.contents
+    (c.in-Err.ensures.named_fault _ (labels_cover c.requires.fresh c.args.app.now c.args.script.now c.args.steps)) c.tell_named_fault.ensures

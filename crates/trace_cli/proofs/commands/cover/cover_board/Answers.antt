@@ -7,9 +7,10 @@ use Rattle.run_cover.specs.Text.{cover_text}
 use Rattle.thumb_asm.specs.Listed.{labels_in}
 use Rattle.outside_io.specs.Outside.{AppendsFront}
 use Rattle.std.specs.Io.KnownBytes.{Appends}
-use Rattle.trace_cli.specs.Pushed.{whole, cut, told, nothing}
-use Rattle.trace_cli.specs.Verdict.{status_of}
-use Rattle.trace_cli.proofs.Starting.{from_start}
+use Rattle.command_files.specs.Pushed.{whole, cut}
+use Rattle.trace_cli.specs.Pushed.{told, nothing}
+use Rattle.command_files.specs.Verdict.{status_of}
+use Rattle.board_commands.proofs.Starting.{from_start}
 use Rattle.trace_cli.proofs.commands.cover.cover_board.Goals as goal
 
 pub returns-in-Ok-write_cover : goal.returns-in-Ok-write_cover

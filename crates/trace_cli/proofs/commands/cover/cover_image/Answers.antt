@@ -1,6 +1,7 @@
 use Rattle.std.proofs.Common.{false}
 use Rattle.command_line.specs.CommandLine.{cover}
-use Rattle.trace_cli.proofs.Reaching.{answers_covered, covers, set_stood}
+use Rattle.trace_cli.proofs.Reaching.{answers_covered, covers}
+use Rattle.command_files.proofs.Readying.{set_stood}
 use Rattle.trace_cli.proofs.Readying.{answers_named_fault}
 use Rattle.trace_cli.proofs.commands.cover.cover_image.Goals as goal
 
@@ -22,5 +23,5 @@ returns-in-Err-clause-answer g c =
     let b = g.F.Files.seen c.prepare_run.new.files in
     let w = g.S.Sink.seen c.args.out.now in
     let w' = g.S.Sink.seen c.tell_named_fault.new.out in
-    answers_named_fault (cover c.args.image.now c.args.script.now c.args.steps false) a b w w' c.in-Err.named_fault c.tell_named_fault.result c.in-Err.ensures.only_reads.contents
-    (c.in-Err.ensures.named_fault _ (covers _ c.args.image.now c.args.script.now c.args.steps)) c.tell_named_fault.ensures
+    answers_named_fault (cover c.args.image.now c.args.script.now c.args.steps false) a b w w' c.in-Err.named_fault c.tell_named_fault.result (λ v. tt) c.in-Err.ensures.only_reads.contents
+    (c.in-Err.ensures.named_fault _ (covers c.requires.fresh c.args.image.now c.args.script.now c.args.steps)) c.tell_named_fault.ensures

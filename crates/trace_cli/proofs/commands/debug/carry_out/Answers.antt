@@ -1,6 +1,6 @@
 use Rattle.std.proofs.Common.{refl}
 use Rattle.debug_core.specs.Session.{opened}
-use Rattle.trace_cli.specs.Pushed.{whole, cut, pushed, silent}
+use Rattle.command_files.specs.Pushed.{whole, cut, pushed, silent}
 use Rattle.trace_cli.proofs.commands.debug.carry_out.Goals as goal
 
 pub returns-in-Ok-carry_out_all : goal.returns-in-Ok-carry_out_all

@@ -1,6 +1,6 @@
 use Rattle.std.proofs.Common.{sym, subst, ℕ}
 use Rattle.debug_core.specs.Listed.{listed}
-use Rattle.trace_cli.specs.FileFaults.{IsFaultFor}
+use Rattle.command_files.specs.FileFaults.{IsFaultFor}
 use Rattle.trace_cli.proofs.Refusals.{commands_taken, commands_refused}
 use Rattle.trace_cli.proofs.commands.debug.commands_in.Goals as goal
 

@@ -20,4 +20,4 @@ returns-in-Err-clause-answer g c =
     let b = g.F.Files.seen c.prepare_debug.new.files in
     let w = g.S.Sink.seen c.args.out.now in
     let w' = g.S.Sink.seen c.tell_named_fault.new.out in
-    answers_named_fault (debug c.args.image.now c.args.script.now c.args.commands.now) a b w w' c.in-Err.named_fault c.tell_named_fault.result c.in-Err.ensures.only_reads.contents c.in-Err.ensures.named_fault c.tell_named_fault.ensures
+    answers_named_fault (debug c.args.image.now c.args.script.now c.args.commands.now) a b w w' c.in-Err.named_fault c.tell_named_fault.result (λ v. tt) c.in-Err.ensures.only_reads.contents c.in-Err.ensures.named_fault c.tell_named_fault.ensures

@@ -2,8 +2,9 @@ use Rattle.std.proofs.Common.{◌∙◌, arith}
 use Rattle.image_format.specs.Images.{image_data}
 use Rattle.run_script.specs.Events.{script_data}
 use Rattle.debug_core.specs.Listed.{listed}
-use Rattle.trace_cli.specs.declared.file_faults.NamedFault.TheVariants as named_faults
-use Rattle.trace_cli.proofs.Readying.{debug_ready, script_there, commands_there, debug_image_faults, debug_script_faults, debug_commands_faults}
+use Rattle.command_files.specs.declared.file_faults.NamedFault.TheVariants as named_faults
+use Rattle.trace_cli.proofs.Readying.{debug_ready, commands_there, debug_image_faults, debug_script_faults, debug_commands_faults}
+use Rattle.command_files.proofs.Readying.{script_there}
 use Rattle.outside_io.proofs.OnlyReading.{reads_more}
 use Rattle.trace_cli.proofs.commands.debug.prepare_debug.Goals as goal
 
@@ -11,21 +12,21 @@ pub returns-in-Err-clause-named_fault : goal.returns-in-Err-clause-named_fault
 returns-in-Err-clause-named_fault g c =
     let a = g.F.Files.seen c.args.files.now in
     let b = g.F.Files.seen c.read_image.new.files in
-    debug_image_faults a b c.args.image.now c.args.script.now c.args.commands.now c.in-Err.named_fault c.in-Err.ensures.named_fault
+    debug_image_faults c.requires.fresh a b c.args.image.now c.args.script.now c.args.commands.now c.in-Err.named_fault c.in-Err.ensures.named_fault
 
 pub returns-in-Err-read_script-clause-named_fault : goal.returns-in-Err-read_script-clause-named_fault
 returns-in-Err-read_script-clause-named_fault g c =
     let a = g.F.Files.seen c.args.files.now in
     let b = g.F.Files.seen c.read_image.new.files in
     let d = g.F.Files.seen c.read_script.new.files in
-    debug_script_faults a b d c.args.image.now c.args.script.now c.args.commands.now (image_data c.in-Ok.image_data) c.in-Err-read_script.named_fault c.in-Ok.ensures.image c.in-Ok.ensures.only_reads.contents c.in-Ok.ensures.only_reads.later c.in-Err-read_script.ensures.named_fault
+    debug_script_faults c.requires.fresh a b d c.args.image.now c.args.script.now c.args.commands.now (image_data c.in-Ok.image_data) c.in-Err-read_script.named_fault c.in-Ok.ensures.image c.in-Ok.ensures.only_reads.contents c.in-Ok.ensures.only_reads.later c.in-Err-read_script.ensures.named_fault
 
 pub returns-in-Err-read_commands-clause-named_fault : goal.returns-in-Err-read_commands-clause-named_fault
 returns-in-Err-read_commands-clause-named_fault g c =
     let a = g.F.Files.seen c.args.files.now in
     let b = g.F.Files.seen c.read_script.new.files in
     let d = g.F.Files.seen c.read_commands.new.files in
-    debug_commands_faults a b d c.args.image.now c.args.script.now c.args.commands.now (image_data c.in-Ok.image_data) (script_data c.in-Ok-read_script.events) c.in-Err-read_commands.named_fault c.in-Ok.ensures.image
+    debug_commands_faults c.requires.fresh a b d c.args.image.now c.args.script.now c.args.commands.now (image_data c.in-Ok.image_data) (script_data c.in-Ok-read_script.events) c.in-Err-read_commands.named_fault c.in-Ok.ensures.image
     (script_there c.in-Ok.ensures.only_reads.contents c.in-Ok-read_script.ensures.script) (c.in-Ok-read_script.ensures.only_reads.contents ∙ c.in-Ok.ensures.only_reads.contents) (omega (arith, c.in-Ok.ensures.only_reads.later, c.in-Ok-read_script.ensures.only_reads.later)) c.in-Err-read_commands.ensures.named_fault
 
 pub returns-in-Ok-open-clause-ready : goal.returns-in-Ok-open-clause-ready
@@ -38,7 +39,7 @@ pub returns-clause-named_fault : goal.returns-clause-named_fault
 returns-clause-named_fault g c =
     let a = g.F.Files.seen c.args.files.now in
     let d = g.F.Files.seen c.read_commands.new.files in
-    debug_image_faults a d c.args.image.now c.args.script.now c.args.commands.now named_faults.Memory tt
+    debug_image_faults c.requires.fresh a d c.args.image.now c.args.script.now c.args.commands.now named_faults.Memory tt
 
 pub returns-in-Err-read_script-clause-only_reads : goal.returns-in-Err-read_script-clause-only_reads
 returns-in-Err-read_script-clause-only_reads g c = reads_more c.in-Ok.ensures.only_reads c.in-Err-read_script.ensures.only_reads

@@ -9,7 +9,7 @@ use Rattle.app_toml.specs.Sites.{task_of}
 use Rattle.image_build.specs.Layout.{no_task, task_at}
 use Rattle.run_cover.specs.Tracefile.{Section, section_of}
 use Rattle.thumb_asm.specs.declared.listing.InsnLine.{InsnLine}
-use Rattle.trace_cli.specs.Building.{kept_lines}
+use Rattle.command_files.specs.Building.{kept_lines}
 use Rattle.trace_cli.proofs.commands.lcov.sources_of.Goals as goal
 
 abbrev section : List ℕ → List InsnLine → Section

@@ -4,7 +4,7 @@ use Rattle.std.specs.List.{range_with_len}
 use Rattle.app_toml.specs.Held.{app_of}
 use Rattle.image_build.specs.Layout.{task_at}
 use Rattle.run_cover.specs.Tracefile.{section_of}
-use Rattle.trace_cli.specs.Building.{kept_lines}
+use Rattle.command_files.specs.Building.{kept_lines}
 use Rattle.trace_cli.proofs.commands.lcov.sources_of.Given as goal
 
 -- the sections of the tasks so far

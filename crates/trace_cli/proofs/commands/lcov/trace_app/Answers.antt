@@ -1,6 +1,6 @@
 use Rattle.std.proofs.Common.{List, map, subst, ap, ◌∙◌}
 use Rattle.run_cover.specs.Tracefile.{Section, section_of}
-use Rattle.trace_cli.specs.Answer.{Tells}
+use Rattle.command_files.specs.Answer.{Tells}
 use Rattle.trace_cli.specs.Verdict.{traced}
 use Rattle.trace_cli.proofs.commands.lcov.trace_app.Goals as goal
 

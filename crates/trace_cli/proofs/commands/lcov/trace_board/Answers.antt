@@ -3,8 +3,9 @@ use Rattle.board_model.specs.Run.{Run}
 use Rattle.board_model.specs.Script.{start_of}
 use Rattle.board_model.specs.declared.outcomes.Level.TheVariants.{All}
 use Rattle.run_cover.specs.Tracefile.{run_tracefile, section_of}
-use Rattle.trace_cli.specs.Verdict.{traced, traced_line}
-use Rattle.trace_cli.proofs.Starting.{from_start}
+use Rattle.trace_cli.specs.Verdict.{traced}
+use Rattle.command_files.specs.Verdict.{traced_line}
+use Rattle.board_commands.proofs.Starting.{from_start}
 use Rattle.trace_cli.proofs.commands.lcov.trace_board.Goals as goal
 
 pub returns-clause-tells : goal.returns-clause-tells

@@ -1,7 +1,7 @@
 use Rattle.std.proofs.Common.{Err, ap, refl, sym, ◌∙◌}
 use Rattle.debug_core.specs.Session.{opened}
 use Rattle.trace_cli.specs.Pushed.{unsaid}
-use Rattle.trace_cli.specs.Verdict.{line_alone, unread_line}
+use Rattle.command_files.specs.Verdict.{line_alone, unread_line}
 use Rattle.trace_cli.proofs.Living.{says_broken, says_cut, says_ended}
 use Rattle.outside_io.proofs.OnlyReading.{none_read}
 use Rattle.trace_cli.proofs.commands.live.carry_out.Goals as goal

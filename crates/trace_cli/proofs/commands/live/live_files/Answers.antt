@@ -1,5 +1,5 @@
 use Rattle.command_line.specs.CommandLine.{live}
-use Rattle.trace_cli.specs.Contents.{scenario_of}
+use Rattle.command_files.specs.Contents.{scenario_of}
 use Rattle.trace_cli.proofs.Living.{answers_live, takes_lines}
 use Rattle.outside_io.proofs.OnlyReading.{reads_more}
 use Rattle.trace_cli.proofs.Readying.{answers_named_fault}
@@ -23,7 +23,7 @@ returns-in-Err-clause-answer g c =
     let b = g.F.Files.seen c.prepare_run.new.files in
     let w = g.S.Sink.seen c.args.out.now in
     let w' = g.S.Sink.seen c.tell_named_fault.new.out in
-    answers_named_fault (live c.args.image.now c.args.script.now c.args.commands.now) a b w w' c.in-Err.named_fault c.tell_named_fault.result c.in-Err.ensures.only_reads.contents (c.in-Err.ensures.named_fault _ (takes_lines _ c.args.image.now c.args.script.now c.args.commands.now)) c.tell_named_fault.ensures
+    answers_named_fault (live c.args.image.now c.args.script.now c.args.commands.now) a b w w' c.in-Err.named_fault c.tell_named_fault.result (λ v. tt) c.in-Err.ensures.only_reads.contents (c.in-Err.ensures.named_fault _ (takes_lines c.requires.fresh c.args.image.now c.args.script.now c.args.commands.now)) c.tell_named_fault.ensures
 
 pub returns-in-Ok-clause-only_reads : goal.returns-in-Ok-clause-only_reads
 returns-in-Ok-clause-only_reads g c = reads_more c.in-Ok.ensures.only_reads c.carry_out.ensures.only_reads

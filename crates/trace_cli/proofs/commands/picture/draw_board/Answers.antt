@@ -1,7 +1,8 @@
 use Rattle.std.proofs.Common.{◌∙◌, ℕ, List, Some, ap, length, map, refl, string_bytes, sym}
 use Rattle.board_model.specs.Script.{start_of}
 use Rattle.run_lanes.specs.Pictured.{picture_text}
-use Rattle.trace_cli.specs.Verdict.{drawn, drawn_line}
+use Rattle.trace_cli.specs.Verdict.{drawn}
+use Rattle.command_files.specs.Verdict.{drawn_line}
 use Rattle.trace_cli.proofs.Timing.{all_left}
 use Rattle.trace_cli.proofs.commands.picture.draw_board.Goals as goal
 

@@ -1,9 +1,10 @@
 use Rattle.std.proofs.Common.{◌∙◌, ℕ, List, string_bytes, sym, subst, arith}
 use Rattle.run_script.specs.Events.{script_data}
-use Rattle.trace_cli.specs.declared.file_faults.FileFault.{FileFault}
-use Rattle.trace_cli.specs.declared.file_faults.FileFault.TheVariants as file_faults
-use Rattle.trace_cli.specs.Contents.{arrival_refusal, script_refusal}
-use Rattle.trace_cli.specs.FileFaults.{IsFaultFor}
+use Rattle.command_files.specs.declared.file_faults.FileFault.{FileFault}
+use Rattle.command_files.specs.declared.file_faults.FileFault.TheVariants as file_faults
+use Rattle.trace_cli.specs.Contents.{arrival_refusal}
+use Rattle.command_files.specs.Contents.{script_refusal}
+use Rattle.command_files.specs.FileFaults.{IsFaultFor}
 use Rattle.trace_cli.proofs.Refusals.{arrival_unread, arrival_long, arrival_ticks, arrival_taken}
 use Rattle.trace_cli.proofs.commands.sweep.arrival_in.Goals as goal
 

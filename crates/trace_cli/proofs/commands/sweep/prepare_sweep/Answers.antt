@@ -1,8 +1,9 @@
 use Rattle.std.proofs.Common.{◌∙◌, arith, refl}
 use Rattle.image_format.specs.Images.{image_data}
 use Rattle.run_script.specs.Events.{script_data}
-use Rattle.trace_cli.specs.declared.file_faults.NamedFault.TheVariants as named_faults
-use Rattle.trace_cli.proofs.Readying.{sweep_ready, script_there, arrival_there, sweep_image_faults, sweep_script_faults, sweep_arrival_faults}
+use Rattle.command_files.specs.declared.file_faults.NamedFault.TheVariants as named_faults
+use Rattle.trace_cli.proofs.Readying.{sweep_ready, arrival_there, sweep_image_faults, sweep_script_faults, sweep_arrival_faults}
+use Rattle.command_files.proofs.Readying.{script_there}
 use Rattle.outside_io.proofs.OnlyReading.{reads_more}
 use Rattle.trace_cli.proofs.commands.sweep.prepare_sweep.Goals as goal
 
@@ -10,28 +11,28 @@ pub returns-in-Err-clause-named_fault : goal.returns-in-Err-clause-named_fault
 returns-in-Err-clause-named_fault g c = λ from to limit mem.
     let a = g.F.Files.seen c.args.files.now in
     let b = g.F.Files.seen c.read_image.new.files in
-    sweep_image_faults a b c.args.image.now c.args.script.now c.args.arrival.now from to limit mem c.in-Err.named_fault c.in-Err.ensures.named_fault
+    sweep_image_faults c.requires.fresh a b c.args.image.now c.args.script.now c.args.arrival.now from to limit mem c.in-Err.named_fault c.in-Err.ensures.named_fault
 
 pub returns-in-Err-read_script-clause-named_fault : goal.returns-in-Err-read_script-clause-named_fault
 returns-in-Err-read_script-clause-named_fault g c = λ from to limit mem.
     let a = g.F.Files.seen c.args.files.now in
     let b = g.F.Files.seen c.read_image.new.files in
     let d = g.F.Files.seen c.read_script.new.files in
-    sweep_script_faults a b d c.args.image.now c.args.script.now c.args.arrival.now from to limit mem (image_data c.in-Ok.image_data) c.in-Err-read_script.named_fault c.in-Ok.ensures.image c.in-Ok.ensures.only_reads.contents c.in-Ok.ensures.only_reads.later c.in-Err-read_script.ensures.named_fault
+    sweep_script_faults c.requires.fresh a b d c.args.image.now c.args.script.now c.args.arrival.now from to limit mem (image_data c.in-Ok.image_data) c.in-Err-read_script.named_fault c.in-Ok.ensures.image c.in-Ok.ensures.only_reads.contents c.in-Ok.ensures.only_reads.later c.in-Err-read_script.ensures.named_fault
 
 pub returns-in-Err-read_arrival-clause-named_fault : goal.returns-in-Err-read_arrival-clause-named_fault
 returns-in-Err-read_arrival-clause-named_fault g c = λ from to limit mem.
     let a = g.F.Files.seen c.args.files.now in
     let b = g.F.Files.seen c.read_script.new.files in
     let d = g.F.Files.seen c.read_arrival.new.files in
-    sweep_arrival_faults a b d c.args.image.now c.args.script.now c.args.arrival.now from to limit mem (image_data c.in-Ok.image_data) (script_data c.in-Ok-read_script.events) c.in-Err-read_arrival.named_fault c.in-Ok.ensures.image
+    sweep_arrival_faults c.requires.fresh a b d c.args.image.now c.args.script.now c.args.arrival.now from to limit mem (image_data c.in-Ok.image_data) (script_data c.in-Ok-read_script.events) c.in-Err-read_arrival.named_fault c.in-Ok.ensures.image
     (script_there c.in-Ok.ensures.only_reads.contents c.in-Ok-read_script.ensures.script) (c.in-Ok-read_script.ensures.only_reads.contents ∙ c.in-Ok.ensures.only_reads.contents) (omega (arith, c.in-Ok.ensures.only_reads.later, c.in-Ok-read_script.ensures.only_reads.later)) c.in-Err-read_arrival.ensures.named_fault
 
 pub returns-in-Err-open-clause-named_fault : goal.returns-in-Err-open-clause-named_fault
 returns-in-Err-open-clause-named_fault g c = λ from to limit mem.
     let a = g.F.Files.seen c.args.files.now in
     let d = g.F.Files.seen c.read_arrival.new.files in
-    sweep_image_faults a d c.args.image.now c.args.script.now c.args.arrival.now from to limit mem named_faults.Memory tt
+    sweep_image_faults c.requires.fresh a d c.args.image.now c.args.script.now c.args.arrival.now from to limit mem named_faults.Memory tt
 
 pub returns-in-Ok-open-2-clause-ready : goal.returns-in-Ok-open-2-clause-ready
 returns-in-Ok-open-2-clause-ready g c = λ from to limit mem.
@@ -43,7 +44,7 @@ pub returns-clause-named_fault : goal.returns-clause-named_fault
 returns-clause-named_fault g c = λ from to limit mem.
     let a = g.F.Files.seen c.args.files.now in
     let d = g.F.Files.seen c.read_arrival.new.files in
-    sweep_image_faults a d c.args.image.now c.args.script.now c.args.arrival.now from to limit mem named_faults.Memory tt
+    sweep_image_faults c.requires.fresh a d c.args.image.now c.args.script.now c.args.arrival.now from to limit mem named_faults.Memory tt
 
 pub returns-in-Err-read_script-clause-only_reads : goal.returns-in-Err-read_script-clause-only_reads
 returns-in-Err-read_script-clause-only_reads g c = reads_more c.in-Ok.ensures.only_reads c.in-Err-read_script.ensures.only_reads

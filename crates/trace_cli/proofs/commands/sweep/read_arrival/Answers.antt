@@ -1,6 +1,8 @@
 use Rattle.std.proofs.Common.{ℕ, List, refl, sym, subst}
-use Rattle.trace_cli.specs.Sources.{arrival_file, MayBe}
-use Rattle.trace_cli.proofs.Faulting.{cannot_take, refused_in, long_arrival}
+use Rattle.trace_cli.specs.Sources.{arrival_file}
+use Rattle.command_files.specs.Sources.{MayBe}
+use Rattle.command_files.proofs.Faulting.{cannot_take, refused_in}
+use Rattle.trace_cli.proofs.Faulting.{long_arrival}
 use Rattle.trace_cli.proofs.commands.sweep.read_arrival.Goals as goal
 
 pub returns-in-Err-clause-named_fault : goal.returns-in-Err-clause-named_fault

@@ -22,5 +22,5 @@ returns-in-Err-clause-answer g c =
     let b = g.F.Files.seen c.prepare_sweep.new.files in
     let w = g.S.Sink.seen c.args.out.now in
     let w' = g.S.Sink.seen c.tell_named_fault.new.out in
-    answers_named_fault (sweep c.args.image.now c.args.script.now c.args.arrival.now c.args.from c.args.to c.args.steps c.args.memory) a b w w' c.in-Err.named_fault c.tell_named_fault.result c.in-Err.ensures.only_reads.contents
+    answers_named_fault (sweep c.args.image.now c.args.script.now c.args.arrival.now c.args.from c.args.to c.args.steps c.args.memory) a b w w' c.in-Err.named_fault c.tell_named_fault.result (λ v. tt) c.in-Err.ensures.only_reads.contents
     (c.in-Err.ensures.named_fault c.args.from c.args.to c.args.steps c.args.memory) c.tell_named_fault.ensures

@@ -1,5 +1,5 @@
 use Rattle.std.proofs.Common.{refl}
-use Rattle.trace_cli.specs.Pushed.{cut}
+use Rattle.command_files.specs.Pushed.{cut}
 use Rattle.trace_cli.proofs.commands.sweep.tell_sweep.Goals as goal
 
 pub returns-in-Err : goal.returns-in-Err

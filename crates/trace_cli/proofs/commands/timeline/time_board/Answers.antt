@@ -5,9 +5,9 @@ use Rattle.board_model.specs.declared.outcomes.Level.TheVariants.{Calls}
 use Rattle.board_model.specs.Run.{Run}
 use Rattle.board_model.specs.Script.{start_of}
 use Rattle.run_lanes.specs.Timeline.{timeline_text}
-use Rattle.trace_cli.specs.Pushed.{whole, cut, pushed}
-use Rattle.trace_cli.specs.Verdict.{status_of}
-use Rattle.trace_cli.proofs.Starting.{from_start}
+use Rattle.command_files.specs.Pushed.{whole, cut, pushed}
+use Rattle.command_files.specs.Verdict.{status_of}
+use Rattle.board_commands.proofs.Starting.{from_start}
 use Rattle.trace_cli.proofs.Timing.{all_left}
 use Rattle.trace_cli.proofs.commands.timeline.time_board.Goals as goal
 

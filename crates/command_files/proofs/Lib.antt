@@ -1,0 +1,9 @@
+pub mod Agreeing
+pub mod Answering
+pub mod Faulting
+pub mod Lists
+pub mod Named
+pub mod Readying
+pub mod Refusals
+pub mod Spelling
+pub mod Taking

@@ -1,0 +1,12 @@
+pub mod Schedules
+pub mod Walked
+pub mod Asked
+pub mod Kept
+pub mod Seen
+pub mod Answers
+pub mod Views
+pub mod Ahead
+pub mod Clean
+pub mod There
+pub mod Made
+pub mod Verdicts

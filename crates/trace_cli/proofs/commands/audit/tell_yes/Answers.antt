@@ -1,8 +1,0 @@
-use Rattle.std.proofs.Common.{refl, sym, ◌∙◌}
-use Rattle.trace_audit.specs.declared.judgement.Judgement.TheVariants.{Yes}
-use Rattle.trace_cli.specs.Verdict.{audited}
-use Rattle.trace_cli.specs.Pushed.{pushed}
-use Rattle.trace_cli.proofs.commands.audit.tell_yes.Goals as goal
-
-pub returns-in-Ok : goal.returns-in-Ok
-returns-in-Ok g c = pushed (c.tell.ensures (audited (Yes c.args.calls c.args.left)) refl (sym (c.as_bytes.ensures.value ∙ c.in-Ok.ensures)))

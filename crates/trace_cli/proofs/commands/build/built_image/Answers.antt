@@ -1,5 +1,0 @@
-use Rattle.trace_cli.proofs.Taking.{image_in_app}
-use Rattle.trace_cli.proofs.commands.build.built_image.Goals as goal
-
-pub returns-in-Ok-clause-image : goal.returns-in-Ok-clause-image
-returns-in-Ok-clause-image g c = image_in_app c.in-Ok.ensures.built
