@@ -1,5 +1,5 @@
 -- What each description that is read satisfies.
-use Rattle.std.specs.Prelude.{ℕ, ◌≡◌, ◌≤◌, ◌<◌, true, None, length, All}
+use Rattle.std.specs.Prelude.{ℕ, ◌≡◌, ◌≤◌, ◌<◌, true, None, IfSome, length, All}
 use Rattle.app_toml.specs.Apps.{AppData, DeviceData, InterruptData, RegionData, TaskData}
 use Rattle.app_toml.specs.Crossed.{cross_fault}
 use Rattle.app_toml.specs.Places.{Text}
@@ -35,6 +35,7 @@ pub record IsInterrupt (i : InterruptData) : Type 0 where
   pub line : i.line ≤ 63
   pub task : IsName i.task
   pub notification : IsName i.notification
+  pub device : IfSome i.device IsName
 
 -- each value has its form, and none of causes 7 to 20 holds
 pub record IsAccepted (app : AppData) : Type 0 where

@@ -1,5 +1,5 @@
 -- What an application description says.
-use Rattle.std.specs.Prelude.{ℕ, Bool, List}
+use Rattle.std.specs.Prelude.{ℕ, Bool, List, Option}
 use Rattle.app_toml.specs.Places.{Text}
 
 -- notification k of a task's list is bit k; `uses` and `reads` name regions and devices
@@ -25,11 +25,12 @@ pub record DeviceData : Type 0 where
   pub base : ℕ
   pub size : ℕ
 
--- an interrupt line, and the task and the notification of it that the line posts
+-- an interrupt line, the task and the notification of it that the line posts, and the device that drives the line
 pub record InterruptData : Type 0 where
   pub line : ℕ
   pub task : Text
   pub notification : Text
+  pub device : Option Text
 
 pub record AppData : Type 0 where
   pub flash : ℕ  -- how many bytes the board has

@@ -1,6 +1,6 @@
 -- Causes 7 to 20 of docs/FORMATS.md, Application: each at its first place in the order of the
 -- document.
-use Rattle.std.specs.Prelude.{ℕ, Bool, not, ◌+◌, ◌%◌, ◌==◌, ◌&&◌, ◌||◌, List, [], ◌∷◌, Option, None, codes, if◌then◌else◌, length, nat_le, nat_lt}
+use Rattle.std.specs.Prelude.{ℕ, Bool, not, ◌+◌, ◌%◌, ◌==◌, ◌&&◌, ◌||◌, List, [], ◌∷◌, ◌++◌, Option, Some, None, codes, if◌then◌else◌, length, nat_le, nat_lt}
 use Rattle.std.specs.List.{list_any}
 use Rattle.std.specs.Str.{bytes_eq}
 use Rattle.region_check.specs.Sizes.{is_size}
@@ -38,6 +38,15 @@ abbrev pub notifications_of : Text → List TaskData → List Text
 notifications_of name [] = []
 notifications_of name (t ∷ ts) =
     if bytes_eq t.name name then t.notifications else notifications_of name ts
+
+-- the regions and devices that the first task of that name uses or reads
+abbrev pub areas_of : Text → List TaskData → List Text
+areas_of name [] = []
+areas_of name (t ∷ ts) = if bytes_eq t.name name then t.uses ++ t.reads else areas_of name ts
+
+-- a device that the task of that name uses or reads
+abbrev pub is_device_of : List TaskData → List DeviceData → Text → Text → Bool
+is_device_of tasks devices task name = is_among name (areas_of task tasks) && has_device name devices
 
 -- ---- cause 7: a name used before
 
@@ -103,12 +112,22 @@ unknown_region regions devices k t =
     or_else (first_fault (unknown_entry regions devices (task_site k (codes "uses"))) 0 t.uses)
     (first_fault (unknown_entry regions devices (task_site k (codes "reads"))) 0 t.reads)
 
+-- the device that drives a line, which is to be one of the line's task
+abbrev pub unknown_device : List TaskData → List DeviceData → ℕ → Text → Option Text → Option Refusal
+unknown_device tasks devices k task None = None
+unknown_device tasks devices k task (Some name) =
+    refuse_if (not (is_device_of tasks devices task name)) 10 (interrupt_site k (codes "device"))
+
+abbrev pub unknown_line_device : List TaskData → List DeviceData → ℕ → InterruptData → Option Refusal
+unknown_line_device tasks devices k i = unknown_device tasks devices k i.task i.device
+
 abbrev pub unknown_name : AppData → Option Refusal
 unknown_name app =
     or_else (first_fault (unknown_owner app.tasks) 0 app.interrupts)
     (or_else (unknown_fault_bit app.fault app.tasks)
     (or_else (first_fault (unknown_bit app.tasks) 0 app.interrupts)
-    (first_fault (unknown_region app.regions app.devices) 0 app.tasks)))
+    (or_else (first_fault (unknown_region app.regions app.devices) 0 app.tasks)
+    (first_fault (unknown_line_device app.tasks app.devices) 0 app.interrupts))))
 
 -- ---- causes 11 to 14: how many
 

@@ -54,7 +54,8 @@ device_keys = needed (codes "name") Name
 abbrev pub interrupt_keys : List KeyRow
 interrupt_keys = needed (codes "line") (Number (pos 0) (pos 63))
     ∷ needed (codes "task") Name
-    ∷ needed (codes "notification") Name ∷ []
+    ∷ needed (codes "notification") Name
+    ∷ optional (codes "device") Name ∷ []
 
 -- ---- one table
 

@@ -1,5 +1,5 @@
 -- How the tables of every description that is read stand to one another.
-use Rattle.std.specs.Prelude.{ℕ, ◌≡◌, ◌≢◌, ◌≤◌, ◌<◌, ◌+◌, ◌%◌, ◌⊎◌, List, [], true, false, length, All, Any, AllPairs, Contains}
+use Rattle.std.specs.Prelude.{ℕ, ◌≡◌, ◌≢◌, ◌≤◌, ◌<◌, ◌+◌, ◌%◌, ◌⊎◌, List, [], true, false, IfSome, length, All, Any, AllPairs, Contains}
 use Rattle.std.specs.List.{slice_index_or}
 use Rattle.region_check.specs.Sizes.{is_size}
 use Rattle.app_toml.specs.Apps.{AppData, DeviceData, InterruptData, TaskData}
@@ -54,9 +54,15 @@ NamesArea app name = Any (λ r. r.name ≡ name) app.regions ⊎ Any (λ d. d.na
 abbrev pub Owns : InterruptData → TaskData → Type 0
 Owns i t = (t.name ≡ i.task) × Contains t.notifications i.notification
 
+-- a task has the name of the interrupt's, and uses or reads the device, which there is
+pub record IsLineDevice (app : AppData) (i : InterruptData) (name : Text) : Type 0 where
+  pub used : Any (λ t. (t.name ≡ i.task) × (Contains t.uses name ⊎ Contains t.reads name)) app.tasks
+  pub there : Any (λ d. d.name ≡ name) app.devices
+
 pub record HasReferences (app : AppData) : Type 0 where
   pub fault : Contains (task_in app 0).notifications app.fault
   pub interrupts : All (λ i. Any (Owns i) app.tasks) app.interrupts
+  pub devices : All (λ i. IfSome i.device (IsLineDevice app i)) app.interrupts
   pub uses : All (λ t. All (NamesArea app) t.uses) app.tasks
   pub reads : All (λ t. All (NamesArea app) t.reads) app.tasks
 

@@ -53,4 +53,5 @@ interrupt_of i = record {
   line = i.line;
   task = string_bytes i.task;
   notification = string_bytes i.notification;
+  device = option_map string_bytes i.device;
 }

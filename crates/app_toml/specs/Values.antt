@@ -28,6 +28,10 @@ text_of d = unwrap_or (as_str d) []
 abbrev pub text_in : Text → Members → Text
 text_in name ms = unwrap_or (option_map text_of (get_member name ms)) []
 
+-- of a key that may be absent
+abbrev pub some_text_in : Text → Members → Option Text
+some_text_in name ms = option_map text_of (get_member name ms)
+
 abbrev pub items_in : Text → Members → Items
 items_in name ms = unwrap_or (option_and_then as_array (get_member name ms)) no_items
 
@@ -72,6 +76,7 @@ interrupt_in ms = record {
   line = byte_in (codes "line") ms;
   task = text_in (codes "task") ms;
   notification = text_in (codes "notification") ms;
+  device = some_text_in (codes "device") ms;
 }
 
 -- ---- a list of tables

@@ -34,12 +34,14 @@ pub struct DeviceSpec {
     pub size: u32,
 }
 
-/// An interrupt line, and the task and the notification of it that the line posts.
+/// An interrupt line, the task and the notification of it that the line posts, and the device that
+/// drives the line, if one does.
 #[derive(Debug, Drop)]
 pub struct LineSpec {
     pub line: u8,
     pub task: String,
     pub notification: String,
+    pub device: Option<String>,
 }
 
 /// A description before the check for causes 7 to 20.

@@ -17,7 +17,7 @@ use Rattle.mem_banks.specs.Memory.{number_at, is_ram}
 use Rattle.task_table.specs.model.State.{Setup, Task, State, Own, Turn}
 use Rattle.task_table.specs.model.Reading.{task_at, setup_at, register, chosen}
 use Rattle.task_table.specs.model.Effects.{◌⨾◌, changed, noted, with_processor, stored, faulted, device_stored, device_taken}
-use Rattle.task_table.specs.model.Events.{ticked, interrupted, fed}
+use Rattle.task_table.specs.model.Events.{ticked, interrupted, fed, driven}
 use Rattle.task_table.specs.model.Rows.{syscall_noted}
 use Rattle.task_table.specs.model.Syscalls.{syscall_made}
 use Rattle.task_table.specs.model.Start.{begun}
@@ -106,7 +106,7 @@ stepped level g c t =
 abbrev pub happened : Setup → Turn → Event → Turn
 happened g t Tick = ticked t
 happened g t (Irq line) = interrupted g line t
-happened g t (Feed device byte) = fed device (byte % 256) t  -- the byte: the low eight bits of the number
+happened g t (Feed device byte) = t ⨾ fed device (byte % 256) ⨾ driven g  -- the byte: the low eight bits of the number
 
 -- the next event, if there is one
 abbrev pub happened_next : Setup → Option Event → Turn → Turn

@@ -1,7 +1,7 @@
 -- Why there is no image, and how far a builder has come.
-use Rattle.std.specs.Prelude.{ℕ, ⊤, ◌+◌, ◌-◌, ◌^◌, ◌≤◌, ◌<◌, ◌≡◌, ◌%◌, List, true, ◌||◌, Option, Some, length, min, slice_index}
+use Rattle.std.specs.Prelude.{ℕ, ⊤, ◌+◌, ◌-◌, ◌^◌, ◌≤◌, ◌<◌, ◌≡◌, ◌%◌, List, true, ◌||◌, Option, Some, IfSome, length, min, slice_index}
 use Rattle.app_toml.specs.Apps.{AppData, InterruptData}
-use Rattle.app_toml.specs.Crossed.{has_device, has_region, has_task, is_among, notifications_of}
+use Rattle.app_toml.specs.Crossed.{has_device, has_region, has_task, is_among, is_device_of, notifications_of}
 use Rattle.app_toml.specs.Places.{Text}
 use Rattle.mem_plan.specs.Placing.{placed}
 use Rattle.mem_plan.specs.Sizes.{rounded, total}
@@ -129,7 +129,9 @@ pub record Holds (app : AppData) (sources : List (List ℕ)) (flash : List ℕ) 
 abbrev pub IsKnown : AppData → Text → Type 0
 IsKnown app name = (has_region name app.regions || has_device name app.devices) ≡ true
 
--- a task has the interrupt's owner's name, and a notification of it the interrupt's
+-- a task has the interrupt's owner's name, a notification of it the interrupt's, and the device that drives the line
+-- is one of its own
 pub record IsOwned (app : AppData) (i : InterruptData) : Type 0 where
   pub owner : has_task i.task app.tasks ≡ true
   pub bit : is_among i.notification (notifications_of i.task app.tasks) ≡ true
+  pub device : IfSome i.device (λ name. is_device_of app.tasks app.devices i.task name ≡ true)

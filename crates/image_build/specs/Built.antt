@@ -1,8 +1,8 @@
 -- The image that is built of an application and of its tasks' sources.
-use Rattle.std.specs.Prelude.{ℕ, List, [], ◌∷◌, ◌+◌, ◌-◌, ◌^◌, ◌≤◌, ◌<◌, ◌≡◌, ◌==◌, filter, length, map, slice_index, slice_index_or}
+use Rattle.std.specs.Prelude.{ℕ, List, [], ◌∷◌, ◌+◌, ◌-◌, ◌^◌, ◌≤◌, ◌<◌, ◌≡◌, ◌==◌, Option, Some, None, filter, length, map, slice_index, slice_index_or}
 use Rattle.std.specs.List.{flat_map, range_with_len}
 use Rattle.app_toml.specs.Apps.{AppData, InterruptData, TaskData}
-use Rattle.app_toml.specs.Crossed.{notifications_of}
+use Rattle.app_toml.specs.Crossed.{areas_of, notifications_of}
 use Rattle.app_toml.specs.Places.{Text}
 use Rattle.image_format.specs.ImageData.{ImageLine, ImageData, ImageTask}
 use Rattle.mem_plan.specs.Sizes.{rounded}
@@ -32,11 +32,18 @@ abbrev pub tasks_from : AppData → ℕ → List TaskData → List ImageTask
 tasks_from app i [] = []
 tasks_from app i (t ∷ ts) = task_built app i t ∷ tasks_from app (i + 1) ts
 
+-- The number of a device's region among those of the task that uses or reads it, counted from one; 0 for none. The
+-- task's flash and its RAM come first.
+abbrev pub device_number : List Text → Option Text → ℕ
+device_number areas None = 0
+device_number areas (Some name) = 3 + index_of name areas
+
 abbrev pub line_built : AppData → InterruptData → ImageLine
 line_built app i = record {
   line = i.line;
   task = index_of i.task (map (λ t. t.name) app.tasks);
   bits = bit_of i.notification (notifications_of i.task app.tasks);
+  device = device_number (areas_of i.task app.tasks) i.device;
 }
 
 -- the interrupts of one line, of which there is at most one

@@ -1,10 +1,10 @@
 -- The facts that are true of each sound image.
-use Rattle.std.specs.Prelude.{ℕ, List, [], ◌≡◌, ◌≢◌, ◌⊎◌, slice_index_or, ◌+◌, ◌-◌, ◌≤◌, ◌<◌, ◌%◌, true, false, length, Contains}
+use Rattle.std.specs.Prelude.{ℕ, List, [], ◌≡◌, ◌≢◌, ◌⊎◌, slice_index_or, ◌+◌, ◌-◌, ◌≤◌, ◌<◌, ◌%◌, Some, true, false, length, Contains}
 use Rattle.region_check.specs.declared.Region.{Region}
 use Rattle.region_check.specs.declared.Right.TheVariants.{Execute}
 use Rattle.region_check.specs.Rights.{may_use, SameOrApart}
 use Rattle.text_lines.specs.Names.{is_name}
-use Rattle.image_format.specs.ImageData.{ImageData, line_in, names_in, regions_in, task_in}
+use Rattle.image_format.specs.ImageData.{ImageData, device_region, line_in, names_in, regions_in, task_in}
 
 -- the bytes of the region lie in the flash; they lie in the RAM
 abbrev pub IsInFlash : ImageData → Region → Type 0
@@ -55,6 +55,8 @@ pub record HasLines (p : ImageData) : Type 0 where
   pub below : (k : ℕ) → (line_in p k).line < 64
   pub owners : (k : ℕ) → k < length p.lines → (line_in p k).task < length p.tasks
   pub bits : (k : ℕ) → k < length p.lines → 0 < (line_in p k).bits
+  pub devices : (k : ℕ) → k < length p.lines → 0 < (line_in p k).device
+      → (r : Region) × (device_region p k ≡ Some r) × (r.rights.device ≡ true)
 
 -- the names of the notifications of each task i
 pub record HasNames (p : ImageData) : Type 0 where

@@ -1,5 +1,5 @@
 -- An image: what it says of tasks, interrupts and memory, without how it is spelled; and its spellings.
-use Rattle.std.specs.Prelude.{◌≡◌, ◌≤◌, ◌<◌, ◌⊎◌, Contains, ℕ, Bool, ◌+◌, ◌/◌, ◌%◌, ◌==◌, false, List, [], ◌∷◌, Result, Ok, Err, length, map, take, drop, slice_index, slice_index_or, if◌then◌else◌}
+use Rattle.std.specs.Prelude.{zero, suc, Option, None, slice_get, ◌≡◌, ◌≤◌, ◌<◌, ◌⊎◌, Contains, ℕ, Bool, ◌+◌, ◌/◌, ◌%◌, ◌==◌, false, List, [], ◌∷◌, Result, Ok, Err, length, map, take, drop, slice_index, slice_index_or, if◌then◌else◌}
 use Rattle.std.specs.List.{flat_map}
 use Rattle.region_check.specs.declared.Region.{Region}
 use Rattle.region_check.specs.declared.Rights.{Rights}
@@ -24,11 +24,13 @@ pub record ImageTask : Type 0 where
   pub regions : List Region
   pub names : List (List ℕ)
 
--- an interrupt line, the task that owns it, and the notification bits that it posts
+-- An interrupt line, the task that owns it, and the notification bits that it posts. A device may drive it: its region
+-- is one of the task's, counted from one; 0 where none does.
 pub record ImageLine : Type 0 where
   pub line : ℕ
   pub task : ℕ
   pub bits : ℕ
+  pub device : ℕ
 
 pub record ImageData : Type 0 where
   pub fault_bits : ℕ  -- what is posted to the supervisor, task 0, at a fault
@@ -51,11 +53,20 @@ abbrev pub names_in : ImageData → ℕ → List (List ℕ)
 names_in p i = (task_in p i).names
 
 abbrev pub no_line : ImageLine
-no_line = record { line = 0; task = 0; bits = 0 }
+no_line = record { line = 0; task = 0; bits = 0; device = 0 }
 
 -- the k-th interrupt
 abbrev pub line_in : ImageData → ℕ → ImageLine
 line_in p k = slice_index_or p.lines k no_line
+
+-- the region of a task by its number, which counts from one
+abbrev pub region_by : List Region → ℕ → Option Region
+region_by regions zero = None
+region_by regions (suc k) = slice_get regions k
+
+-- the region of the device that drives the k-th interrupt, if one does
+abbrev pub device_region : ImageData → ℕ → Option Region
+device_region p k = region_by (regions_in p (line_in p k).task) (line_in p k).device
 
 -- ---- the records that say it
 
@@ -80,7 +91,7 @@ abbrev pub region_record : Region → RegionRecord
 region_record r = record { base = r.base; size = r.size; rights = rights_number r.rights }
 
 abbrev pub line_record : ImageLine → LineRecord
-line_record l = record { line = l.line; task = l.task; zero = 0; bits = l.bits }
+line_record l = record { line = l.line; task = l.task; device = l.device; bits = l.bits }
 
 -- the tasks' regions in order
 abbrev pub all_regions : List ImageTask → List Region
@@ -124,13 +135,14 @@ records_of form p = record {
 abbrev pub spelling : ImageData → List ℕ
 spelling p = bytes_of (records_of Second p)
 
--- the bytes spell the image in the first form, which holds at most 32 tasks and 32 interrupts of the lines below 32, and
--- no names
+-- the bytes spell the image in the first form, which holds at most 32 tasks and 32 interrupts of the lines below 32, no
+-- lines that devices drive, and no names
 pub record SpellsFirst (p : ImageData) (bytes : List ℕ) : Type 0 where
   pub spelled : bytes ≡ bytes_of (records_of First p)
   pub few_tasks : length p.tasks ≤ most_tasks First
   pub few_lines : length p.lines ≤ most_lines First
   pub low_lines : (l : ImageLine) → Contains p.lines l → l.line ≤ highest_line First
+  pub undriven : (l : ImageLine) → Contains p.lines l → l.device ≡ 0
   pub unnamed : (t : ImageTask) → Contains p.tasks t → t.names ≡ []
 
 -- the bytes spell the image in one of the two forms: header, tasks, regions, interrupts, names, flash, and nothing else
@@ -155,7 +167,7 @@ abbrev pub region_of : RegionRecord → Region
 region_of r = record { base = r.base; size = r.size; rights = rights_of r.rights }
 
 abbrev pub line_of : LineRecord → ImageLine
-line_of l = record { line = l.line; task = l.task; bits = l.bits }
+line_of l = record { line = l.line; task = l.task; bits = l.bits; device = l.device }
 
 -- a task with its own regions and its own names
 abbrev pub task_of : TaskRecord → List RegionRecord → List (List ℕ) → ImageTask

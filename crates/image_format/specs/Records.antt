@@ -9,7 +9,7 @@ use Rattle.image_format.specs.declared.records.TaskRecord.{TaskRecord}
 use Rattle.image_format.specs.declared.records.RegionRecord.{RegionRecord}
 use Rattle.image_format.specs.declared.records.LineRecord.{LineRecord}
 use Rattle.image_format.specs.Names.{names_fault}
-use Rattle.image_format.specs.Regions.{entries_fault, regions_fault}
+use Rattle.image_format.specs.Regions.{line_devices_fault, entries_fault, regions_fault}
 use Rattle.image_format.specs.Steps.{Refusal, count_fault, field_fault, header_size, lines_fault, lines_place, names_place, or_else, regions_place, tasks_fault}
 
 -- the parts of a file, in its order
@@ -71,13 +71,13 @@ abbrev pub line_at : ImageForm → List ℕ → LineRecord
 line_at First bytes = record {
   line = slice_index bytes 0;
   task = slice_index bytes 1;
-  zero = half bytes 2;
+  device = half bytes 2;
   bits = num bytes 4;
 }
 line_at Second bytes = record {
   line = slice_index bytes 0;
   task = half bytes 2;
-  zero = slice_index bytes 1;
+  device = slice_index bytes 1;
   bits = num bytes 4;
 }
 
@@ -156,7 +156,8 @@ records_fault r =
     (or_else (regions_fault r.header r.tasks r.regions)
     (or_else (entries_fault r.header r.tasks r.regions)
     (or_else (lines_fault r.header r.lines)
-    (names_fault r.header r.tasks r.names)))))
+    (or_else (line_devices_fault r.header r.tasks r.regions r.lines)
+    (names_fault r.header r.tasks r.names))))))
 
 abbrev pub checked : Records → Result Records Refusal
 checked r = unless (records_fault r) (Ok r)
@@ -192,8 +193,8 @@ abbrev pub region_bytes : RegionRecord → List ℕ
 region_bytes r = num_bytes r.base ++ num_bytes r.size ++ num_bytes r.rights
 
 abbrev pub line_bytes : ImageForm → LineRecord → List ℕ
-line_bytes First l = (l.line ∷ l.task ∷ []) ++ half_bytes l.zero ++ num_bytes l.bits
-line_bytes Second l = (l.line ∷ l.zero ∷ []) ++ half_bytes l.task ++ num_bytes l.bits
+line_bytes First l = (l.line ∷ l.task ∷ []) ++ half_bytes l.device ++ num_bytes l.bits
+line_bytes Second l = (l.line ∷ l.device ∷ []) ++ half_bytes l.task ++ num_bytes l.bits
 
 abbrev pub bytes_of : Records → List ℕ
 bytes_of r = header_bytes r.header ++ (flat_map task_bytes r.tasks ++ (flat_map region_bytes r.regions

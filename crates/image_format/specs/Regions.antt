@@ -1,11 +1,12 @@
--- The refusals of regions and of entries: a cause, and the place of a byte.
-use Rattle.std.specs.Prelude.{ℕ, Bool, not, ◌+◌, ◌*◌, ◌%◌, ◌==◌, ◌&&◌, ◌||◌, List, [], ◌∷◌, ◌++◌, Option, Some, None, if◌then◌else◌, nat_lt, nat_le, take, drop}
+-- The refusals of regions, of entries and of the devices that drive lines: a cause, and the place of a byte.
+use Rattle.std.specs.Prelude.{ℕ, zero, suc, Bool, true, false, not, ◌+◌, ◌*◌, ◌%◌, ◌==◌, ◌&&◌, ◌||◌, List, [], ◌∷◌, ◌++◌, Option, Some, None, if◌then◌else◌, nat_lt, nat_le, take, drop, slice_get}
 use Rattle.std.specs.List.{list_any}
 use Rattle.region_check.specs.Sizes.{is_size}
 use Rattle.image_format.specs.declared.records.Header.{Header}
 use Rattle.image_format.specs.declared.records.TaskRecord.{TaskRecord}
 use Rattle.image_format.specs.declared.records.RegionRecord.{RegionRecord}
-use Rattle.image_format.specs.Steps.{Refusal, first, header_size, or_else, regions_place}
+use Rattle.image_format.specs.declared.records.LineRecord.{LineRecord}
+use Rattle.image_format.specs.Steps.{Refusal, first, header_size, lines_place, or_else, regions_place}
 
 -- ---- one region
 
@@ -87,3 +88,32 @@ entries_from place (t ∷ ts) rs =
 
 abbrev pub entries_fault : Header → List TaskRecord → List RegionRecord → Option Refusal
 entries_fault h ts rs = entries_from (header_size h.form) ts rs
+
+-- ---- the devices that drive lines
+
+-- the regions of the i-th task, among those of all tasks in order
+abbrev pub own_regions : List TaskRecord → List RegionRecord → ℕ → List RegionRecord
+own_regions [] rs i = []
+own_regions (t ∷ ts) rs zero = take t.regions rs
+own_regions (t ∷ ts) rs (suc i) = own_regions ts (drop t.regions rs) i
+
+-- there is such a region, and it is a device's
+abbrev pub is_devices : Option RegionRecord → Bool
+is_devices None = false
+is_devices (Some r) = nat_le 8 r.rights
+
+-- no device drives the line, or the one of a region of its task does, counted from one
+abbrev pub may_drive : List RegionRecord → ℕ → Bool
+may_drive own zero = true
+may_drive own (suc k) = is_devices (slice_get own k)
+
+abbrev pub line_device_fault : List RegionRecord → LineRecord → ℕ → Option Refusal
+line_device_fault own l place = if may_drive own l.device then None else Some (3, place + 1)
+
+abbrev pub line_devices_from : List TaskRecord → List RegionRecord → ℕ → List LineRecord → Option Refusal
+line_devices_from ts rs place [] = None
+line_devices_from ts rs place (l ∷ ls) =
+    or_else (line_device_fault (own_regions ts rs l.task) l place) (line_devices_from ts rs (place + 8) ls)
+
+abbrev pub line_devices_fault : Header → List TaskRecord → List RegionRecord → List LineRecord → Option Refusal
+line_devices_fault h ts rs ls = line_devices_from ts rs (lines_place h) ls

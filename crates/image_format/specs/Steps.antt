@@ -117,16 +117,17 @@ count_fault h ts = if counted ts == h.regions then None else Some (3, count_plac
 
 -- ---- each interrupt
 
--- its line has to be at least this high, and its task one of this many
+-- Its line has to be at least this high, and its task one of this many. In the first form no device drives a line; in
+-- the second it may be the one of a region of its task, of which there are at most 8.
 abbrev pub line_fault : ImageForm → ℕ → ℕ → LineRecord → ℕ → Option Refusal
 line_fault First least tasks l place = first (
     (nat_lt (highest_line First) l.line || nat_lt l.line least, (13, place))
     ∷ (nat_le tasks l.task, (14, place + 1))
-    ∷ (not (l.zero == 0), (3, place + 2))
+    ∷ (not (l.device == 0), (3, place + 2))
     ∷ (l.bits == 0, (15, place + 4)) ∷ [])
 line_fault Second least tasks l place = first (
     (nat_lt (highest_line Second) l.line || nat_lt l.line least, (13, place))
-    ∷ (not (l.zero == 0), (3, place + 1))
+    ∷ (nat_lt 8 l.device, (3, place + 1))
     ∷ (nat_le tasks l.task, (14, place + 2))
     ∷ (l.bits == 0, (15, place + 4)) ∷ [])
 

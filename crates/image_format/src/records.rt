@@ -48,12 +48,14 @@ pub struct RegionRecord {
     pub rights: u32,
 }
 
-/// An interrupt line, the task that owns it, a zero and the notification bits that it posts.
+/// An interrupt line, the task that owns it, and the notification bits that it posts. `device` is
+/// the number, counted from one, of the region of its task whose device drives it; 0 if none does.
+/// In the first form it is a half that is to be 0.
 #[derive(Clone, Copy)]
 pub struct LineRecord {
     pub line: u8,
     pub task: u16,
-    pub zero: u16,
+    pub device: u16,
     pub bits: u32,
 }
 

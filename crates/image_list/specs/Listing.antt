@@ -1,6 +1,6 @@
 -- The JSON object that lists an image, its keys in byte order.
-use Rattle.std.specs.Prelude.{ℕ, List, codes, length, map}
-use Rattle.serde_json.specs.Data.{Data, Items, number, unsigned, string, array, object, member, no_members}
+use Rattle.std.specs.Prelude.{ℕ, zero, suc, List, codes, length, map}
+use Rattle.serde_json.specs.Data.{Data, Items, number, unsigned, string, array, object, Members, member, no_members}
 use Rattle.serde_json.specs.View.{items_of}
 use Rattle.region_check.specs.declared.Region.{Region}
 use Rattle.image_format.specs.Loners.{loners}
@@ -34,10 +34,16 @@ task_data t = object (member (codes "entry") (whole t.entry)
 abbrev pub tasks_data : List ImageTask → Items
 tasks_data ts = items_of (map task_data ts)
 
+-- of a line that a device drives, the index of the device's region among those of its task
+abbrev pub device_member : ℕ → Members → Members
+device_member zero rest = rest
+device_member (suc k) rest = member (codes "device") (whole k) rest
+
 abbrev pub line_data : ImageLine → Data
 line_data l = object (member (codes "bits") (whole l.bits)
+    (device_member l.device
     (member (codes "line") (whole l.line)
-    (member (codes "task") (whole l.task) no_members)))
+    (member (codes "task") (whole l.task) no_members))))
 
 abbrev pub lines_data : List ImageLine → Items
 lines_data ls = items_of (map line_data ls)

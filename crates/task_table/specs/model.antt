@@ -1,5 +1,6 @@
 pub mod State
 pub mod Reading
+pub mod Asking
 pub mod Effects
 pub mod Rows
 pub mod Syscalls

@@ -1,8 +1,9 @@
 -- What is true in the middle of an event or a system call: timers after the time has advanced, a fold over the
 -- items of a list that pass a test, part of the way; and the state of several lines together.
-use Rattle.std.specs.Prelude.{ℕ, ◌+◌, ◌<◌, ◌≤◌, ◌==◌, ◌||◌, not, Bool, List, length, Option, None, Some, IfSome, if◌then◌else◌}
+use Rattle.std.specs.Prelude.{ℕ, ◌+◌, ◌<◌, ◌≤◌, ◌==◌, ◌≡◌, ◌||◌, not, Bool, List, length, map, Option, None, Some, IfSome, if◌then◌else◌}
 use Rattle.std.specs.List.{list_any}
-use Rattle.task_table.specs.model.State.{LineSetup, State}
+use Rattle.task_table.specs.model.State.{LineSetup, Setup, State, Turn}
+use Rattle.task_table.specs.model.Asking.{is_asked}
 use Rattle.task_table.specs.model.Reading.{task_at, line_at}
 use Rattle.task_table.specs.declared.Line.{Line}
 
@@ -15,11 +16,15 @@ abbrev pub with_next : {A B : Type 0} → (B → A → B) → (A → Bool) → O
 with_next f p None b = b
 with_next f p (Some x) b = if p x then f b x else b
 
--- several lines as one: enabled if one of them is, pending if one of them is
+-- whether the device of each line asks, in the image's order
+abbrev pub AreAsked : Setup → Turn → List Bool → Type 0
+AreAsked g t asked = asked ≡ map (is_asked t.state) g.lines
+
+-- several lines as one: enabled if one of them is, pending if one of them is or its device asks
 abbrev pub lines_together : State → List LineSetup → Line
 lines_together s own = record {
   enabled = list_any (λ o. (line_at s o.line).enabled) own;
-  pending = list_any (λ o. (line_at s o.line).pending) own;
+  pending = list_any (λ o. (line_at s o.line).pending || is_asked s o) own;
 }
 
 -- the sum of 1 if the line is enabled, 2 if it is pending, and 4 if bits are posted

@@ -1,5 +1,6 @@
 -- What a system call asks for, and what it does.
-use Rattle.std.specs.Prelude.{ℕ, ◌≡◌, ◌<◌, ◌≤◌, ◌+◌, true}
+use Rattle.std.specs.Prelude.{ℕ, ◌≡◌, ◌<◌, ◌≤◌, ◌+◌, List, true}
+use Rattle.kernel_abi.specs.Devices.{DeviceData}
 use Rattle.task_table.specs.kept.Frames.{AddsAtMost}
 use Rattle.task_table.specs.kept.Holds.{Stands, task_count, note_count}
 use Rattle.task_table.specs.kept.Limits.{syscall_notes, turn_notes}
@@ -17,4 +18,9 @@ pub record MayCall (k : Kernel) (caller : ℕ) : Type 0 where
 -- a system call of a ready task does what its rows say, and makes no more notes than a call may
 pub record Performs (row : Meaning) (old : Kernel) (caller : ℕ) (new : Kernel) : Type 0 where
   pub stands : (g : Setup) (t : Turn) → Stands g old t → is_ready t.state caller ≡ true → Stands g new (row g caller t)
+  pub frame : AddsAtMost old syscall_notes new
+
+-- the same, in a state with these devices
+pub record PerformsOver (devices : List DeviceData) (row : Meaning) (old : Kernel) (caller : ℕ) (new : Kernel) : Type 0 where
+  pub stands : (g : Setup) (t : Turn) → Stands g old t → t.state.devices ≡ devices → is_ready t.state caller ≡ true → Stands g new (row g caller t)
   pub frame : AddsAtMost old syscall_notes new

@@ -13,7 +13,7 @@ abbrev pub task_setup : TaskStart → TaskSetup
 task_setup x = record { priority = x.priority; entry = x.entry; stack = x.sp; regions = x.regions.items; start = x.started }
 
 abbrev pub line_setup : LineStart → LineSetup
-line_setup x = record { line = x.line; owner = x.task; bits = x.bits }
+line_setup x = record { line = x.line; owner = x.task; bits = x.bits; device = x.device }
 
 abbrev pub setup_of_parts : Memory → ℕ → List TaskStart → List LineStart → Setup
 setup_of_parts memory fault_bits tasks lines =

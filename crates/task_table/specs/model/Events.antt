@@ -1,13 +1,14 @@
 -- What comes from outside within a turn: ticks of the clock, interrupts and bytes for devices. (Hubris Reference:
 -- timers, interrupts; this project's profile says that a timer is due at its deadline, and that an interrupt on a
 -- disabled line is held once.)
-use Rattle.std.specs.Prelude.{ℕ, length, Option, None, Some, true, false, ◌==◌, nat_le, if◌then◌else◌, find, fold}
+use Rattle.std.specs.Prelude.{ℕ, List, length, Option, None, Some, true, false, ◌==◌, ◌&&◌, nat_le, if◌then◌else◌, find, fold}
 use Rattle.std.specs.List.{range_with_len}
 use Rattle.kernel_abi.specs.declared.Handled.TheVariants.{Posted, Held, Unowned}
 use Rattle.kernel_abi.specs.declared.Note.TheVariants as note
 use Rattle.kernel_abi.specs.declared.Timer.{Timer}
-use Rattle.kernel_abi.specs.Devices.{devices_fed, feed_answer}
+use Rattle.kernel_abi.specs.Devices.{DeviceData, devices_fed, feed_answer}
 use Rattle.task_table.specs.model.State.{Setup, LineSetup, Turn}
+use Rattle.task_table.specs.model.Asking.{asks_at}
 use Rattle.task_table.specs.model.Reading.{task_at, line_at, line_off}
 use Rattle.task_table.specs.model.Effects.{◌⨾◌, noted, posted, with_timer, clocked, with_line, with_devices}
 
@@ -50,3 +51,13 @@ interrupted_by k (Some o) t =
 
 unfoldable pub interrupted : Setup → ℕ → Turn → Turn
 interrupted g k t = t ⨾ interrupted_by k (owner_of g k)
+
+-- ## the lines that devices drive
+
+-- an enabled line whose device, one of these, asks: an interrupt comes on it
+abbrev pub driven_by : List DeviceData → Turn → LineSetup → Turn
+driven_by ds t o = if (line_at t.state o.line).enabled && asks_at ds o.device then (t ⨾ interrupted_by o.line (Some o)) else t
+
+-- each line, in the image's order
+unfoldable pub driven : Setup → Turn → Turn
+driven g t = fold (driven_by t.state.devices) t g.lines

@@ -13,6 +13,7 @@ use Rattle.kernel_abi.specs.declared.Note.TheVariants as note
 use Rattle.kernel_abi.specs.declared.Timer.{Timer}
 use Rattle.region_check.specs.declared.Right.TheVariants.{Write}
 use Rattle.task_table.specs.model.State.{Setup, LineSetup, State, Call, From, Any, One, KernelOnly, Slice, Own, Turn}
+use Rattle.task_table.specs.model.Asking.{is_asked}
 use Rattle.task_table.specs.model.Reading.{task_at, line_at, line_off, line_on, register, arguments, present, is_out, is_dead, dead_code_for, is_valid, bad_byte, offer_by, syscall_selector}
 use Rattle.task_table.specs.model.Effects.{◌⨾◌, changed, noted, given, returned, past_syscall, bits_cleared, posted, with_listen, with_timer, with_line, handed, faulted}
 
@@ -69,31 +70,32 @@ timer_answered c t =
 abbrev pub owns_with : ℕ → ℕ → LineSetup → Bool
 owns_with c bits o = (o.owner == c) && (o.bits == bits)
 
--- Line k is disabled or enabled. If it is to be enabled and an interrupt is pending, the interrupt is cleared and
--- its bits are posted instead, which leaves the line disabled.
-abbrev pub line_controlled : ℕ → ℕ → Bool → ℕ → Turn → Turn
-line_controlled c bits enable k t =
+-- Line k is disabled or enabled. If it is to be enabled, and an interrupt is pending or the device that drives the
+-- line asks for one, what is pending is cleared and the bits are posted instead, which leaves the line disabled.
+abbrev pub line_controlled : ℕ → ℕ → Bool → Bool → ℕ → Turn → Turn
+line_controlled c bits enable asks k t =
     let pending = (line_at t.state k).pending in
     if not enable then (t ⨾ with_line k (line_off pending))
-    else (if pending then (t ⨾ with_line k (line_off false) ⨾ posted c bits) else (t ⨾ with_line k line_on))
+    else (if pending || asks then (t ⨾ with_line k (line_off false) ⨾ posted c bits) else (t ⨾ with_line k line_on))
 
--- each line that the caller owns with these bits, in the image's order, which ascends
+-- each line that the caller owns with these bits, in the image's order, which ascends; the devices are looked at
+-- once, before the first line
 unfoldable pub irq_controlled : Setup → ℕ → Turn → Turn
 irq_controlled g c t =
     let x = irq_args (arguments t.state c) in
     first_row (
     (not (list_any (owns_with c x.bits) g.lines), t ⨾ misused g c (usage_number NoIrq))
-    ∷ []) (fold (λ u o. line_controlled c x.bits x.enable o.line u) t (filter (owns_with c x.bits) g.lines) ⨾ goes_on c)
+    ∷ []) (fold (λ u o. line_controlled c x.bits x.enable (is_asked t.state o) o.line u) t (filter (owns_with c x.bits) g.lines) ⨾ goes_on c)
 
 -- ## IRQ_STATUS: r4 bits
 
--- A sum over the lines that the caller owns with these bits: 1 if one of them is enabled, 2 if an interrupt is
--- pending on one of them, 4 if some of these bits are posted to the caller.
+-- A sum over the lines that the caller owns with these bits: 1 if one of them is enabled, 2 if on one of them an
+-- interrupt is pending or its device asks for one, 4 if some of these bits are posted to the caller.
 abbrev pub status_of_lines : Setup → State → ℕ → ℕ → ℕ
 status_of_lines g s c bits =
     let own = filter (owns_with c bits) g.lines in
     (if list_any (λ o. (line_at s o.line).enabled) own then 1 else 0)
-    + (if list_any (λ o. (line_at s o.line).pending) own then 2 else 0)
+    + (if list_any (λ o. (line_at s o.line).pending || is_asked s o) own then 2 else 0)
     + (if not (bit_and (task_at s c).posted bits == 0) then 4 else 0)
 
 unfoldable pub irq_answered : Setup → ℕ → Turn → Turn

@@ -25,6 +25,7 @@ pub record LineSetup : Type 0 where
   pub line : ℕ
   pub owner : ℕ
   pub bits : ℕ
+  pub device : ℕ  -- the first address of the device that drives it; 0, where no device is, if none does
 
 -- what the image says of all tasks and lines; it never changes in a run
 pub record Setup : Type 0 where
