@@ -15,7 +15,7 @@ if [ -n "$python" ] && ! "$python" -c 'import sys; sys.exit(sys.version_info < (
 [ -n "$python" ] || echo "left out, there is no python3 of 3.8 or later: whether timelines and pictures have gaps, and tools/gdb"
 with_python() { [ -z "$python" ] || "$python" "$@"; }
 same() { cmp -s "$1" "$2" || { echo "$3: differs from $2"; exit 1; }; echo "$3: as expected"; }
-for example in one-task client-server blinker driver restart timers watch uart debugger lost-byte from-c gdb; do
+for example in one-task client-server blinker driver restart timers watch uart driven debugger lost-byte from-c gdb; do
     "$program" build "examples/$example/app.toml" "$made/$example.img"
     "$program" list "$made/$example.img" > "$made/listing.txt"
     same "$made/listing.txt" "examples/$example/listing.txt" "$example, listing"
@@ -45,7 +45,7 @@ same "$made/mem.txt" "$light/expected-mem.txt" "blinker, go with its memory"
 grep -v -e ' insn ' -e ' low ' -e ' high ' -e ' idle$' "$made/all.txt" > "$made/calls.txt"
 same "$made/calls.txt" "$light/expected.txt" "blinker, go without what --all tells besides"
 # the folder, its script and how many turns
-for run in "driver script.txt 500" "restart empty.txt 300" "timers script.txt 500" "watch script.txt 500" "uart script.txt 500" "debugger script.txt 450" "lost-byte script.txt 500" "from-c empty.txt 1000" "gdb script.txt 800"; do
+for run in "driver script.txt 500" "restart empty.txt 300" "timers script.txt 500" "watch script.txt 500" "uart script.txt 500" "driven script.txt 4000" "debugger script.txt 450" "lost-byte script.txt 500" "from-c empty.txt 1000" "gdb script.txt 800"; do
     read -r example script steps <<< "$run"
     at=examples/$example
     "$program" go "$at/app.toml" "$at/$script" --steps "$steps" > "$made/go.txt"
@@ -53,6 +53,12 @@ for run in "driver script.txt 500" "restart empty.txt 300" "timers script.txt 50
     "$program" go "$at/app.toml" "$at/$script" --steps "$steps" --mem > "$made/mem.txt"
     same "$made/mem.txt" "$at/expected-mem.txt" "$example, go with its memory"
 done
+# the same driver in C: each byte goes out once and in its order, as from the one in assembly
+at=examples/driven
+"$program" go "$at/c.toml" "$at/script.txt" --steps 8000 > "$made/go.txt"
+same "$made/go.txt" "$at/c-expected.txt" "driven, go of the driver in C"
+sent() { awk '$2 == "out" { print $4 }' "$1"; }
+[ "$(sent "$made/go.txt")" = "$(sent "$at/expected.txt")" ] || { echo "driven: the driver in C sends other bytes"; exit 1; }
 at=examples/debugger
 "$program" debug "$made/debugger.img" "$at/script.txt" "$at/commands.txt" > "$made/answers.txt"
 same "$made/answers.txt" "$at/answers.txt" "debugger, back from its fault"
@@ -89,7 +95,7 @@ same "$made/covered.txt" "$made/counts.txt" "restart, cover against --all"
 "$program" timeline "$made/restart.img" examples/restart/empty.txt --steps 300 > "$made/timeline.json"
 same "$made/timeline.json" examples/restart/timeline.json "restart, timeline"
 # it is JSON, and the stretches of each task are one behind the other, from turn 0 to the end, with another word each
-for example in one-task client-server blinker driver restart timers watch uart debugger lost-byte; do
+for example in one-task client-server blinker driver restart timers watch uart driven debugger lost-byte; do
     script=$example/script.txt
     [ -e "examples/$script" ] || script=$example/empty.txt
     "$program" timeline "$made/$example.img" "examples/$script" --steps 500 > "$made/timeline.json" || [ $? = 6 ]
@@ -108,7 +114,7 @@ for stretches in lanes.values():
 assert len(ends) == 1, ends' "$made/timeline.json" || { echo "$example: its timeline has gaps"; exit 1; }
 done
 # pictures are XML, each lane's boxes fill its columns, and those of two examples stand beside them
-for example in one-task client-server blinker driver restart timers watch uart debugger lost-byte; do
+for example in one-task client-server blinker driver restart timers watch uart driven debugger lost-byte; do
     script=$example/script.txt
     [ -e "examples/$script" ] || script=$example/empty.txt
     "$program" picture "$made/$example.img" "examples/$script" "$made/picture.svg" --steps 500 --names "examples/$example/app.toml" > "$made/drawn.txt"
@@ -132,7 +138,7 @@ same "$made/picture.svg" examples/uart/picture.svg "uart, picture"
 # instructions as data, as those of from-c do
 "$program" lcov examples/restart/app.toml examples/restart/empty.txt "$made/lcov.info" --steps 300 > "$made/traced.txt"
 same "$made/lcov.info" examples/restart/lcov.info "restart, lcov"
-for example in one-task client-server blinker driver restart timers watch uart debugger lost-byte; do
+for example in one-task client-server blinker driver restart timers watch uart driven debugger lost-byte; do
     script=$example/script.txt
     [ -e "examples/$script" ] || script=$example/empty.txt
     "$program" lcov "examples/$example/app.toml" "examples/$script" "$made/lcov.info" --steps 500 > "$made/traced.txt"
@@ -144,7 +150,7 @@ for example in one-task client-server blinker driver restart timers watch uart d
     cmp -s "$made/c-lines.info" "$made/lcov.info" || { echo "$example: tools/c-lines says otherwise than lcov"; exit 1; }
 done
 # each run holds together, its memory behind it too; a borrow of a call that nobody took does not
-for example in one-task client-server blinker driver restart timers watch uart debugger lost-byte from-c gdb; do
+for example in one-task client-server blinker driver restart timers watch uart driven debugger lost-byte from-c gdb; do
     for text in expected expected-mem; do
         "$program" audit "examples/$example/$text.txt" > "$made/audit.txt"
         grep -q '^yes ' "$made/audit.txt" || { echo "$example, audit of $text: $(cat "$made/audit.txt")"; exit 1; }
