@@ -26,9 +26,9 @@ loop-i-preserved c = record {
       let f : Turn → LineSetup → Turn = driven_by t.state.devices in
       let before = fold f t (take i g.lines) in
       let known : with_any (driven_if c.is_asked.result) (slice_get g.lines i) before ≡ fold f t (take (i + 1) g.lines) =
-          ap (λ b. with_any (driven_if b) (slice_get g.lines i) before) c.is_asked.ensures
-          ∙ asked_any driven_if (is_asked t.state) g.lines c.args.asked.now i before a
-          ∙ fold_any f t g.lines i in
+      ap (λ b. with_any (driven_if b) (slice_get g.lines i) before) c.is_asked.ensures
+      ∙ asked_any driven_if (is_asked t.state) g.lines c.args.asked.now i before a
+      ∙ fold_any f t g.lines i in
       let P : Turn → Type 0 = λ u. Stands g c.drive_at.new.k u in
       subst P known (c.drive_at.ensures.stands g before (c.loop-i.invariant.stands g t h a));
 }
