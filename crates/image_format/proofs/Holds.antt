@@ -24,12 +24,12 @@ use Rattle.image_format.specs.Regions.{clashes, cuts, entries_from, entry_fault,
 use Rattle.region_check.specs.Sizes.{is_size, sizes}
 use Rattle.text_lines.specs.Names.{is_name}
 use Rattle.image_format.specs.Steps.{counted, header_size, highest_line, line_fault, lines_from, lines_place, most_names, names_place, regions_place, task_fault, tasks_from}
-use Rattle.image_format.proofs.Chunks.{blank}
+use Rattle.image_format.proofs.Chunks.{blank, blank_line}
 use Rattle.image_format.proofs.Limits.{holds, limits, lines_64, row_none, tasks_512}
 use Rattle.image_format.proofs.Lookups.{In, in_list, in_own, names_at, names_looked, region_source, regions_looked, task_looked}
 use Rattle.image_format.proofs.Named.{AreNew, are_new, new_apart, new_named}
 use Rattle.image_format.proofs.Passed.{both_none, passed_steps}
-use Rattle.image_format.proofs.Shape.{Every, IsLine, IsRegion, IsTask, counts, equals, every_append, every_region, is_line, is_region, is_task, names_length, nothing_left, rest_counted, rights_cases, tasks_length}
+use Rattle.image_format.proofs.Shape.{Every, IsLine, IsRegion, IsTask, are_lines, counts, each_line, equals, every_append, every_region, is_region, is_task, names_length, nothing_left, rest_counted, rights_cases, tasks_length}
 
 -- ---- tests
 
@@ -339,26 +339,13 @@ has_tasks r a =
 
 -- ---- interrupts
 
-blank_line : LineRecord
-blank_line = record { line = 0; task = 0; device = 0; bits = 0 }
-
-line_steps : (form : ImageForm) (least tasks place : ℕ) (ls : List LineRecord) (k : ℕ) → k < length ls → lines_from form least tasks place ls ≡ None → IsLine form least tasks (get_or ls k blank_line)
-line_steps form least tasks place [] k lt e = absurd (omega (arith, lt))
-line_steps form least tasks place (l ∷ ls) zero lt e =
-    is_line form least tasks l place (both_none (line_fault form least tasks l place) (lines_from form (l.line + 1) tasks (place + 8) ls) e).0
-line_steps form least tasks place (l ∷ ls) (suc k) lt e =
-    let a = both_none (line_fault form least tasks l place) (lines_from form (l.line + 1) tasks (place + 8) ls) e in
-    let here = is_line form least tasks l place a.0 in
-    let next = line_steps form (l.line + 1) tasks (place + 8) ls k (omega (arith, lt)) a.1 in
-    record { most = next.most; least_line = omega (arith, here.least_line, next.least_line); owner = next.owner; device = next.device; bits = next.bits }
-
 line_order : (form : ImageForm) (least tasks place : ℕ) (ls : List LineRecord) (k m : ℕ) → k < m → m < length ls → lines_from form least tasks place ls ≡ None
     → (get_or ls k blank_line).line < (get_or ls m blank_line).line
 line_order form least tasks place [] k m lt in_list e = absurd (omega (arith, in_list))
 line_order form least tasks place (l ∷ ls) k zero lt in_list e = absurd (omega (arith, lt))
 line_order form least tasks place (l ∷ ls) zero (suc m) lt in_list e =
     let a = both_none (line_fault form least tasks l place) (lines_from form (l.line + 1) tasks (place + 8) ls) e in
-    let next = line_steps form (l.line + 1) tasks (place + 8) ls m (omega (arith, in_list)) a.1 in
+    let next = are_lines form (l.line + 1) tasks (place + 8) ls a.1 m blank_line (omega (arith, in_list)) in
     omega (arith, next.least_line)
 line_order form least tasks place (l ∷ ls) (suc k) (suc m) lt in_list e =
     line_order form (l.line + 1) tasks (place + 8) ls k m (omega (arith, lt)) (omega (arith, in_list)) (both_none (line_fault form least tasks l place) (lines_from form (l.line + 1) tasks (place + 8) ls) e).1
@@ -424,7 +411,7 @@ has_lines r a = record {
     look k lt = get_or-map line_of r.lines k blank_line no_line lt
 
     each : (k : ℕ) → k < length r.lines → IsLine r.header.form 0 r.header.tasks (get_or r.lines k blank_line)
-    each k lt = line_steps r.header.form 0 r.header.tasks (lines_place r.header) r.lines k lt step
+    each k lt = each_line r a k blank_line lt
 
     every : Every (IsRegion r.header) r.regions
     every = every_region r.header [] (regions_place r.header) r.tasks r.regions (counts r a) (passed_steps r a.records).regions

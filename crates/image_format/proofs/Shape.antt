@@ -218,13 +218,18 @@ lines_again : (ls : List LineRecord) → map line_record (map line_of ls) ≡ ls
 lines_again [] = refl
 lines_again (l ∷ ls) = ap (λ (xs : List LineRecord). l ∷ xs) (lines_again ls)
 
--- no interrupt has a device above 8
-pub low_devices : (form : ImageForm) (least tasks place : ℕ) (ls : List LineRecord) → lines_from form least tasks place ls ≡ None → All (λ l. l.device ≤ 8) ls
-low_devices form least tasks place [] e k d lt = absurd (omega (arith, lt))
-low_devices form least tasks place (l ∷ ls) e zero d lt =
-    (is_line form least tasks l place (both_none (line_fault form least tasks l place) (lines_from form (l.line + 1) tasks (place + 8) ls) e).0).device
-low_devices form least tasks place (l ∷ ls) e (suc k) d lt =
-    low_devices form (l.line + 1) tasks (place + 8) ls (both_none (line_fault form least tasks l place) (lines_from form (l.line + 1) tasks (place + 8) ls) e).1 k d (omega (arith, lt))
+pub are_lines : (form : ImageForm) (least tasks place : ℕ) (ls : List LineRecord) → lines_from form least tasks place ls ≡ None → All (IsLine form least tasks) ls
+are_lines form least tasks place [] e k d lt = absurd (omega (arith, lt))
+are_lines form least tasks place (l ∷ ls) e zero d lt =
+    is_line form least tasks l place (both_none (line_fault form least tasks l place) (lines_from form (l.line + 1) tasks (place + 8) ls) e).0
+are_lines form least tasks place (l ∷ ls) e (suc k) d lt =
+    let a = both_none (line_fault form least tasks l place) (lines_from form (l.line + 1) tasks (place + 8) ls) e in
+    let here = is_line form least tasks l place a.0 in
+    let next = are_lines form (l.line + 1) tasks (place + 8) ls a.1 k d (omega (arith, lt)) in
+    record { most = next.most; least_line = omega (arith, here.least_line, next.least_line); owner = next.owner; device = next.device; bits = next.bits }
+
+pub each_line : (r : Records) → Accepted r → All (IsLine r.header.form 0 r.header.tasks) r.lines
+each_line r a = are_lines r.header.form 0 r.header.tasks (lines_place r.header) r.lines (passed_steps r a.records).lines
 
 -- ---- the whole
 
