@@ -1,6 +1,4 @@
-use Rattle.std.proofs.Common.{◌≡◌, ◌∙◌, ◌+◌, ◌-◌, ◌<◌, ℕ, List, length, drop, take, map, arith, ap, sym}
-use Rattle.image_format.specs.declared.records.TaskRecord.{TaskRecord}
-use Rattle.image_format.specs.declared.records.RegionRecord.{RegionRecord}
+use Rattle.std.proofs.Common.{◌≡◌, ◌∙◌, ◌+◌, ◌-◌, ℕ, drop, take, arith, ap, sym}
 use Rattle.image_format.specs.Steps.{counted}
 use Rattle.image_format.proofs.Chunks.{blank}
 use Rattle.image_format.proofs.Lookups.{own_sliced}

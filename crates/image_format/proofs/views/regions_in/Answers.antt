@@ -1,4 +1,4 @@
-use Rattle.std.proofs.Common.{◌≡◌, ◌∙◌, ◌<◌, List, length, map, arith, ap, ap₂, sym}
+use Rattle.std.proofs.Common.{◌∙◌, List, length, map, arith, ap, ap₂, sym}
 use Rattle.image_format.specs.declared.records.RegionRecord.{RegionRecord}
 use Rattle.image_format.specs.declared.records.TaskRecord.{TaskRecord}
 use Rattle.image_format.specs.ImageData.{region_of}
