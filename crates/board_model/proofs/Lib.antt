@@ -53,3 +53,4 @@ pub mod Laid
 pub mod SameScripts
 pub mod Forks
 pub mod SameTurn
+pub mod Answered
