@@ -1,18 +1,19 @@
 -- Where no enabled line is asked for, and what keeps it so.
-use Rattle.std.proofs.Common.{◌≡◌, ◌&&◌, ℕ, zero, suc, Bool, true, false, cond, List, [], ◌∷◌, length, Option, Some, None, refl, sym, ◌∙◌, ap, arith, get_or, set}
+use Rattle.std.proofs.Common.{◌≡◌, ◌&&◌, ◌⊎◌, inl, inr, subst, ℕ, zero, suc, Bool, true, false, cond, List, [], ◌∷◌, length, Option, Some, None, refl, sym, ◌∙◌, ap, arith, get_or, set}
 use Rattle.std.specs.Prelude.{Contains, fold}
 use Rattle.std.proofs.lemmas.Bool.{false≢true}
 use Rattle.kernel_abi.specs.Devices.{DeviceData}
-use Rattle.kernel_abi.specs.declared.Handled.TheVariants.{Posted, Held}
+use Rattle.kernel_abi.specs.declared.Handled.TheVariants.{Posted, Held, Unowned}
 use Rattle.kernel_abi.specs.declared.Note.TheVariants as note
 use Rattle.task_table.specs.declared.Line.{Line}
 use Rattle.task_table.specs.model.State.{Setup, LineSetup, State, Turn}
 use Rattle.task_table.specs.model.Asking.{asks_at, is_asked}
-use Rattle.task_table.specs.model.Reading.{line_at, no_line, line_off}
+use Rattle.task_table.specs.model.Reading.{line_at, no_line, line_off, line_on}
 use Rattle.task_table.specs.model.Effects.{noted, posted, with_line}
-use Rattle.task_table.specs.model.Events.{interrupted_by, driven_by, driven}
+use Rattle.task_table.specs.model.Events.{owner_of, interrupted_by, interrupted, driven_by, driven}
 use Rattle.task_table.proofs.model.Outside.{aside-driven}
 use Rattle.board_model.specs.Asked.{AreAnswered}
+use Rattle.board_model.proofs.LinesKept.{HasLines, has-posted}
 
 -- ## lines that devices drive
 
@@ -40,3 +41,127 @@ all_unasked ds (o ∷ lines) t h =
 pub driven_unasked : (g : Setup) (t : Turn) → AreAnswered g t.state → driven g t ≡ t
 unfolding driven
 driven_unasked g t h = all_unasked t.state.devices g.lines t h
+
+-- ## lines, one by one
+
+-- a line that is turned off, with or without an interrupt pending, enables none, and is off
+off_enables : (ls : List Line) (k j : ℕ) (p : Bool) → (get_or (set ls k (line_off p)) j no_line).enabled ≡ true → (get_or ls j no_line).enabled ≡ true
+off_enables [] k j p on = on
+off_enables (l ∷ ls) zero zero p on = absurd (false≢true on)
+off_enables (l ∷ ls) zero (suc j) p on = on
+off_enables (l ∷ ls) (suc k) zero p on = on
+off_enables (l ∷ ls) (suc k) (suc j) p on = off_enables ls k j p on
+
+off_here : (ls : List Line) (k : ℕ) (p : Bool) → (get_or (set ls k (line_off p)) k no_line).enabled ≡ false
+off_here [] k p = refl
+off_here (l ∷ ls) zero p = refl
+off_here (l ∷ ls) (suc k) p = off_here ls k p
+
+on_enables : (ls : List Line) (k j : ℕ) → (get_or (set ls k line_on) j no_line).enabled ≡ true → (j ≡ k) ⊎ ((get_or ls j no_line).enabled ≡ true)
+on_enables [] k j on = inr on
+on_enables (l ∷ ls) zero zero on = inl refl
+on_enables (l ∷ ls) zero (suc j) on = inr on
+on_enables (l ∷ ls) (suc k) zero on = inr on
+on_enables (l ∷ ls) (suc k) (suc j) on = elim (on_enables ls k j on) [ inl same ↦ inl (ap suc same) | inr old ↦ inr old ]
+
+-- each line that is enabled was so before
+pub record EnablesNone (s u : State) : Type 0 where
+  pub enabled : (k : ℕ) → (line_at u k).enabled ≡ true → (line_at s k).enabled ≡ true
+
+none_here : (s : State) → EnablesNone s s
+none_here s = record { enabled = λ k on. on }
+
+none_then : (s u v : State) → EnablesNone s u → EnablesNone u v → EnablesNone s v
+none_then s u v a b = record { enabled = λ k on. a.enabled k (b.enabled k on) }
+
+none_same : (s u : State) → u.lines ≡ s.lines → EnablesNone s u
+unfolding line_at
+none_same s u e = record { enabled = λ k on. ap (λ (ls : List Line). (get_or ls k no_line).enabled) (sym e) ∙ on }
+
+none_by : (s u : State) (k : ℕ) (p : Bool) → u.lines ≡ set s.lines k (line_off p) → EnablesNone s u
+unfolding line_at
+none_by s u k p e = record { enabled = λ j on. off_enables s.lines k j p (ap (λ (ls : List Line). (get_or ls j no_line).enabled) (sym e) ∙ on) }
+
+off_by : (s u : State) (k : ℕ) (p : Bool) → u.lines ≡ set s.lines k (line_off p) → (line_at u k).enabled ≡ false
+unfolding line_at
+off_by s u k p e = ap (λ (ls : List Line). (get_or ls k no_line).enabled) e ∙ off_here s.lines k p
+
+pub answered_by : (g : Setup) (s u : State) → EnablesNone s u → u.devices ≡ s.devices → AreAnswered g s → AreAnswered g u
+answered_by g s u none same h = λ o here on. ap (λ (ds : List DeviceData). asks_at ds o.device) same ∙ h o here (none.enabled o.line on)
+
+-- ## an interrupt
+
+-- it posts, or it is held
+posts_lines : (k owner bits : ℕ) (t : Turn) → (posted owner bits (with_line k (line_off false) (noted (note.Irq k Posted) t))).state.lines ≡ set t.state.lines k (line_off false)
+unfolding with_line noted
+posts_lines k owner bits t =
+    let off = with_line k (line_off false) (noted (note.Irq k Posted) t) in
+    let here : HasLines off.state.lines off = record { lines = refl } in
+    (has-posted owner bits here).lines
+
+held_lines : (k : ℕ) (t : Turn) → (with_line k (line_off true) (noted (note.Irq k Held) t)).state.lines ≡ set t.state.lines k (line_off true)
+unfolding with_line noted
+held_lines k t = refl
+
+unowned_lines : (k : ℕ) (t : Turn) → (noted (note.Irq k Unowned) t).state.lines ≡ t.state.lines
+unfolding noted
+unowned_lines k t = refl
+
+none_interrupted : (g : Setup) (k : ℕ) (t : Turn) → EnablesNone t.state (interrupted g k t).state
+unfolding interrupted
+none_interrupted g k t = by_owner (owner_of g k)
+  where
+    by_owner : (o : Option LineSetup) → EnablesNone t.state (interrupted_by k o t).state
+    by_owner None = none_same t.state _ (unowned_lines k t)
+    by_owner (Some o) = by_line (line_at t.state k).enabled
+      where
+        by_line : (b : Bool) → EnablesNone t.state (cond b (posted o.owner o.bits (with_line k (line_off false) (noted (note.Irq k Posted) t))) (with_line k (line_off true) (noted (note.Irq k Held) t))).state
+        by_line true = none_by t.state _ k false (posts_lines k o.owner o.bits t)
+        by_line false = none_by t.state _ k true (held_lines k t)
+
+-- a line that is driven is off then, or its device does not ask
+record IsDriven (ds : List DeviceData) (o : LineSetup) (t u : Turn) : Type 0 where
+  none : EnablesNone t.state u.state
+  unasked : (line_at u.state o.line).enabled ≡ true → asks_at ds o.device ≡ false
+
+drives_one : (ds : List DeviceData) (o : LineSetup) (t : Turn) → IsDriven ds o t (driven_by ds t o)
+drives_one ds o t = by_tests (line_at t.state o.line).enabled (asks_at ds o.device) refl refl
+  where
+    posts : Turn
+    posts = posted o.owner o.bits (with_line o.line (line_off false) (noted (note.Irq o.line Posted) t))
+
+    held : Turn
+    held = with_line o.line (line_off true) (noted (note.Irq o.line Held) t)
+
+    lines : posts.state.lines ≡ set t.state.lines o.line (line_off false)
+    lines = posts_lines o.line o.owner o.bits t
+
+    by_tests : (e a : Bool) → (line_at t.state o.line).enabled ≡ e → asks_at ds o.device ≡ a → IsDriven ds o t (cond (e && a) (cond e posts held) t)
+    by_tests true true is asked = record {
+      none = none_by t.state posts.state o.line false lines;
+      unasked = λ on. absurd (false≢true (sym (off_by t.state posts.state o.line false lines) ∙ on));
+    }
+    by_tests true false is asked = record { none = none_here t.state; unasked = λ on. asked }
+    by_tests false a is asked = record { none = none_here t.state; unasked = λ on. absurd (false≢true (sym is ∙ on)) }
+
+drives_all : (ds : List DeviceData) (lines : List LineSetup) (t : Turn) → EnablesNone t.state (fold (driven_by ds) t lines).state × AreUnasked ds lines (fold (driven_by ds) t lines).state
+drives_all ds [] t = (none_here t.state, λ o here. absurd (omega (arith, here.1)))
+drives_all ds (o ∷ lines) t =
+    let u = driven_by ds t o in
+    let one = drives_one ds o t in
+    let rest = drives_all ds lines u in
+    (none_then t.state u.state _ one.none rest.0, by_place one rest)
+  where
+    v : Turn
+    v = fold (driven_by ds) (driven_by ds t o) lines
+
+    by_place : IsDriven ds o t (driven_by ds t o) → EnablesNone (driven_by ds t o).state v.state × AreUnasked ds lines v.state → AreUnasked ds (o ∷ lines) v.state
+    by_place one rest p (zero, lt, same) =
+        let is : o ≡ p = same in
+        subst (λ (q : LineSetup). (line_at v.state q.line).enabled ≡ true → asks_at ds q.device ≡ false) is (λ on. one.unasked (rest.0.enabled o.line on))
+    by_place one rest p (suc i, lt, same) = rest.1 p (i, omega (arith, lt), same)
+
+-- so no enabled line is asked for then, whatever the state was
+pub driven_answers : (g : Setup) (t : Turn) → AreAnswered g (driven g t).state
+unfolding driven
+driven_answers g t = λ o here on. ap (λ (ds : List DeviceData). asks_at ds o.device) (aside-driven g t).devices ∙ (drives_all t.state.devices g.lines t).1 o here on

@@ -53,4 +53,5 @@ pub mod Laid
 pub mod SameScripts
 pub mod Forks
 pub mod SameTurn
+pub mod LinesKept
 pub mod Answered
