@@ -1,19 +1,25 @@
--- Where no enabled line is asked for, and what keeps it so.
-use Rattle.std.proofs.Common.{◌≡◌, ◌&&◌, ◌⊎◌, inl, inr, subst, ℕ, zero, suc, Bool, true, false, cond, List, [], ◌∷◌, length, Option, Some, None, refl, sym, ◌∙◌, ap, arith, get_or, set}
+-- Behind the events of a turn no enabled line is asked for, if none was before.
+use Rattle.std.proofs.Common.{◌≡◌, ◌%◌, ◌&&◌, ◌⊎◌, inl, inr, subst, ℕ, zero, suc, Bool, true, false, cond, List, [], ◌∷◌, length, Option, Some, None, refl, sym, ◌∙◌, ap, arith, get_or, set}
 use Rattle.std.specs.Prelude.{Contains, fold}
 use Rattle.std.proofs.lemmas.Bool.{false≢true}
 use Rattle.kernel_abi.specs.Devices.{DeviceData}
 use Rattle.kernel_abi.specs.declared.Handled.TheVariants.{Posted, Held, Unowned}
 use Rattle.kernel_abi.specs.declared.Note.TheVariants as note
+use Rattle.run_script.specs.declared.events.Event.{Event}
+use Rattle.run_script.specs.declared.events.Event.TheVariants.{Tick, Irq, Feed}
+use Rattle.run_script.specs.Scripts.{events_of}
 use Rattle.task_table.specs.declared.Line.{Line}
 use Rattle.task_table.specs.model.State.{Setup, LineSetup, State, Turn}
 use Rattle.task_table.specs.model.Asking.{asks_at, is_asked}
 use Rattle.task_table.specs.model.Reading.{line_at, no_line, line_off, line_on}
 use Rattle.task_table.specs.model.Effects.{noted, posted, with_line}
-use Rattle.task_table.specs.model.Events.{owner_of, interrupted_by, interrupted, driven_by, driven}
-use Rattle.task_table.proofs.model.Outside.{aside-driven}
+use Rattle.task_table.specs.model.Events.{ticked, owner_of, interrupted_by, interrupted, fed, driven_by, driven}
+use Rattle.task_table.specs.model.Start.{begun}
+use Rattle.task_table.proofs.model.Outside.{devices-ticked, aside-interrupted, aside-driven}
+use Rattle.board_model.specs.Script.{Scenario}
+use Rattle.board_model.specs.Turn.{happened, after_events}
 use Rattle.board_model.specs.Asked.{AreAnswered}
-use Rattle.board_model.proofs.LinesKept.{HasLines, has-posted}
+use Rattle.board_model.proofs.LinesKept.{HasLines, has-posted, has-ticked}
 
 -- ## lines that devices drive
 
@@ -57,7 +63,7 @@ off_here [] k p = refl
 off_here (l ∷ ls) zero p = refl
 off_here (l ∷ ls) (suc k) p = off_here ls k p
 
-on_enables : (ls : List Line) (k j : ℕ) → (get_or (set ls k line_on) j no_line).enabled ≡ true → (j ≡ k) ⊎ ((get_or ls j no_line).enabled ≡ true)
+pub on_enables : (ls : List Line) (k j : ℕ) → (get_or (set ls k line_on) j no_line).enabled ≡ true → (j ≡ k) ⊎ ((get_or ls j no_line).enabled ≡ true)
 on_enables [] k j on = inr on
 on_enables (l ∷ ls) zero zero on = inl refl
 on_enables (l ∷ ls) zero (suc j) on = inr on
@@ -68,17 +74,17 @@ on_enables (l ∷ ls) (suc k) (suc j) on = elim (on_enables ls k j on) [ inl sam
 pub record EnablesNone (s u : State) : Type 0 where
   pub enabled : (k : ℕ) → (line_at u k).enabled ≡ true → (line_at s k).enabled ≡ true
 
-none_here : (s : State) → EnablesNone s s
+pub none_here : (s : State) → EnablesNone s s
 none_here s = record { enabled = λ k on. on }
 
 none_then : (s u v : State) → EnablesNone s u → EnablesNone u v → EnablesNone s v
 none_then s u v a b = record { enabled = λ k on. a.enabled k (b.enabled k on) }
 
-none_same : (s u : State) → u.lines ≡ s.lines → EnablesNone s u
+pub none_same : (s u : State) → u.lines ≡ s.lines → EnablesNone s u
 unfolding line_at
 none_same s u e = record { enabled = λ k on. ap (λ (ls : List Line). (get_or ls k no_line).enabled) (sym e) ∙ on }
 
-none_by : (s u : State) (k : ℕ) (p : Bool) → u.lines ≡ set s.lines k (line_off p) → EnablesNone s u
+pub none_by : (s u : State) (k : ℕ) (p : Bool) → u.lines ≡ set s.lines k (line_off p) → EnablesNone s u
 unfolding line_at
 none_by s u k p e = record { enabled = λ j on. off_enables s.lines k j p (ap (λ (ls : List Line). (get_or ls j no_line).enabled) (sym e) ∙ on) }
 
@@ -86,7 +92,7 @@ off_by : (s u : State) (k : ℕ) (p : Bool) → u.lines ≡ set s.lines k (line_
 unfolding line_at
 off_by s u k p e = ap (λ (ls : List Line). (get_or ls k no_line).enabled) e ∙ off_here s.lines k p
 
-pub answered_by : (g : Setup) (s u : State) → EnablesNone s u → u.devices ≡ s.devices → AreAnswered g s → AreAnswered g u
+answered_by : (g : Setup) (s u : State) → EnablesNone s u → u.devices ≡ s.devices → AreAnswered g s → AreAnswered g u
 answered_by g s u none same h = λ o here on. ap (λ (ds : List DeviceData). asks_at ds o.device) same ∙ h o here (none.enabled o.line on)
 
 -- ## an interrupt
@@ -165,3 +171,24 @@ drives_all ds (o ∷ lines) t =
 pub driven_answers : (g : Setup) (t : Turn) → AreAnswered g (driven g t).state
 unfolding driven
 driven_answers g t = λ o here on. ap (λ (ds : List DeviceData). asks_at ds o.device) (aside-driven g t).devices ∙ (drives_all t.state.devices g.lines t).1 o here on
+
+-- ## events
+
+answered-happened : (g : Setup) (t : Turn) (e : Event) → AreAnswered g t.state → AreAnswered g (happened g t e).state
+answered-happened g t Tick h =
+    let here : HasLines t.state.lines t = record { lines = refl } in
+    answered_by g t.state (ticked t).state (none_same t.state _ (has-ticked t here).lines) (devices-ticked t) h
+answered-happened g t (Irq line) h = answered_by g t.state (interrupted g line t).state (none_interrupted g line t) (aside-interrupted g line t).devices h
+answered-happened g t (Feed device byte) h = driven_answers g (fed device (byte % 256) t)
+
+answered-events : (g : Setup) (events : List Event) (t : Turn) → AreAnswered g t.state → AreAnswered g (fold (happened g) t events).state
+answered-events g [] t h = h
+answered-events g (e ∷ events) t h = answered-events g events (happened g t e) (answered-happened g t e h)
+
+answered-begun : (g : Setup) (s : State) → AreAnswered g s → AreAnswered g (begun s).state
+unfolding begun
+answered-begun g s h = h
+
+pub answered-after_events : (x : Scenario) (s : State) → AreAnswered x.setup s → AreAnswered x.setup (after_events x s).state
+unfolding after_events
+answered-after_events x s h = answered-events x.setup (events_of x.script s.turn) (begun s) (answered-begun x.setup s h)

@@ -55,3 +55,6 @@ pub mod Forks
 pub mod SameTurn
 pub mod LinesKept
 pub mod Answered
+pub mod Enabling
+pub mod AskingLess
+pub mod AnsweredTurns

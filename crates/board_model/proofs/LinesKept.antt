@@ -116,6 +116,9 @@ has-returned : {ls : List Line} (i : ℕ) {t : Turn} → HasLines ls t → HasLi
 unfolding returned noted
 has-returned i h = record { lines = h.lines }
 
+pub has-goes_on : {ls : List Line} (c : ℕ) {t : Turn} → HasLines ls t → HasLines ls (goes_on c t)
+has-goes_on c h = has-returned c (has-past_syscall c h)
+
 has-added : {ls : List Line} (i bits : ℕ) {t : Turn} → HasLines ls t → HasLines ls (bits_added i bits t)
 unfolding bits_added noted with_task
 has-added i bits h = record { lines = h.lines }
