@@ -1,5 +1,5 @@
 -- Behind the events of a turn no enabled line is asked for, if none was before.
-use Rattle.std.proofs.Common.{◌≡◌, ◌%◌, ◌&&◌, ◌⊎◌, inl, inr, subst, ℕ, zero, suc, Bool, true, false, cond, List, [], ◌∷◌, length, Option, Some, None, refl, sym, ◌∙◌, ap, arith, get_or, set}
+use Rattle.std.proofs.Common.{◌≡◌, ◌%◌, ◌&&◌, ◌⊎◌, inl, inr, subst, ℕ, zero, suc, Bool, true, false, cond, List, [], ◌∷◌, Option, Some, None, refl, sym, ◌∙◌, ap, arith, get_or, set}
 use Rattle.std.specs.Prelude.{Contains, fold}
 use Rattle.std.proofs.lemmas.Bool.{false≢true}
 use Rattle.kernel_abi.specs.Devices.{DeviceData}
@@ -10,7 +10,7 @@ use Rattle.run_script.specs.declared.events.Event.TheVariants.{Tick, Irq, Feed}
 use Rattle.run_script.specs.Scripts.{events_of}
 use Rattle.task_table.specs.declared.Line.{Line}
 use Rattle.task_table.specs.model.State.{Setup, LineSetup, State, Turn}
-use Rattle.task_table.specs.model.Asking.{asks_at, is_asked}
+use Rattle.task_table.specs.model.Asking.{asks_at}
 use Rattle.task_table.specs.model.Reading.{line_at, no_line, line_off, line_on}
 use Rattle.task_table.specs.model.Effects.{noted, posted, with_line}
 use Rattle.task_table.specs.model.Events.{ticked, owner_of, interrupted_by, interrupted, fed, driven_by, driven}

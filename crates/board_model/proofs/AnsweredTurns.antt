@@ -1,5 +1,5 @@
 -- Between the turns of a run no enabled line is asked for.
-use Rattle.std.proofs.Common.{◌≡◌, ◌<◌, ◌⊎◌, inl, inr, ℕ, zero, suc, Bool, true, false, List, [], ◌∷◌, length, Option, Some, None, refl, sym, ◌∙◌, ap, arith, get_or, subst}
+use Rattle.std.proofs.Common.{◌≡◌, ◌<◌, inl, inr, ℕ, zero, suc, true, false, List, length, Option, Some, None, refl, sym, ◌∙◌, ap, arith, get_or, subst}
 use Rattle.std.specs.Prelude.{Contains, replicate}
 use Rattle.std.proofs.lemmas.Bool.{false≢true}
 use Rattle.std.proofs.lemmas.List.{get_or_default}
@@ -14,7 +14,7 @@ use Rattle.task_table.specs.model.Sane.{Sane}
 use Rattle.board_model.specs.declared.outcomes.Level.{Level}
 use Rattle.board_model.specs.Script.{Scenario, start_of}
 use Rattle.board_model.specs.Asked.{AreAscending, AreAnswered}
-use Rattle.board_model.specs.Turn.{noted_at, after_events, with_current, stepped, with_registers_noted, turn_of, ended, turn}
+use Rattle.board_model.specs.Turn.{after_events, with_current, stepped, turn_of, ended, turn}
 use Rattle.board_model.specs.Run.{state_after}
 use Rattle.board_model.proofs.Answered.{none_same, answered-after_events}
 use Rattle.board_model.proofs.AskingLess.{AsksLess, reached_less}

@@ -1,5 +1,5 @@
 -- An instruction enables a line only where its device does not ask.
-use Rattle.std.proofs.Common.{◌≡◌, ◌&&◌, ◌||◌, ◌⊎◌, inl, inr, subst, ℕ, zero, suc, Bool, true, false, cond, not, List, [], ◌∷◌, length, refl, sym, ◌∙◌, ap, arith, eqb, get_or, set}
+use Rattle.std.proofs.Common.{◌≡◌, ◌||◌, ◌⊎◌, inl, inr, subst, ℕ, zero, suc, Bool, true, false, cond, not, List, [], ◌∷◌, refl, sym, ◌∙◌, ap, arith, eqb, get_or, set}
 use Rattle.std.specs.Prelude.{Contains, fold, filter, Result, Ok, Err}
 use Rattle.std.specs.List.{list_any}
 use Rattle.kernel_abi.specs.Arguments.{irq_args}

@@ -1,5 +1,5 @@
 -- Faults, restarts, ticks and system calls other than IRQ_CONTROL leave all lines as they are.
-use Rattle.std.proofs.Common.{◌≡◌, ◌⊎◌, inl, inr, ℕ, Bool, true, false, cond, List, [], ◌∷◌, length, Option, Some, None, refl, ap, eqb, leb, bit_and, not, ◌||◌, is_some, IfSome}
+use Rattle.std.proofs.Common.{◌≡◌, ◌⊎◌, inl, inr, ℕ, Bool, true, false, cond, List, [], ◌∷◌, length, Option, Some, None, refl, eqb, leb, bit_and, not, ◌||◌, is_some, IfSome}
 use Rattle.std.specs.Prelude.{fold}
 use Rattle.std.specs.List.{range_with_len}
 use Rattle.kernel_abi.specs.declared.Borrow.{Borrow}
@@ -24,14 +24,14 @@ use Rattle.region_check.specs.declared.Right.TheVariants.{Read as ToRead}
 use Rattle.words_core.specs.declared.Flags.{Flags}
 use Rattle.task_table.specs.declared.Line.{Line}
 use Rattle.task_table.specs.declared.slot.Slice.{Slice}
-use Rattle.task_table.specs.model.State.{Setup, Call, Listen, From, Ground, Own, Read, Turn}
+use Rattle.task_table.specs.model.State.{Setup, Call, Listen, From, Ground, Read, Turn}
 use Rattle.task_table.specs.model.Reading.{task_at, listen_of, call_of, arguments, is_valid, bad_byte, best_sender}
 use Rattle.task_table.specs.model.Effects.{with_task, without_call, without_listen, with_listen, with_taken, with_call, changed, noted, with_processor, with_health, stored, copied, looked, given, returned, past_syscall, bits_added, bits_cleared, woken_by, woken, posted, with_timer, clocked, closed, faulted_as, offered, handed, reborn, is_to, awaits, dead_answered, restarted}
 use Rattle.task_table.specs.model.Events.{expired_by, expired, ticked}
-use Rattle.task_table.specs.model.Rows.{goes_on, goes_on_with, panicked, timer_set, timer_answered, irq_controlled, irq_answered, listens, receives, receives_or_listens, takes_bits, received, syscall_noted}
-use Rattle.task_table.specs.model.Sends.{message_of, reply_room, taken_at_once, offers_call, sends, sent, answers, replied_to, replied, reply_faulted_to, reply_faulted, post_made, refreshed}
-use Rattle.task_table.specs.model.Borrows.{Way, reading, writing, moved, refused, lent, buffered, granted, borrowed_by, borrowed, uninformed, grant_answered, informed_by, informed}
-use Rattle.task_table.specs.model.Requests.{Request, status_bytes, injected_by, injected, requests, request_of, served, requested}
+use Rattle.task_table.specs.model.Rows.{goes_on, panicked, timer_set, timer_answered, irq_controlled, irq_answered, receives_or_listens, received}
+use Rattle.task_table.specs.model.Sends.{message_of, reply_room, taken_at_once, sent, replied_to, replied, reply_faulted_to, reply_faulted, post_made, refreshed}
+use Rattle.task_table.specs.model.Borrows.{Way, reading, writing, moved, borrowed_by, borrowed, informed_by, informed}
+use Rattle.task_table.specs.model.Requests.{Request, injected_by, injected, requests, request_of, served, requested}
 use Rattle.task_table.specs.model.Syscalls.{Meaning, is_to_kernel, syscalls}
 use Rattle.task_table.proofs.model.Meanings.{EachMeaning}
 use Rattle.task_table.proofs.model.RequestChains.{each_found}
