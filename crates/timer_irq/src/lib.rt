@@ -4,7 +4,7 @@
 //! timers, interrupts; docs/FORMATS.md, Script, Devices, System calls).
 //!
 //! Each event and each system call needs room for `SYSCALL_NOTES` notes, and makes at most that
-//! many; the lines that devices drive, for three a line.
+//! many. Driving the lines of devices makes at most three a line.
 
 mod asking;
 mod controlling;

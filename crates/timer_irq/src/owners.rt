@@ -41,14 +41,11 @@ pub(crate) fn owner_at(k: &Kernel, i: usize) -> Option<LineStart>
     item(k.owners(), i)
 }
 
-/// Whether the device of the i-th line asks for an interrupt; no device drives a line past the last.
+/// Whether the device of the i-th line asks for an interrupt; past the last line none does.
 pub(crate) fn is_asked(asked: &[bool], i: usize) -> bool
     ensures { result ≡ slice_index_or asked.now i false }
 {
-    match asked.get(i) {
-        Some(asks) => *asks,
-        None => false,
-    }
+    asked.get(i).copied().unwrap_or(false)
 }
 
 /// The state of a line; a line that does not exist counts as disabled, with nothing pending.

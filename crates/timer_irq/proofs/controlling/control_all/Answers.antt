@@ -25,9 +25,9 @@ loop-i-preserved c = record {
       let next : Bool → Turn → LineSetup → Turn = λ b u o. cond (p o) (f b u o) u in
       let before = fold own t (filter p (take i g.lines)) in
       let known : with_any (next c.is_asked.result) (slice_get g.lines i) before ≡ fold own t (filter p (take (i + 1) g.lines)) =
-          ap (λ b. with_any (next b) (slice_get g.lines i) before) c.is_asked.ensures
-          ∙ asked_any next (is_asked t.state) g.lines c.args.asked.now i before a
-          ∙ fold_next own p t g.lines i in
+      ap (λ b. with_any (next b) (slice_get g.lines i) before) c.is_asked.ensures
+      ∙ asked_any next (is_asked t.state) g.lines c.args.asked.now i before a
+      ∙ fold_next own p t g.lines i in
       let P : Turn → Type 0 = λ u. Holds g c.control_at.new.k u in
       subst P known (c.control_at.ensures.holds g before (c.loop-i.invariant.holds g t h a));
 }
