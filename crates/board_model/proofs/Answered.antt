@@ -1,20 +1,24 @@
 -- Behind the events of a turn no enabled line is asked for, if none was before.
-use Rattle.std.proofs.Common.{◌≡◌, ◌%◌, ◌&&◌, ◌⊎◌, inl, inr, subst, ℕ, zero, suc, Bool, true, false, cond, List, [], ◌∷◌, Option, Some, None, refl, sym, ◌∙◌, ap, arith, get_or, set}
+use Rattle.std.proofs.Common.{◌≡◌, ◌≢◌, ◌%◌, ◌&&◌, ◌⊎◌, inl, inr, subst, ℕ, zero, suc, Bool, true, false, cond, List, [], ◌∷◌, ◌++◌, Option, Some, None, refl, sym, ◌∙◌, ap, arith, get_or, set, get_or-set_other}
 use Rattle.std.specs.Prelude.{Contains, fold}
 use Rattle.std.proofs.lemmas.Bool.{false≢true}
+use Rattle.std.proofs.lemmas.Bool.Decides.{eqb_tells}
+use Rattle.std.proofs.lemmas.List.Elements.{Contains-append_left, Contains-push}
 use Rattle.kernel_abi.specs.Devices.{DeviceData}
 use Rattle.kernel_abi.specs.declared.Handled.TheVariants.{Posted, Held, Unowned}
+use Rattle.kernel_abi.specs.declared.Note.{Note}
 use Rattle.kernel_abi.specs.declared.Note.TheVariants as note
 use Rattle.run_script.specs.declared.events.Event.{Event}
 use Rattle.run_script.specs.declared.events.Event.TheVariants.{Tick, Irq, Feed}
 use Rattle.run_script.specs.Scripts.{events_of}
 use Rattle.task_table.specs.declared.Line.{Line}
 use Rattle.task_table.specs.model.State.{Setup, LineSetup, State, Turn}
-use Rattle.task_table.specs.model.Asking.{asks_at}
+use Rattle.task_table.specs.model.Asking.{asks_at, is_asked}
 use Rattle.task_table.specs.model.Reading.{line_at, no_line, line_off, line_on}
-use Rattle.task_table.specs.model.Effects.{noted, posted, with_line}
+use Rattle.task_table.specs.model.Effects.{noted, posted, with_line, with_devices}
 use Rattle.task_table.specs.model.Events.{ticked, owner_of, interrupted_by, interrupted, fed, driven_by, driven}
 use Rattle.task_table.specs.model.Start.{begun}
+use Rattle.task_table.proofs.model.Moves.{aside-posted}
 use Rattle.task_table.proofs.model.Outside.{devices-ticked, aside-interrupted, aside-driven}
 use Rattle.board_model.specs.Script.{Scenario}
 use Rattle.board_model.specs.Turn.{happened, after_events}
@@ -92,6 +96,11 @@ off_by : (s u : State) (k : ℕ) (p : Bool) → u.lines ≡ set s.lines k (line_
 unfolding line_at
 off_by s u k p e = ap (λ (ls : List Line). (get_or ls k no_line).enabled) e ∙ off_here s.lines k p
 
+other_by : (s u : State) (k j : ℕ) (p : Bool) → u.lines ≡ set s.lines k (line_off p) → j ≢ k → (line_at s j).enabled ≡ true → (line_at u j).enabled ≡ true
+unfolding line_at
+other_by s u k j p e apart on =
+    ap (λ (ls : List Line). (get_or ls j no_line).enabled) e ∙ ap (λ (l : Line). l.enabled) (get_or-set_other s.lines k j (line_off p) no_line apart) ∙ on
+
 answered_by : (g : Setup) (s u : State) → EnablesNone s u → u.devices ≡ s.devices → AreAnswered g s → AreAnswered g u
 answered_by g s u none same h = λ o here on. ap (λ (ds : List DeviceData). asks_at ds o.device) same ∙ h o here (none.enabled o.line on)
 
@@ -104,6 +113,18 @@ posts_lines k owner bits t =
     let off = with_line k (line_off false) (noted (note.Irq k Posted) t) in
     let here : HasLines off.state.lines off = record { lines = refl } in
     (has-posted owner bits here).lines
+
+-- what was noted stays, and that it posts is noted
+posts_notes : (k owner bits : ℕ) (t : Turn) → let u = posted owner bits (with_line k (line_off false) (noted (note.Irq k Posted) t)) in
+    ((n : Note) → Contains t.notes n → Contains u.notes n) × Contains u.notes (note.Irq k Posted)
+unfolding with_line noted
+posts_notes k owner bits t =
+    let off = with_line k (line_off false) (noted (note.Irq k Posted) t) in
+    let aside = (aside-posted owner bits off).outside in
+    let irq = note.Irq k Posted in
+    let later : (n : Note) → Contains (t.notes ++ irq ∷ []) n → Contains (posted owner bits off).notes n =
+    λ n here. subst (λ (ns : List Note). Contains ns n) (sym aside.notes) (Contains-append_left (t.notes ++ irq ∷ []) aside.new n here) in
+    (λ n here. later n (Contains-append_left t.notes (irq ∷ []) n here), later irq (Contains-push t.notes irq))
 
 held_lines : (k : ℕ) (t : Turn) → (with_line k (line_off true) (noted (note.Irq k Held) t)).state.lines ≡ set t.state.lines k (line_off true)
 unfolding with_line noted
@@ -125,10 +146,14 @@ none_interrupted g k t = by_owner (owner_of g k)
         by_line true = none_by t.state _ k false (posts_lines k o.owner o.bits t)
         by_line false = none_by t.state _ k true (held_lines k t)
 
--- a line that is driven is off then, or its device does not ask
+-- Line o is off after it was driven, or its device does not ask. If it was on and its device asks, it has posted. Each
+-- other line that was on still is, or it has posted too.
 record IsDriven (ds : List DeviceData) (o : LineSetup) (t u : Turn) : Type 0 where
   none : EnablesNone t.state u.state
   unasked : (line_at u.state o.line).enabled ≡ true → asks_at ds o.device ≡ false
+  notes : (n : Note) → Contains t.notes n → Contains u.notes n
+  posted : (line_at t.state o.line).enabled ≡ true → asks_at ds o.device ≡ true → Contains u.notes (note.Irq o.line Posted)
+  others : (k : ℕ) → (line_at t.state k).enabled ≡ true → ((line_at u.state k).enabled ≡ true) ⊎ Contains u.notes (note.Irq k Posted)
 
 drives_one : (ds : List DeviceData) (o : LineSetup) (t : Turn) → IsDriven ds o t (driven_by ds t o)
 drives_one ds o t = by_tests (line_at t.state o.line).enabled (asks_at ds o.device) refl refl
@@ -143,12 +168,17 @@ drives_one ds o t = by_tests (line_at t.state o.line).enabled (asks_at ds o.devi
     lines = posts_lines o.line o.owner o.bits t
 
     by_tests : (e a : Bool) → (line_at t.state o.line).enabled ≡ e → asks_at ds o.device ≡ a → IsDriven ds o t (cond (e && a) (cond e posts held) t)
-    by_tests true true is asked = record {
-      none = none_by t.state posts.state o.line false lines;
-      unasked = λ on. absurd (false≢true (sym (off_by t.state posts.state o.line false lines) ∙ on));
-    }
-    by_tests true false is asked = record { none = none_here t.state; unasked = λ on. asked }
-    by_tests false a is asked = record { none = none_here t.state; unasked = λ on. absurd (false≢true (sym is ∙ on)) }
+    by_tests true true is asked =
+        let told = posts_notes o.line o.owner o.bits t in
+        record {
+          none = none_by t.state posts.state o.line false lines;
+          unasked = λ on. absurd (false≢true (sym (off_by t.state posts.state o.line false lines) ∙ on));
+          notes = told.0;
+          posted = λ on asks. told.1;
+          others = λ k on. elim (eqb_tells k o.line) [ inl same ↦ inr (subst (λ (j : ℕ). Contains posts.notes (note.Irq j Posted)) (sym same.1) told.1) | inr apart ↦ inl (other_by t.state posts.state o.line k false lines apart.1 on) ];
+        }
+    by_tests true false is asked = record { none = none_here t.state; unasked = λ on. asked; notes = λ n here. here; posted = λ on asks. absurd (false≢true (sym asked ∙ asks)); others = λ k on. inl on }
+    by_tests false a is asked = record { none = none_here t.state; unasked = λ on. absurd (false≢true (sym is ∙ on)); notes = λ n here. here; posted = λ on asks. absurd (false≢true (sym is ∙ on)); others = λ k on. inl on }
 
 drives_all : (ds : List DeviceData) (lines : List LineSetup) (t : Turn) → EnablesNone t.state (fold (driven_by ds) t lines).state × AreUnasked ds lines (fold (driven_by ds) t lines).state
 drives_all ds [] t = (none_here t.state, λ o here. absurd (omega (arith, here.1)))
@@ -171,6 +201,31 @@ drives_all ds (o ∷ lines) t =
 pub driven_answers : (g : Setup) (t : Turn) → AreAnswered g (driven g t).state
 unfolding driven
 driven_answers g t = λ o here on. ap (λ (ds : List DeviceData). asks_at ds o.device) (aside-driven g t).devices ∙ (drives_all t.state.devices g.lines t).1 o here on
+
+-- no note is taken back, and each line that was on and whose device asks has posted
+notes_all : (ds : List DeviceData) (lines : List LineSetup) (t : Turn) (n : Note) → Contains t.notes n → Contains (fold (driven_by ds) t lines).notes n
+notes_all ds [] t n here = here
+notes_all ds (o ∷ lines) t n here = notes_all ds lines (driven_by ds t o) n ((drives_one ds o t).notes n here)
+
+posts_all : (ds : List DeviceData) (lines : List LineSetup) (t : Turn) (p : LineSetup) → Contains lines p → (line_at t.state p.line).enabled ≡ true → asks_at ds p.device ≡ true →
+    Contains (fold (driven_by ds) t lines).notes (note.Irq p.line Posted)
+posts_all ds [] t p here on asks = absurd (omega (arith, here.1))
+posts_all ds (o ∷ lines) t p (zero, lt, same) on asks =
+    let is : p ≡ o = sym same in
+    let told = subst (λ (q : LineSetup). Contains (driven_by ds t q).notes (note.Irq p.line Posted)) is ((drives_one ds p t).posted on asks) in
+    notes_all ds lines (driven_by ds t o) (note.Irq p.line Posted) told
+posts_all ds (o ∷ lines) t p (suc i, lt, same) on asks = elim ((drives_one ds o t).others p.line on) [
+  | inl still ↦ posts_all ds lines (driven_by ds t o) p (i, omega (arith, lt), same) still asks
+  | inr told ↦ notes_all ds lines (driven_by ds t o) (note.Irq p.line Posted) told
+]
+
+pub driven_posts : (g : Setup) (t : Turn) (o : LineSetup) → Contains g.lines o → (line_at t.state o.line).enabled ≡ true → is_asked t.state o ≡ true → Contains (driven g t).notes (note.Irq o.line Posted)
+unfolding driven
+driven_posts g t o here on asks = posts_all t.state.devices g.lines t o here on asks
+
+pub line-fed : (device byte k : ℕ) (t : Turn) → line_at (fed device byte t).state k ≡ line_at t.state k
+unfolding fed with_devices noted line_at
+line-fed device byte k t = refl
 
 -- ## events
 

@@ -95,9 +95,9 @@ pub fn turns_without_notes_keep_the_choice()
         is_down (turn level x s).state ≡ is_down (after_events x s).state }
 {}
 
-/// A byte that is put into a device does not change the choice. Each task is as ready as before, the
-/// chosen task is the same, and the supervisor is faulted exactly if it was faulted before. If no
-/// enabled line is asked for then, nothing more happens as the byte comes.
+/// A byte that is put into a device does not change the choice. Each task is as ready as before,
+/// the chosen task is the same, and the supervisor is faulted exactly if it was faulted before. If
+/// no enabled line is asked for then, nothing more happens as the byte comes.
 pub fn bytes_for_devices_keep_the_choice()
     ensures ready { (device byte i : ℕ) (t : Turn) →
         is_ready (fed device byte t).state i ≡ is_ready t.state i }

@@ -1,8 +1,13 @@
 //! Laws about interrupt lines that devices drive. Nothing runs here.
 
-ghost use Rattle.std.specs.Prelude.{ℕ};
+ghost use Rattle.std.specs.Prelude.{◌≡◌, ◌%◌, ℕ, true, Contains};
+ghost use Rattle.kernel_abi.specs.declared.Handled.TheVariants.{Posted};
+ghost use Rattle.kernel_abi.specs.declared.Note.TheVariants.{Irq};
 ghost use Rattle.run_script.specs.declared.events.Event.TheVariants.{Feed};
-ghost use Rattle.task_table.specs.model.State.{Setup, State, Turn};
+ghost use Rattle.task_table.specs.model.State.{Setup, LineSetup, State, Turn};
+ghost use Rattle.task_table.specs.model.Asking.{is_asked};
+ghost use Rattle.task_table.specs.model.Reading.{line_at};
+ghost use Rattle.task_table.specs.model.Events.{fed};
 ghost use Rattle.task_table.specs.model.Sane.{Sane};
 ghost use Rattle.board_model.specs.declared.outcomes.Level.{Level as NoteLevel};
 ghost use Rattle.board_model.specs.Script.{Scenario, start_of};
@@ -10,11 +15,15 @@ ghost use Rattle.board_model.specs.Asked.{AreAscending, AreAnswered};
 ghost use Rattle.board_model.specs.Turn.{happened, turn};
 ghost use Rattle.board_model.specs.Run.{state_after};
 
-/// Behind each byte that comes for a device, no enabled line is asked for, whatever the state was:
-/// those that were have posted, and are disabled.
+/// Behind each byte that comes for a device no enabled line is asked for, whatever the state was.
+/// Each line that was enabled, and whose device asks once it has the byte, has posted.
 pub fn a_byte_for_a_device_posts_at_once()
-    ensures { (g : Setup) (device byte : ℕ) (t : Turn) →
+    ensures answered { (g : Setup) (device byte : ℕ) (t : Turn) →
         AreAnswered g (happened g t (Feed device byte)).state }
+    ensures posted { (g : Setup) (device byte : ℕ) (t : Turn) (o : LineSetup) →
+        Contains g.lines o → (line_at t.state o.line).enabled ≡ true →
+        is_asked (fed device (byte % 256) t).state o ≡ true →
+        Contains (happened g t (Feed device byte)).notes (Irq o.line Posted) }
 {}
 
 /// Between the turns of a run no enabled line is asked for. At the start no line is enabled. A turn
