@@ -57,7 +57,8 @@ fn check_line_device(
     requires owner { l.now.task < length tasks.now }
     requires all { counted tasks.now ≡ length regions.now }
     requires room { place + 8 ≤ 2 ^ 32 }
-    ensures { result ≡ line_device_fault (own_regions tasks.now regions.now l.now.task) l.now place }
+    ensures { result ≡ line_device_fault (own_regions tasks.now regions.now l.now.task)
+        l.now place }
 {
     if l.device == 0 {
         return None;
