@@ -1,5 +1,5 @@
 -- Names that are found, and lists that grow.
-use Rattle.std.proofs.Common.{◌≡◌, ◌∙◌, ℕ, suc, true, false, ◌+◌, ◌-◌, ◌≤◌, ◌<◌, List, [], ◌∷◌, ◌++◌, append_assoc, codes, drop, drop-cons, length, get_or, map, length-append, string_bytes, refl, sym, ap, subst, arith, inl, inr}
+use Rattle.std.proofs.Common.{◌≡◌, ◌∙◌, ℕ, suc, true, false, ◌+◌, ◌-◌, ◌≤◌, ◌<◌, List, [], ◌∷◌, ◌++◌, append_assoc, codes, drop, drop-cons, length, get_or, map, length-append, Global, String, string_bytes, refl, sym, ap, subst, arith, inl, inr}
 use Rattle.std.specs.List.{flat_map, range_with_len}
 use Rattle.std.specs.Str.{bytes_eq}
 use Rattle.std.proofs.lemmas.Bool.{cases_Bool}
@@ -111,6 +111,18 @@ owner_areas app a name = few_areas name app.tasks (few_regions app a)
 
 pub same_count : {A : Type 0} → {B : Type 0} → (f : A → B) (xs : List A) (ys : List B) → map f xs ≡ ys → length xs ≡ length ys
 same_count f xs ys e = sym (length-map xs f) ∙ ap length e
+
+-- what a task uses and what it reads
+pub few_in_two : (app : AppData) → IsAccepted app → (name : Text) (ts : List TaskData) (uses reads : List (String Global)) → ts ≡ app.tasks
+    → map string_bytes uses ++ map string_bytes reads ≡ areas_of name ts → length uses + length reads ≤ 6
+few_in_two app a name ts uses reads same is = omega (
+  arith,
+  length-map uses string_bytes,
+  length-map reads string_bytes,
+  length-append (map string_bytes uses) (map string_bytes reads),
+  ap length (is ∙ ap (areas_of name) same),
+  owner_areas app a name,
+)
 
 pub owned_in : (app : AppData) (xs : List LineSpec) → IsAccepted app → map interrupt_of xs ≡ app.interrupts
     → (k : ℕ) (d : LineSpec) → k < length xs → IsOwned app (interrupt_of (get_or xs k d))

@@ -16,7 +16,6 @@ use std::alloc::{AllocError, Global};
 /// The number of the device's region among those of the interrupt's task, counted from one; 0 if no
 /// device drives the line. The task's flash and its RAM come first.
 fn device_number(app: &App, interrupt: &LineSpec) -> u16
-    requires { IsOwned (app_of app.now) (interrupt_of interrupt.now) }
     ensures { result ≡ device_number
         (areas_of (interrupt_of interrupt.now).task (app_of app.now).tasks)
         (interrupt_of interrupt.now).device }

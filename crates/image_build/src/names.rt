@@ -24,8 +24,9 @@ fn place_of(name: &str, names: &[String]) -> usize
 /// neither.
 pub(crate) fn place_in_two(name: &str, first: &[String], second: &[String]) -> usize
     requires { length first.now + length second.now ≤ 6 }
-    ensures { result ≡ index_of name.now
+    ensures place { result ≡ index_of name.now
         (map string_bytes first.now ++ map string_bytes second.now) }
+    ensures most { result ≤ 6 }
 {
     let place = place_of(name, first);
     if place < first.len() {
