@@ -1,7 +1,6 @@
 -- Names that are kept in the order of their bytes, as one more is added.
 use Rattle.std.proofs.Common.{◌≡◌, ◌∙◌, ◌<◌, ◌+◌, ◌||◌, ℕ, List, [], ◌∷◌, ◌++◌, length, drop, get_or, map, take, Bool, true, false, cond, inl, inr, Option, Some, None, is_some, String, refl, sym, ap, subst, add-one}
 use Rattle.std.specs.BTreeMap.{BTreeMap, get_by_text}
-use Rattle.std.specs.BTreeSet.{BTreeSet}
 use Rattle.std.specs.List.{list_any}
 use Rattle.std.specs.Str.{bytes_eq}
 use Rattle.std.proofs.lemmas.Bool.{cases_Bool, or_right, or_parts}
@@ -11,10 +10,11 @@ use Rattle.toml.specs.Data.{Members}
 use Rattle.toml.specs.View.{items_view, view}
 use Rattle.toml.specs.declared.value.Value.{Value}
 use Rattle.app_toml.specs.Apps.{TaskData}
-use Rattle.app_toml.specs.Crossed.{has_task, is_among, notifications_of}
-use Rattle.app_toml.specs.Known.{HasJust, IsKept}
+use Rattle.app_toml.specs.Crossed.{areas_of, has_task, notifications_of}
+use Rattle.app_toml.specs.Known.{IsKept, KeepsNames}
 use Rattle.app_toml.specs.Places.{Text}
 use Rattle.app_toml.specs.Values.{each_in, table_of}
+use Rattle.app_toml.specs.declared.known.KeptTask.{KeptTask}
 use Rattle.app_toml.proofs.Walks.{same_text}
 
 swapped : (a b c : Bool) → (a || (b || c)) ≡ (b || (a || c))
@@ -70,48 +70,84 @@ pub as_or : (a b : Bool) → cond a true b ≡ (a || b)
 as_or true b = refl
 as_or false b = refl
 
--- ---- tasks and their notifications
+-- ---- tasks, and the names that they give
+
+-- what the first task of a name gives, and nothing where none has it
+abbrev IsFirst : (Text → List TaskData → List Text) → (TaskData → List Text) → Type 0
+IsFirst of given =
+    ((name : Text) → of name [] ≡ [])
+    × ((name : Text) (t : TaskData) (ts : List TaskData) → of name (t ∷ ts) ≡ cond (bytes_eq t.name name) (given t) (of name ts))
+
+notifications_first : IsFirst notifications_of (λ t. t.notifications)
+notifications_first = (λ name. refl, λ name t ts. refl)
+
+areas_first : IsFirst areas_of (λ t. t.uses ++ t.reads)
+areas_first = (λ name. refl, λ name t ts. refl)
 
 picked : (b h : Bool) (n m r x : List Text) → x ≡ cond h m r → cond b n x ≡ cond (b || h) (cond b n m) r
 picked true h n m r x e = refl
 picked false h n m r x e = e
 
 -- the first task of a name keeps it
-notes_more : (name : Text) (ts : List TaskData) (t : TaskData)
-    → notifications_of name (ts ++ t ∷ []) ≡ cond (has_task name ts) (notifications_of name ts) (cond (bytes_eq t.name name) t.notifications [])
-notes_more name [] t = refl
-notes_more name (s ∷ ts) t =
-    picked (bytes_eq s.name name) (has_task name ts) s.notifications (notifications_of name ts) (cond (bytes_eq t.name name) t.notifications []) _ (notes_more name ts t)
+given_more : (of : Text → List TaskData → List Text) (given : TaskData → List Text) → IsFirst of given → (name : Text) (ts : List TaskData) (t : TaskData)
+    → of name (ts ++ t ∷ []) ≡ cond (has_task name ts) (of name ts) (cond (bytes_eq t.name name) (given t) [])
+given_more of given first name [] t = first.1 name t [] ∙ ap (cond (bytes_eq t.name name) (given t)) (first.0 name)
+given_more of given first name (s ∷ ts) t =
+    first.1 name s (ts ++ t ∷ [])
+    ∙ picked (bytes_eq s.name name) (has_task name ts) (given s) (of name ts) (cond (bytes_eq t.name name) (given t) []) _ (given_more of given first name ts t)
+    ∙ ap (λ n. cond (has_task name (s ∷ ts)) n (cond (bytes_eq t.name name) (given t) [])) (sym (first.1 name s ts))
 
-notes_stay : (name : Text) (ts : List TaskData) (t : TaskData) → has_task name ts ≡ true → notifications_of name (ts ++ t ∷ []) ≡ notifications_of name ts
-notes_stay name ts t h = notes_more name ts t ∙ ap (λ b. cond b (notifications_of name ts) (cond (bytes_eq t.name name) t.notifications [])) h
+given_stay : (of : Text → List TaskData → List Text) (given : TaskData → List Text) → IsFirst of given → (name : Text) (ts : List TaskData) (t : TaskData)
+    → has_task name ts ≡ true → of name (ts ++ t ∷ []) ≡ of name ts
+given_stay of given first name ts t h =
+    given_more of given first name ts t ∙ ap (λ b. cond b (of name ts) (cond (bytes_eq t.name name) (given t) [])) h
 
-notes_new : (ts : List TaskData) (t : TaskData) → has_task t.name ts ≡ false → bytes_eq t.name t.name ≡ true
-    → notifications_of t.name (ts ++ t ∷ []) ≡ t.notifications
-notes_new ts t h e =
-    notes_more t.name ts t ∙ ap (λ b. cond b (notifications_of t.name ts) (cond (bytes_eq t.name t.name) t.notifications [])) h
-    ∙ ap (λ b. cond b t.notifications []) e
+given_new : (of : Text → List TaskData → List Text) (given : TaskData → List Text) → IsFirst of given → (ts : List TaskData) (t : TaskData)
+    → has_task t.name ts ≡ false → bytes_eq t.name t.name ≡ true → of t.name (ts ++ t ∷ []) ≡ given t
+given_new of given first ts t h e =
+    given_more of given first t.name ts t ∙ ap (λ b. cond b (of t.name ts) (cond (bytes_eq t.name t.name) (given t) [])) h
+    ∙ ap (λ b. cond b (given t) []) e
 
-pub kept_known : {A : Type 0} (known : BTreeSet (String A)) (name : Text) (ts : List TaskData) (t : TaskData)
-    → IsKept (Some known) name ts → IsKept (Some known) name (ts ++ t ∷ [])
-kept_known known name ts t kept = (
+given_none : (of : Text → List TaskData → List Text) (given : TaskData → List Text) → IsFirst of given → (name : Text) (ts : List TaskData)
+    → has_task name ts ≡ false → of name ts ≡ []
+given_none of given first name [] e = first.0 name
+given_none of given first name (t ∷ ts) e =
+    let parts = or_parts (bytes_eq t.name name) (has_task name ts) e in
+    first.1 name t ts ∙ ap (λ b. cond b (given t) (of name ts)) parts.0 ∙ given_none of given first name ts parts.1
+
+pub no_notifications : (name : Text) (ts : List TaskData) → has_task name ts ≡ false → notifications_of name ts ≡ []
+no_notifications = given_none notifications_of (λ t. t.notifications) notifications_first
+
+pub no_areas : (name : Text) (ts : List TaskData) → has_task name ts ≡ false → areas_of name ts ≡ []
+no_areas = given_none areas_of (λ t. t.uses ++ t.reads) areas_first
+
+-- what is kept of a task, where the names are given in another way
+names_same : (k : KeptTask) (ms ns rs us : List Text) → ns ≡ ms → us ≡ rs → KeepsNames k ms rs → KeepsNames k ns us
+names_same k ms ns rs us e f kept = subst (λ u. KeepsNames k ns u) (sym f) (subst (λ n. KeepsNames k n rs) (sym e) kept)
+
+kept_known : (k : KeptTask) (name : Text) (ts : List TaskData) (t : TaskData) → IsKept (Some k) name ts → IsKept (Some k) name (ts ++ t ∷ [])
+kept_known k name ts t kept = (
   any_more (λ s. bytes_eq s.name name) ts t ∙ or_right (bytes_eq t.name name) (has_task name ts) kept.0,
-  λ bit. kept.1 bit ∙ ap (is_among bit) (sym (notes_stay name ts t kept.0)),
+  names_same k (notifications_of name ts) (notifications_of name (ts ++ t ∷ [])) (areas_of name ts) (areas_of name (ts ++ t ∷ []))
+      (given_stay notifications_of (λ s. s.notifications) notifications_first name ts t kept.0)
+      (given_stay areas_of (λ s. s.uses ++ s.reads) areas_first name ts t kept.0) kept.1,
 )
 
 -- a task of another name
-pub kept_other : {A : Type 0} (o : Option (BTreeSet (String A))) (name : Text) (ts : List TaskData) (t : TaskData)
+kept_other : (o : Option KeptTask) (name : Text) (ts : List TaskData) (t : TaskData)
     → bytes_eq t.name name ≡ false → IsKept o name ts → IsKept o name (ts ++ t ∷ [])
 kept_other None name ts t e kept =
     any_more (λ s. bytes_eq s.name name) ts t ∙ ap (λ b. b || has_task name ts) e ∙ kept
-kept_other (Some known) name ts t e kept = kept_known known name ts t kept
+kept_other (Some k) name ts t e kept = kept_known k name ts t kept
 
 -- the first task of its name
-pub kept_new : {A : Type 0} (known : BTreeSet (String A)) (ts : List TaskData) (t : TaskData) → has_task t.name ts ≡ false → bytes_eq t.name t.name ≡ true
-    → HasJust known (λ bit. is_among bit t.notifications) → IsKept (Some known) t.name (ts ++ t ∷ [])
-kept_new known ts t h e just = (
+kept_new : (k : KeptTask) (ts : List TaskData) (t : TaskData) → has_task t.name ts ≡ false → bytes_eq t.name t.name ≡ true
+    → KeepsNames k t.notifications (t.uses ++ t.reads) → IsKept (Some k) t.name (ts ++ t ∷ [])
+kept_new k ts t h e names = (
   any_more (λ s. bytes_eq s.name t.name) ts t ∙ ap (λ b. b || has_task t.name ts) e,
-  λ bit. just bit ∙ ap (is_among bit) (sym (notes_new ts t h e)),
+  names_same k t.notifications (notifications_of t.name (ts ++ t ∷ [])) (t.uses ++ t.reads) (areas_of t.name (ts ++ t ∷ []))
+      (given_new notifications_of (λ s. s.notifications) notifications_first ts t h e)
+      (given_new areas_of (λ s. s.uses ++ s.reads) areas_first ts t h e) names,
 )
 
 different : (name other : Text) (ts : List TaskData) → has_task other ts ≡ true → has_task name ts ≡ false → bytes_eq other name ≡ false
@@ -122,36 +158,30 @@ different name other ts there absent =
     ]
 
 -- a further task of a name
-pub kept_again : {A : Type 0} (o : Option (BTreeSet (String A))) (name : Text) (ts : List TaskData) (t : TaskData)
+pub kept_again : (o : Option KeptTask) (name : Text) (ts : List TaskData) (t : TaskData)
     → has_task t.name ts ≡ true → IsKept o name ts → IsKept o name (ts ++ t ∷ [])
-kept_again {A = A} None name ts t there kept = kept_other {A = A} None name ts t (different name t.name ts there kept) kept
-kept_again (Some known) name ts t there kept = kept_known known name ts t kept
+kept_again None name ts t there kept = kept_other None name ts t (different name t.name ts there kept) kept
+kept_again (Some k) name ts t there kept = kept_known k name ts t kept
 
-pub kept_is : {A : Type 0} (o : Option (BTreeSet (String A))) (name : Text) (ts : List TaskData) → IsKept o name ts → is_some o ≡ has_task name ts
+pub kept_is : (o : Option KeptTask) (name : Text) (ts : List TaskData) → IsKept o name ts → is_some o ≡ has_task name ts
 kept_is None name ts kept = sym kept
-kept_is (Some known) name ts kept = sym kept.0
+kept_is (Some k) name ts kept = sym kept.0
 
-pub none_named : (name : Text) (ts : List TaskData) → has_task name ts ≡ false → notifications_of name ts ≡ []
-none_named name [] e = refl
-none_named name (t ∷ ts) e =
-    let parts = or_parts (bytes_eq t.name name) (has_task name ts) e in
-    ap (λ b. cond b t.notifications (notifications_of name ts)) parts.0 ∙ none_named name ts parts.1
-
-pub kept_added : {A : Type 0} (old new : Text → Option (BTreeSet (String A))) (known : BTreeSet (String A)) (name : Text) (ts : List TaskData) (t : TaskData)
-    → ((q : Text) → new q ≡ cond (bytes_eq t.name q) (Some known) (old q)) → has_task t.name ts ≡ false
-    → HasJust known (λ bit. is_among bit t.notifications) → IsKept (old name) name ts → IsKept (new name) name (ts ++ t ∷ [])
-kept_added old new known name ts t now absent just kept =
+pub kept_added : (old new : Text → Option KeptTask) (k : KeptTask) (name : Text) (ts : List TaskData) (t : TaskData)
+    → ((q : Text) → new q ≡ cond (bytes_eq t.name q) (Some k) (old q)) → has_task t.name ts ≡ false
+    → KeepsNames k t.notifications (t.uses ++ t.reads) → IsKept (old name) name ts → IsKept (new name) name (ts ++ t ∷ [])
+kept_added old new k name ts t now absent names kept =
     elim (cases_Bool (bytes_eq t.name name)) [
       | inl same ↦
           let here = same_text t.name name same in
           let own = subst (λ n. bytes_eq t.name n ≡ true) (sym here) same in
-          let found : new t.name ≡ Some known = now t.name ∙ ap (λ b. cond b (Some known) (old t.name)) own in
+          let found : new t.name ≡ Some k = now t.name ∙ ap (λ b. cond b (Some k) (old t.name)) own in
           subst (λ n. IsKept (new n) n (ts ++ t ∷ [])) here
-          (subst (λ o. IsKept o t.name (ts ++ t ∷ [])) (sym found) (kept_new known ts t absent own just))
+          (subst (λ o. IsKept o t.name (ts ++ t ∷ [])) (sym found) (kept_new k ts t absent own names))
       | inr apart ↦
-          let left : new name ≡ old name = now name ∙ ap (λ b. cond b (Some known) (old name)) apart in
+          let left : new name ≡ old name = now name ∙ ap (λ b. cond b (Some k) (old name)) apart in
           subst (λ o. IsKept o name (ts ++ t ∷ [])) (sym left) (kept_other (old name) name ts t apart kept)
     ]
 
-pub nothing_kept : {A : Type 0} (kept : BTreeMap (String A) (BTreeSet (String A))) → kept.entries ≡ [] → (name : Text) → IsKept (get_by_text kept name) name []
+pub nothing_kept : {A : Type 0} (kept : BTreeMap (String A) KeptTask) → kept.entries ≡ [] → (name : Text) → IsKept (get_by_text kept name) name []
 nothing_kept kept e name = rw e refl

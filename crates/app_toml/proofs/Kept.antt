@@ -1,6 +1,6 @@
 -- Where no cause of 2 to 6 holds, each value has its form.
 use Rattle.std.proofs.Common.{◌≡◌, ◌+◌, ◌<◌, ◌≤◌, ◌==◌, ◌&&◌, ℕ, pos, negsuc, List, [], length, Bool, true, false, nat_le, nat_lt, Option, None, Some, option_map, refl, subst, sym, arith, lit<, cond}
-use Rattle.std.specs.Prelude.{All, codes, unwrap_or, option_and_then}
+use Rattle.std.specs.Prelude.{All, IfSome, codes, unwrap_or, option_and_then}
 use Rattle.std.proofs.lemmas.Bool.{leb-true, lt-ltb, and_parts}
 use Rattle.std.proofs.lemmas.Bool.Decides.{nat_tests}
 use Rattle.std.proofs.lemmas.List.Elements.{All-cons, All-nil}
@@ -59,6 +59,11 @@ name_kept site (Some (boolean b)) e = cc
 name_kept site (Some (datetime t)) e = cc
 name_kept site (Some (array ds)) e = cc
 name_kept site (Some (table ms)) e = cc
+
+pub some_name_kept : (site : Site) (d : Option Data) → found_fault (optional [] Name) site d ≡ None
+    → IfSome (option_map text_of d) IsName
+some_name_kept site None e = tt
+some_name_kept site (Some d) e = name_kept site (Some d) e
 
 not_zero : (n : ℕ) → (n == 0) ≡ false → 0 < n
 not_zero n e = grind (arith, nat_tests)
@@ -160,6 +165,7 @@ interrupt_kept site d e =
       line = as_byte 63 (number_in (codes "line") ms) (lit< tt) low.1;
       task = name_kept (at_key (codes "task") site) (get_member (codes "task") ms) (key_none interrupt_keys site ms 1 no_key (lit< tt) inner);
       notification = name_kept (at_key (codes "notification") site) (get_member (codes "notification") ms) (key_none interrupt_keys site ms 2 no_key (lit< tt) inner);
+      device = some_name_kept (at_key (codes "device") site) (get_member (codes "device") ms) (key_none interrupt_keys site ms 3 no_key (lit< tt) inner);
     }
 
 -- ---- lists of tables

@@ -1,16 +1,17 @@
 -- How the tables stand to one another where no cause of 7 to 20 holds.
-use Rattle.std.proofs.Common.{◌≡◌, ◌≢◌, ◌<◌, ◌≤◌, ◌+◌, ◌%◌, ◌==◌, ◌||◌, ◌&&◌, not, ℕ, suc, List, [], ◌∷◌, length, get_or, Bool, true, false, nat_lt, nat_le, None, refl, arith, inl, inr, cond, eq-eqb}
-use Rattle.std.specs.Prelude.{All, Any, Contains, codes}
+use Rattle.std.proofs.Common.{◌≡◌, ◌≢◌, ◌<◌, ◌≤◌, ◌+◌, ◌%◌, ◌==◌, ◌||◌, ◌&&◌, ◌⊎◌, not, ℕ, suc, List, [], ◌∷◌, ◌++◌, length, get_or, Bool, true, false, nat_lt, nat_le, Option, None, Some, refl, arith, inl, inr, cond, eq-eqb}
+use Rattle.std.specs.Prelude.{All, Any, Contains, IfSome, codes}
 use Rattle.std.specs.List.{list_any}
 use Rattle.std.specs.Str.{bytes_eq}
 use Rattle.std.proofs.lemmas.Bool.{cases_Bool, eqb-true, leb-true, ltb-false, or_parts, and_parts, not-false}
 use Rattle.std.proofs.lemmas.Bool.Decides.{nat_tests}
+use Rattle.std.proofs.lemmas.List.Elements.{Contains-append_cases}
 use Rattle.std.proofs.lemmas.List.Folds.{Any-from_list_any}
 use Rattle.app_toml.specs.Apps.{AppData, DeviceData, InterruptData, RegionData, TaskData}
 use Rattle.region_check.specs.Sizes.{is_size}
-use Rattle.app_toml.specs.Crossed.{bad_device, bad_stack, count_fault, cross_fault, device_site, device_twice, entries_twice, entry_twice, has_device, has_region, has_task, interrupt_site, is_among, is_bad_stack, is_placed, is_wrong, line_fault, line_twice, meets, name_twice, notification_count, notifications_of, overlap, region_count, region_site, region_twice, start_fault, supervisor_stopped, task_count, task_site, task_twice, unknown_bit, unknown_entry, unknown_fault_bit, unknown_name, unknown_owner, unknown_region, wrong_priority}
+use Rattle.app_toml.specs.Crossed.{areas_of, bad_device, bad_stack, count_fault, cross_fault, device_site, device_twice, entries_twice, entry_twice, has_device, has_region, has_task, interrupt_site, is_among, is_bad_stack, is_device_of, is_placed, is_wrong, line_fault, line_twice, meets, name_twice, notification_count, notifications_of, overlap, region_count, region_site, region_twice, start_fault, supervisor_stopped, task_count, task_site, task_twice, unknown_bit, unknown_device, unknown_entry, unknown_fault_bit, unknown_line_device, unknown_name, unknown_owner, unknown_region, wrong_priority}
 use Rattle.app_toml.specs.Places.{Site, Text, at_entry, at_key, first_clash, first_fault, head_site, index_site, refuse_if}
-use Rattle.app_toml.specs.Relations.{AreApart, AreDistinct, HasCounts, HasDevices, HasNames, HasOwnNames, HasReferences, HasStarts, IsBeside, IsPlaced, NamesArea, Owns, Relations, no_task, task_in}
+use Rattle.app_toml.specs.Relations.{AreApart, AreDistinct, HasCounts, HasDevices, HasNames, HasOwnNames, HasReferences, HasStarts, IsBeside, IsLineDevice, IsPlaced, NamesArea, Owns, Relations, no_task, task_in}
 use Rattle.app_toml.proofs.Passed.{both_none, not_refused}
 use Rattle.app_toml.proofs.Walks.{all_clear, all_fail, any_weaker, contained, differs, each_clear, each_fine, fault_in, same_text}
 
@@ -106,14 +107,18 @@ owner : (i : InterruptData) (ts : List TaskData) → is_among i.notification (no
 owner i [] e = cc
 owner i (t ∷ ts) e = owner_step i t ts (bytes_eq t.name i.task) refl (owner i ts) e
 
+device_there : (name : Text) (devices : List DeviceData) → has_device name devices ≡ true → Any (λ d. d.name ≡ name) devices
+device_there name devices e =
+    any_weaker (λ d. bytes_eq d.name name ≡ true) (λ d. d.name ≡ name) (λ d. same_text d.name name) devices
+    (Any-from_list_any (λ (d : DeviceData). bytes_eq d.name name) devices e)
+
 area_cases : (app : AppData) (name : Text) (r d : Bool) → has_region name app.regions ≡ r → has_device name app.devices ≡ d
     → (r || d) ≡ true → NamesArea app name
 area_cases app name true d er ed e =
     inl (any_weaker (λ r. bytes_eq r.name name ≡ true) (λ r. r.name ≡ name) (λ r. same_text r.name name) app.regions
     (Any-from_list_any (λ (r : RegionData). bytes_eq r.name name) app.regions er))
 area_cases app name false true er ed e =
-    inr (any_weaker (λ d. bytes_eq d.name name ≡ true) (λ d. d.name ≡ name) (λ d. same_text d.name name) app.devices
-    (Any-from_list_any (λ (d : DeviceData). bytes_eq d.name name) app.devices ed))
+    inr (device_there name app.devices ed)
 area_cases app name false false er ed e = cc
 
 areas : (app : AppData) (site : Site) (names : List Text) → first_fault (unknown_entry app.regions app.devices site) 0 names ≡ None
@@ -128,17 +133,46 @@ uses_known app k t e =
     let parts = both_none (first_fault (unknown_entry app.regions app.devices (task_site k (codes "uses"))) 0 t.uses) _ e in
     (areas app (task_site k (codes "uses")) t.uses parts.0, areas app (task_site k (codes "reads")) t.reads parts.1)
 
+-- a task of that name, which uses or reads what has the other
+abbrev Drives : Text → Text → TaskData → Type 0
+Drives task name t = (t.name ≡ task) × (Contains t.uses name ⊎ Contains t.reads name)
+
+user_step : (task name : Text) (t : TaskData) (ts : List TaskData) (same : Bool) → bytes_eq t.name task ≡ same
+    → (is_among name (areas_of task ts) ≡ true → Any (Drives task name) ts)
+    → is_among name (cond same (t.uses ++ t.reads) (areas_of task ts)) ≡ true → Any (Drives task name) (t ∷ ts)
+user_step task name t ts true is later e =
+    (0, t, omega arith, refl, (same_text t.name task is, Contains-append_cases t.uses t.reads name (contained name (t.uses ++ t.reads) e)))
+user_step task name t ts false is later e = let a = later e in (suc a.0, a.1, omega (arith, a.2), a.3, a.4)
+
+user : (task name : Text) (ts : List TaskData) → is_among name (areas_of task ts) ≡ true → Any (Drives task name) ts
+user task name [] e = cc
+user task name (t ∷ ts) e = user_step task name t ts (bytes_eq t.name task) refl (user task name ts) e
+
+line_device : (app : AppData) (k : ℕ) (i : InterruptData) (device : Option Text) → unknown_device app.tasks app.devices k i.task device ≡ None
+    → IfSome device (IsLineDevice app i)
+line_device app k i None e = tt
+line_device app k i (Some name) e =
+    let tests = and_parts (is_among name (areas_of i.task app.tasks)) (has_device name app.devices)
+    (known (is_device_of app.tasks app.devices i.task name) 10 (interrupt_site k (codes "device")) e) in
+    record {
+      used = user i.task name app.tasks tests.0;
+      there = device_there name app.devices tests.1;
+    }
+
 has_references : (app : AppData) → unknown_name app ≡ None → 1 ≤ length app.tasks → HasReferences app
 has_references app e some =
     let owners = both_none (first_fault (unknown_owner app.tasks) 0 app.interrupts) _ e in
     let fault = both_none (unknown_fault_bit app.fault app.tasks) _ owners.1 in
     let bits = both_none (first_fault (unknown_bit app.tasks) 0 app.interrupts) _ fault.1 in
+    let regions = both_none (first_fault (unknown_region app.regions app.devices) 0 app.tasks) _ bits.1 in
     record {
       fault = fault_known app.fault app.tasks fault.0 some;
       interrupts = each_fine (unknown_bit app.tasks) (λ i. Any (Owns i) app.tasks)
           (λ k i none. owner i app.tasks (known (is_among i.notification (notifications_of i.task app.tasks)) 9 (interrupt_site k (codes "notification")) none)) app.interrupts bits.0;
-      uses = each_fine (unknown_region app.regions app.devices) (λ t. All (NamesArea app) t.uses) (λ k t none. (uses_known app k t none).0) app.tasks bits.1;
-      reads = each_fine (unknown_region app.regions app.devices) (λ t. All (NamesArea app) t.reads) (λ k t none. (uses_known app k t none).1) app.tasks bits.1;
+      devices = each_fine (unknown_line_device app.tasks app.devices) (λ i. IfSome i.device (IsLineDevice app i))
+          (λ k i none. line_device app k i i.device none) app.interrupts regions.1;
+      uses = each_fine (unknown_region app.regions app.devices) (λ t. All (NamesArea app) t.uses) (λ k t none. (uses_known app k t none).0) app.tasks regions.0;
+      reads = each_fine (unknown_region app.regions app.devices) (λ t. All (NamesArea app) t.reads) (λ k t none. (uses_known app k t none).1) app.tasks regions.0;
     }
 
 -- ---- numbers

@@ -1,6 +1,7 @@
 //! An accepted description.
 
 ghost use Rattle.std.specs.Prelude.{map, string_bytes};
+ghost use Rattle.std.proofs.Props.{props};
 ghost use Rattle.app_toml.specs.Accepted.{IsAccepted};
 ghost use Rattle.app_toml.specs.Sites.{device_of, interrupt_of, region_of, task_of};
 
@@ -24,5 +25,5 @@ pub struct App {
       regions = map region_of regions.items;
       devices = map device_of devices.items;
       interrupts = map interrupt_of interrupts.items;
-    }) },
+    }) } by { Prim.hlevel props },
 }

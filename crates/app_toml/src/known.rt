@@ -4,8 +4,8 @@ ghost use Rattle.std.specs.Prelude.{◌≡◌, ◌||◌, ◌++◌, ◌∷◌, []
 ghost use Rattle.std.specs.BTreeSet.{contains_text};
 ghost use Rattle.std.specs.Str.{bytes_eq};
 ghost use Rattle.app_toml.specs.Apps.{DeviceData, RegionData, TaskData};
-ghost use Rattle.app_toml.specs.Crossed.{has_device, has_region, has_task, is_among, notifications_of};
-ghost use Rattle.app_toml.specs.Known.{HasJust, Keeps, NamesAreas};
+ghost use Rattle.app_toml.specs.Crossed.{areas_of, has_device, has_region, has_task, is_among, notifications_of};
+ghost use Rattle.app_toml.specs.Known.{HasJust, Keeps, KeepsNames, NamesAreas};
 ghost use Rattle.app_toml.specs.Places.{Text};
 ghost use Rattle.app_toml.specs.Sites.{device_of, region_of, task_of};
 
@@ -15,8 +15,15 @@ use std::collections::{BTreeMap, BTreeSet};
 
 pub(crate) type Names = BTreeSet<String>;
 
-/// Tasks by their names, each with its notifications.
-pub(crate) type TaskNames = BTreeMap<String, BTreeSet<String>>;
+/// What is kept of a task: its notifications, and the regions and devices that it uses or reads.
+#[derive(Drop)]
+pub(crate) struct KeptTask {
+    pub(crate) notifications: Names,
+    pub(crate) areas: Names,
+}
+
+/// Tasks by their names.
+pub(crate) type TaskNames = BTreeMap<String, KeptTask>;
 
 pub(crate) fn is_known(known: &Names, name: &str) -> bool
     ensures { result ≡ contains_text known.now name.now }
@@ -34,13 +41,22 @@ pub(crate) fn learn(alloc: Global, known: &mut Names, name: &str) -> Result<bool
     Ok(added)
 }
 
+fn learn_names(alloc: Global, known: &mut Names, names: &[String]) -> Result<(), AllocError>
+    ensures { OnOk result ((q : Text) →
+        contains_text known.new q ≡ (contains_text known.old q || is_among q
+        (map string_bytes names.now))) }
+{
+    for name in names {
+        learn(alloc, known, name.as_str())?;
+    }
+    Ok(())
+}
+
 pub(crate) fn known_names(alloc: Global, names: &[String]) -> Result<Names, AllocError>
     ensures { IfOk result (λ known. HasJust known (λ q. is_among q (map string_bytes names.now))) }
 {
     let mut known = BTreeSet::new(alloc);
-    for name in names {
-        learn(alloc, &mut known, name.as_str())?;
-    }
+    learn_names(alloc, &mut known, names)?;
     Ok(known)
 }
 
@@ -63,6 +79,14 @@ fn learn_devices(alloc: Global, known: &mut Names, devices: &[DeviceSpec]) -> Re
         learn(alloc, known, device.name.as_str())?;
     }
     Ok(())
+}
+
+pub(crate) fn known_devices(alloc: Global, devices: &[DeviceSpec]) -> Result<Names, AllocError>
+    ensures { IfOk result (λ known. HasJust known (λ q. has_device q (map device_of devices.now))) }
+{
+    let mut known = BTreeSet::new(alloc);
+    learn_devices(alloc, &mut known, devices)?;
+    Ok(known)
 }
 
 /// The names of regions and devices.
@@ -88,6 +112,19 @@ pub(crate) fn is_area(known: &Names, name: &str) -> bool
     known.contains(name)
 }
 
+fn kept_task(alloc: Global, task: &TaskSpec) -> Result<KeptTask, AllocError>
+    ensures { let t = task_of task.now in
+        IfOk result (λ kept. KeepsNames kept t.notifications (t.uses ++ t.reads)) }
+{
+    let notifications = known_names(alloc, task.notifications.as_slice())?;
+    let mut areas = known_names(alloc, task.uses.as_slice())?;
+    learn_names(alloc, &mut areas, task.reads.as_slice())?;
+    Ok(KeptTask {
+        notifications,
+        areas,
+    })
+}
+
 /// Adds a task, unless there is already one of this name.
 fn keep_task(alloc: Global, kept: &mut TaskNames, task: &TaskSpec) -> Result<(), AllocError>
     ensures { OnOk result ((tasks : List TaskData) → Keeps kept.old tasks →
@@ -96,8 +133,8 @@ fn keep_task(alloc: Global, kept: &mut TaskNames, task: &TaskSpec) -> Result<(),
     if kept.contains_key(task.name.as_str()) {
         return Ok(());
     }
-    let bits = known_names(alloc, task.notifications.as_slice())?;
-    kept.insert(String::from_str(alloc, task.name.as_str())?, bits)?;
+    let names = kept_task(alloc, task)?;
+    kept.insert(String::from_str(alloc, task.name.as_str())?, names)?;
     Ok(())
 }
 
@@ -117,7 +154,18 @@ pub(crate) fn has_bit(kept: &TaskNames, task: &str, bit: &str) -> bool
         result ≡ is_among bit.now (notifications_of task.now tasks) }
 {
     match kept.get(task) {
-        Some(bits) => is_known(bits, bit),
+        Some(names) => is_known(&names.notifications, bit),
+        None => false,
+    }
+}
+
+/// Whether a task of the name uses or reads the region or device.
+pub(crate) fn has_area(kept: &TaskNames, task: &str, area: &str) -> bool
+    ensures { (tasks : List TaskData) → Keeps kept.now tasks →
+        result ≡ is_among area.now (areas_of task.now tasks) }
+{
+    match kept.get(task) {
+        Some(names) => is_known(&names.areas, area),
         None => false,
     }
 }

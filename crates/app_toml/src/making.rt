@@ -1,6 +1,6 @@
 //! A description made of its tables.
 
-ghost use Rattle.std.specs.Prelude.{◌≡◌, IfOk, map, string_bytes};
+ghost use Rattle.std.specs.Prelude.{◌≡◌, IfOk, Option, map, option_map, string_bytes};
 ghost use Rattle.app_toml.specs.Accepted.{IsAccepted};
 ghost use Rattle.app_toml.specs.Apps.{DeviceData, InterruptData, RegionData, TaskData};
 ghost use Rattle.app_toml.specs.Held.{app_of, tables_of};
@@ -29,6 +29,19 @@ impl Item for String {
 
     fn copied(&self, alloc: Global) -> Result<String, AllocError> {
         String::from_str(alloc, self.as_str())
+    }
+}
+
+impl Item for Option<String> {
+    ghost Data = { Option Text };
+
+    ghost said = { option_map string_bytes };
+
+    fn copied(&self, alloc: Global) -> Result<Option<String>, AllocError> {
+        match self {
+            Some(text) => Ok(Some(text.copied(alloc)?)),
+            None => Ok(None),
+        }
     }
 }
 
@@ -95,10 +108,12 @@ impl Item for LineSpec {
     fn copied(&self, alloc: Global) -> Result<LineSpec, AllocError> {
         let task = self.task.copied(alloc)?;
         let notification = self.notification.copied(alloc)?;
+        let device = Item::copied(&self.device, alloc)?;
         Ok(LineSpec {
             line: self.line,
             task,
             notification,
+            device,
         })
     }
 }

@@ -106,7 +106,7 @@ pub(crate) static DEVICE_KEYS: [Key; 3] = [
     },
 ];
 
-pub(crate) static INTERRUPT_KEYS: [Key; 3] = [
+pub(crate) static INTERRUPT_KEYS: [Key; 4] = [
     Key {
         name: "line",
         is_needed: true,
@@ -120,6 +120,11 @@ pub(crate) static INTERRUPT_KEYS: [Key; 3] = [
     Key {
         name: "notification",
         is_needed: true,
+        form: ValueForm::Name,
+    },
+    Key {
+        name: "device",
+        is_needed: false,
         form: ValueForm::Name,
     },
 ];

@@ -2,13 +2,16 @@
 
 ghost use Rattle.std.specs.Prelude.{◌≡◌, IfOk, List, map, option_map, string_bytes};
 ghost use Rattle.app_toml.specs.Apps.{DeviceData, RegionData, TaskData};
-ghost use Rattle.app_toml.specs.Crossed.{interrupt_site, task_site, unknown_bit, unknown_entry, unknown_fault_bit, unknown_name, unknown_owner, unknown_region};
+ghost use Rattle.app_toml.specs.Crossed.{has_device, interrupt_site, task_site, unknown_bit, unknown_entry, unknown_fault_bit, unknown_line_device, unknown_name, unknown_owner, unknown_region};
 ghost use Rattle.app_toml.specs.Held.{parts_of};
-ghost use Rattle.app_toml.specs.Known.{Keeps, NamesAreas};
+ghost use Rattle.app_toml.specs.Known.{HasJust, Keeps, NamesAreas};
 ghost use Rattle.app_toml.specs.Places.{first_fault};
 ghost use Rattle.app_toml.specs.Sites.{interrupt_of, refusal_of, site_of, task_of};
 
-use crate::known::{Names, TaskNames, has_bit, is_area, is_kept, kept_tasks, known_areas};
+use crate::known::{
+    Names, TaskNames, has_area, has_bit, is_area, is_kept, is_known, kept_tasks, known_areas,
+    known_devices,
+};
 use crate::names::is_among;
 use crate::parts::{LineSpec, Parts, TaskSpec};
 use crate::places::{
@@ -111,6 +114,46 @@ fn unknown_regions(known: &Names, tasks: &[TaskSpec]) -> Option<PlacedCause<'sta
     None
 }
 
+/// The fault of the k-th interrupt's device, where it is none that the task uses or reads.
+fn unknown_line_device(
+    kept: &TaskNames,
+    known: &Names,
+    k: usize,
+    interrupt: &LineSpec,
+) -> Option<PlacedCause<'static>>
+    ensures { (tasks : List TaskData) (devices : List DeviceData) → Keeps kept.now tasks
+        → HasJust known.now (λ name. has_device name devices) → option_map refusal_of result
+        ≡ unknown_line_device tasks devices k (interrupt_of interrupt.now) }
+{
+    match &interrupt.device {
+        Some(device) => {
+            let name = device.as_str();
+            let is_own = has_area(kept, interrupt.task.as_str(), name) && is_known(known, name);
+            fault_if(!is_own, 10, interrupt_place(k, "device"))
+        }
+        None => None,
+    }
+}
+
+/// The first interrupt whose device is none that its task uses or reads.
+fn unknown_line_devices(
+    kept: &TaskNames,
+    known: &Names,
+    interrupts: &[LineSpec],
+) -> Option<PlacedCause<'static>>
+    ensures { (tasks : List TaskData) (devices : List DeviceData) → Keeps kept.now tasks
+        → HasJust known.now (λ name. has_device name devices) → option_map refusal_of result
+        ≡ first_fault (unknown_line_device tasks devices) 0 (map interrupt_of interrupts.now) }
+{
+    for i in 0..interrupts.len() {
+        let found = unknown_line_device(kept, known, i, &interrupts[i]);
+        if found.is_some() {
+            return found;
+        }
+    }
+    None
+}
+
 /// The first fault of causes 8 to 10.
 pub(crate) fn unknown_name(
     alloc: Global,
@@ -125,7 +168,10 @@ pub(crate) fn unknown_name(
     let owner = unknown_owner(&kept, interrupts);
     let bit = unknown_bit(&kept, interrupts);
     let fault = unknown_fault_bit(parts.fault.as_str(), tasks);
-    let known = known_areas(alloc, parts.regions.as_slice(), parts.devices.as_slice())?;
-    let regions = unknown_regions(&known, tasks);
-    Ok(first_of(owner, first_of(fault, first_of(bit, regions))))
+    let areas = known_areas(alloc, parts.regions.as_slice(), parts.devices.as_slice())?;
+    let regions = unknown_regions(&areas, tasks);
+    let own = known_devices(alloc, parts.devices.as_slice())?;
+    let devices = unknown_line_devices(&kept, &own, interrupts);
+    let areas_or_devices = first_of(regions, devices);
+    Ok(first_of(owner, first_of(fault, first_of(bit, areas_or_devices))))
 }

@@ -1,12 +1,12 @@
 //! Reads the contents of a document.
 
-ghost use Rattle.std.specs.Prelude.{◌≡◌, IfOk, map, string_bytes};
+ghost use Rattle.std.specs.Prelude.{◌≡◌, IfOk, map, option_map, string_bytes};
 ghost use Rattle.toml.specs.Data.{Members, no_members};
 ghost use Rattle.toml.specs.View.{items_view, table_view, view};
 ghost use Rattle.app_toml.specs.Apps.{DeviceData, InterruptData, RegionData, TaskData};
 ghost use Rattle.app_toml.specs.Held.{parts_of};
 ghost use Rattle.app_toml.specs.Sites.{device_of, interrupt_of, region_of, task_of};
-ghost use Rattle.app_toml.specs.Values.{app_in, byte_in, device_in, each_in, flag_in, interrupt_in, items_in, members_in, number_in, region_in, table_of, task_in, text_in, text_of, texts_in, texts_of};
+ghost use Rattle.app_toml.specs.Values.{app_in, byte_in, device_in, each_in, flag_in, interrupt_in, items_in, members_in, number_in, region_in, some_text_in, table_of, task_in, text_in, text_of, texts_in, texts_of};
 
 use crate::keys::member;
 use crate::parts::{DeviceSpec, LineSpec, Parts, RegionSpec, TaskSpec};
@@ -62,6 +62,17 @@ fn text_in(alloc: Global, table: &Table, name: &str) -> Result<String, AllocErro
     match member(table, name) {
         Some(value) => String::from_str(alloc, text_of(value)),
         None => String::from_str(alloc, ""),
+    }
+}
+
+/// The text of a key that may be absent.
+fn some_text_in(alloc: Global, table: &Table, name: &str) -> Result<Option<String>, AllocError>
+    ensures { IfOk result (λ s. option_map string_bytes s
+        ≡ some_text_in name.now (table_view table.now)) }
+{
+    match member(table, name) {
+        Some(value) => Ok(Some(String::from_str(alloc, text_of(value))?)),
+        None => Ok(None),
     }
 }
 
@@ -198,10 +209,12 @@ impl Row for LineSpec {
     fn in_table(alloc: Global, table: &Table) -> Result<LineSpec, AllocError> {
         let task = text_in(alloc, table, "task")?;
         let notification = text_in(alloc, table, "notification")?;
+        let device = some_text_in(alloc, table, "device")?;
         Ok(LineSpec {
             line: byte_in(table, "line"),
             task,
             notification,
+            device,
         })
     }
 }

@@ -1,7 +1,7 @@
 -- The sample of a seed: an application of a supervisor t0, the servers t1 to t7 and the clients t8 to
 -- t31, their programs, and a script. Draws are taken in this order: one for each server, five for each
 -- client, two for each event.
-use Rattle.std.specs.Prelude.{ℕ, true, List, [], ◌∷◌, ◌++◌, ◌+◌, ◌-◌, ◌*◌, ◌==◌, nat_lt, if◌then◌else◌, map, codes, decimal, Some}
+use Rattle.std.specs.Prelude.{ℕ, true, List, [], ◌∷◌, ◌++◌, ◌+◌, ◌-◌, ◌*◌, ◌==◌, nat_lt, if◌then◌else◌, map, codes, decimal, Some, None}
 use Rattle.std.specs.List.{range_with_len}
 use Rattle.app_toml.specs.Apps.{AppData, InterruptData, TaskData}
 use Rattle.app_toml.specs.Places.{Text}
@@ -66,9 +66,9 @@ task_with i priority = record {
 abbrev pub task_by : (ℕ → ℕ) → ℕ → TaskData
 task_by priority i = task_with i (if i == 0 then 0 else if nat_lt i 8 then 1 else priority i)
 
--- line k is that of server t(k + 1)
+-- line k is that of server t(k + 1), and no device drives it
 abbrev pub line_of : ℕ → InterruptData
-line_of k = record { line = k; task = task_name (k + 1); notification = codes "go" }
+line_of k = record { line = k; task = task_name (k + 1); notification = codes "go"; device = None }
 
 abbrev pub app_by : (ℕ → ℕ) → AppData
 app_by priority = record {

@@ -19,6 +19,7 @@ fn interrupt(alloc: Global, line: u8) -> Result<LineSpec, AllocError>
         line,
         task,
         notification,
+        device: None,
     })
 }
 

@@ -1,8 +1,6 @@
-use Rattle.std.proofs.Common.{◌≡◌, ◌∙◌, true, false, cond, Some, ap, is_some, map, string_bytes, subst, sym}
+use Rattle.std.proofs.Common.{◌≡◌, ◌∙◌, true, false, cond, Some, is_some, string_bytes, subst, sym}
 use Rattle.std.specs.BTreeMap.{get_by_text}
-use Rattle.std.specs.BTreeSet.{contains_text}
 use Rattle.std.specs.Str.{bytes_eq}
-use Rattle.app_toml.specs.Crossed.{is_among}
 use Rattle.std.proofs.lemmas.Map.Text.{btree_map_updates_text}
 use Rattle.app_toml.specs.Sites.{task_of}
 use Rattle.app_toml.proofs.Gathered.{kept_added, kept_again, kept_is}
@@ -22,9 +20,8 @@ returns c = λ tasks keeps name.
     let absent : is_some (get_by_text c.args.kept.now own) ≡ false =
     subst (λ k. is_some (get_by_text c.args.kept.now k) ≡ false) c.as_str.ensures.value (sym c.contains_key.ensures ∙ c.if-contains_key.false) in
     let key : string_bytes c.in_ok-from_str.field-0 ≡ own = c.in_ok-from_str.ensures.ok ∙ c.as_str-2.ensures.value in
-    kept_added (get_by_text c.args.kept.now) (get_by_text c.insert.new.self) c.in_ok-bits.bits name tasks (task_of c.args.task.now)
-    (subst (λ k. (q : _) → get_by_text c.insert.new.self q ≡ cond (bytes_eq k q) (Some c.in_ok-bits.bits) (get_by_text c.args.kept.now q)) key
-    (btree_map_updates_text (string_bytes c.in_ok-from_str.field-0) c.args.kept.now c.insert.new.self (Some c.in_ok-bits.bits) c.in_ok-insert.ensures.updates))
+    kept_added (get_by_text c.args.kept.now) (get_by_text c.insert.new.self) c.in_ok-names.names name tasks (task_of c.args.task.now)
+    (subst (λ k. (q : _) → get_by_text c.insert.new.self q ≡ cond (bytes_eq k q) (Some c.in_ok-names.names) (get_by_text c.args.kept.now q)) key
+    (btree_map_updates_text (string_bytes c.in_ok-from_str.field-0) c.args.kept.now c.insert.new.self (Some c.in_ok-names.names) c.in_ok-insert.ensures.updates))
     (sym (kept_is (get_by_text c.args.kept.now own) own tasks (keeps own)) ∙ absent)
-    (subst (λ ns. (bit : _) → contains_text c.in_ok-bits.bits bit ≡ is_among bit ns) (ap (map string_bytes) c.as_slice.ensures.value) c.in_ok-bits.ensures)
-    (keeps name)
+    c.in_ok-names.ensures (keeps name)
