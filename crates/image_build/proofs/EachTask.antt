@@ -1,6 +1,6 @@
 -- The tasks that are built: each is one that no step refuses.
 use Rattle.std.proofs.Common.{◌≡◌, ◌∙◌, ℕ, zero, suc, Bool, true, false, ◌+◌, ◌%◌, ◌≤◌, ◌<◌, List, [], ◌∷◌, length, get_or, map, length-append, refl, ap, subst, arith}
-use Rattle.std.proofs.lemmas.List.{length-map}
+use Rattle.std.proofs.lemmas.List.{get_or-map, length-map}
 use Rattle.app_toml.specs.Accepted.{IsAccepted}
 use Rattle.app_toml.specs.Apps.{AppData, TaskData}
 use Rattle.app_toml.specs.Relations.{Relations}
@@ -14,6 +14,9 @@ use Rattle.image_build.proofs.Naming.{ram_count, ram_size}
 use Rattle.image_build.proofs.Planning.{flash_count, flash_size}
 use Rattle.image_build.proofs.Rounding.{fours}
 use Rattle.image_build.proofs.Walking.{Each, IsGood, blank}
+
+abbrev pub no_built : ImageTask
+no_built = record { priority = 0; started = false; entry = 0; sp = 0; regions = []; names = [] }
 
 pub at_zero : (P : ℕ → Type 0) (i : ℕ) → P i → P (0 + i)
 at_zero P i h = let e : i ≡ 0 + i = omega arith in subst P e h
@@ -34,13 +37,18 @@ pub built_count : (app : AppData) (k : ℕ) (ts : List TaskData) → length (tas
 built_count app k [] = refl
 built_count app k (t ∷ ts) = omega (arith, built_count app (k + 1) ts)
 
+pub task_built_at : (app : AppData) (k : ℕ) (ts : List TaskData) (i : ℕ) (d : ImageTask) → i < length ts
+    → get_or (tasks_from app k ts) i d ≡ task_built app (k + i) (get_or ts i no_task)
+task_built_at app k [] i d lt = absurd (omega (arith, lt))
+task_built_at app k (t ∷ ts) zero d lt = let here : k ≡ k + 0 = omega arith in ap (λ (n : ℕ). task_built app n t) here
+task_built_at app k (t ∷ ts) (suc i) d lt =
+    let next : (k + 1) + i ≡ k + suc i = omega arith in
+    task_built_at app (k + 1) ts i d (omega (arith, lt)) ∙ ap (λ (n : ℕ). task_built app n (get_or ts i no_task)) next
+
 pub built_at : (app : AppData) (k : ℕ) (ts : List TaskData) (i : ℕ) → i < length ts
     → get_or (map task_record (tasks_from app k ts)) i blank ≡ task_record (task_built app (k + i) (get_or ts i no_task))
-built_at app k [] i lt = absurd (omega (arith, lt))
-built_at app k (t ∷ ts) zero lt = let here : k ≡ k + 0 = omega arith in ap (λ (n : ℕ). task_record (task_built app n t)) here
-built_at app k (t ∷ ts) (suc i) lt =
-    let next : (k + 1) + i ≡ k + suc i = omega arith in
-    built_at app (k + 1) ts i (omega (arith, lt)) ∙ ap (λ (n : ℕ). task_record (task_built app n (get_or ts i no_task))) next
+built_at app k ts i lt =
+    get_or-map task_record (tasks_from app k ts) i no_built blank (omega (arith, lt, built_count app k ts)) ∙ ap task_record (task_built_at app k ts i no_built lt)
 
 pub region_count : (app : AppData) (i : ℕ) (t : TaskData) → length (task_regions app i t) ≡ 2 + length t.uses + length t.reads
 region_count app i t = omega (

@@ -1,12 +1,12 @@
 -- Names that are found, and lists that grow.
-use Rattle.std.proofs.Common.{◌≡◌, ◌∙◌, ℕ, suc, true, false, ◌+◌, ◌-◌, ◌≤◌, ◌<◌, List, [], ◌∷◌, ◌++◌, append_assoc, codes, drop, drop-cons, length, get_or, map, length-append, string_bytes, refl, sym, ap, subst, arith, inl, inr}
+use Rattle.std.proofs.Common.{◌≡◌, ◌∙◌, ℕ, suc, true, false, ◌+◌, ◌-◌, ◌≤◌, ◌<◌, List, [], ◌∷◌, ◌++◌, append_assoc, codes, drop, drop-cons, length, get_or, map, length-append, Global, String, string_bytes, refl, sym, ap, subst, arith, inl, inr}
 use Rattle.std.specs.List.{flat_map, range_with_len}
 use Rattle.std.specs.Str.{bytes_eq}
 use Rattle.std.proofs.lemmas.Bool.{cases_Bool}
 use Rattle.std.proofs.lemmas.List.{append-nil, get_or-map, length-map, map-append}
 use Rattle.app_toml.specs.Accepted.{IsAccepted, IsTask}
 use Rattle.app_toml.specs.Apps.{AppData, InterruptData, TaskData}
-use Rattle.app_toml.specs.Crossed.{has_task, is_among, notifications_of}
+use Rattle.app_toml.specs.Crossed.{areas_of, has_task, is_among, notifications_of}
 use Rattle.app_toml.specs.Places.{Text}
 use Rattle.app_toml.specs.Sites.{interrupt_of, region_of, task_of}
 use Rattle.app_toml.specs.declared.parts.LineSpec.{LineSpec}
@@ -18,7 +18,7 @@ use Rattle.image_format.specs.declared.records.TaskRecord.{TaskRecord}
 use Rattle.thumb_asm.specs.Meaning.{Names}
 use Rattle.image_build.specs.Building.{IsOwned}
 use Rattle.image_build.specs.Built.{task_built}
-use Rattle.image_build.specs.Layout.{flash_base, index_from, named, no_task, ram_base, region_base, task_at, task_regions}
+use Rattle.image_build.specs.Layout.{flash_base, index_from, index_of, named, no_task, ram_base, region_base, task_at, task_regions}
 use Rattle.image_build.specs.Symbols.{region_symbols}
 use Rattle.image_build.proofs.Known.{few_notes, few_regions, owned}
 
@@ -31,12 +31,60 @@ among_below k name (n ∷ ns) e = elim (cases_Bool (bytes_eq n name)) [
   | inr miss ↦ let rest : is_among name ns ≡ true = rw miss at e in rw miss (omega (arith, among_below (k + 1) name ns rest))
 ]
 
+pub place_most : (k : ℕ) (name : Text) (names : List Text) → index_from k name names ≤ k + length names
+place_most k name [] = omega arith
+place_most k name (n ∷ ns) = elim (cases_Bool (bytes_eq n name)) [
+  | inl hit ↦ rw hit (omega arith)
+  | inr miss ↦ rw miss (omega (arith, place_most (k + 1) name ns))
+]
+
 pub task_below : (k : ℕ) (name : Text) (ts : List TaskData) → has_task name ts ≡ true → index_from k name (map (λ t. t.name) ts) < k + length ts
 task_below k name [] e = cc
 task_below k name (t ∷ ts) e = elim (cases_Bool (bytes_eq t.name name)) [
   | inl hit ↦ rw hit (omega arith)
   | inr miss ↦ let rest : has_task name ts ≡ true = rw miss at e in rw miss (omega (arith, task_below (k + 1) name ts rest))
 ]
+
+-- ---- a name in two lists, the second behind the first
+
+place_first : (k : ℕ) (name : Text) (xs ys : List Text) → index_from k name xs < k + length xs → index_from k name xs ≡ index_from k name (xs ++ ys)
+place_first k name [] ys lt = absurd (omega (arith, lt))
+place_first k name (x ∷ xs) ys lt = elim (cases_Bool (bytes_eq x name)) [
+  | inl hit ↦ rw hit refl
+  | inr miss ↦
+      let rest : index_from (k + 1) name xs < k + suc (length xs) = rw miss at lt in
+      rw miss (place_first (k + 1) name xs ys (omega (arith, rest)))
+]
+
+place_behind : (k : ℕ) (name : Text) (xs ys : List Text) → k + length xs ≤ index_from k name xs → index_from (k + length xs) name ys ≡ index_from k name (xs ++ ys)
+place_behind k name [] ys le = let same : k + 0 ≡ k = omega arith in rw same refl
+place_behind k name (x ∷ xs) ys le = elim (cases_Bool (bytes_eq x name)) [
+  | inl hit ↦ let here : k + suc (length xs) ≤ k = rw hit at le in absurd (omega (arith, here))
+  | inr miss ↦
+      let rest : k + suc (length xs) ≤ index_from (k + 1) name xs = rw miss at le in
+      let same : k + suc (length xs) ≡ (k + 1) + length xs = omega arith in
+      rw miss (ap (λ (n : ℕ). index_from n name ys) same ∙ place_behind (k + 1) name xs ys (omega (arith, rest)))
+]
+
+place_later : (m k : ℕ) (name : Text) (names : List Text) → index_from (m + k) name names ≡ m + index_from k name names
+place_later m k name [] = refl
+place_later m k name (n ∷ ns) = elim (cases_Bool (bytes_eq n name)) [
+  | inl hit ↦ rw hit refl
+  | inr miss ↦ let same : (m + k) + 1 ≡ m + (k + 1) = omega arith in
+      rw miss (ap (λ (i : ℕ). index_from i name ns) same ∙ place_later m (k + 1) name ns)
+]
+
+pub in_first : (name : Text) (xs ys : List Text) → index_of name xs < length xs → index_of name xs ≡ index_of name (xs ++ ys)
+in_first name xs ys lt = place_first 0 name xs ys (omega (arith, lt))
+
+pub in_second : (name : Text) (xs ys : List Text) → length xs ≤ index_of name xs → index_of name xs + index_of name ys ≡ index_of name (xs ++ ys)
+in_second name xs ys le =
+    let past : index_of name xs ≡ length xs = omega (arith, le, place_most 0 name xs) in
+    let from : length xs + 0 ≡ 0 + length xs = omega arith in
+    ap (λ (n : ℕ). n + index_of name ys) past ∙ sym (place_later (length xs) 0 name ys)
+    ∙ ap (λ (n : ℕ). index_from n name ys) from ∙ place_behind 0 name xs ys (omega (arith, le))
+
+-- ---- how many
 
 few_of : (name : Text) (ts : List TaskData) → ((i : ℕ) → i < length ts → length (get_or ts i no_task).notifications ≤ 32) → length (notifications_of name ts) ≤ 32
 few_of name [] each = omega arith
@@ -48,10 +96,33 @@ few_of name (t ∷ ts) each = elim (cases_Bool (bytes_eq t.name name)) [
 pub owner_notes : (app : AppData) → IsAccepted app → (name : Text) → length (notifications_of name app.tasks) ≤ 32
 owner_notes app a name = few_of name app.tasks (few_notes app a)
 
+few_areas : (name : Text) (ts : List TaskData) → ((i : ℕ) → i < length ts → length (get_or ts i no_task).uses + length (get_or ts i no_task).reads ≤ 6)
+    → length (areas_of name ts) ≤ 6
+few_areas name [] each = omega arith
+few_areas name (t ∷ ts) each = elim (cases_Bool (bytes_eq t.name name)) [
+  | inl hit ↦ rw hit (omega (arith, length-append t.uses t.reads, each 0 (omega arith)))
+  | inr miss ↦ rw miss (few_areas name ts (λ i lt. each (suc i) (omega (arith, lt))))
+]
+
+pub owner_areas : (app : AppData) → IsAccepted app → (name : Text) → length (areas_of name app.tasks) ≤ 6
+owner_areas app a name = few_areas name app.tasks (few_regions app a)
+
 -- ---- of the code's lists
 
 pub same_count : {A : Type 0} → {B : Type 0} → (f : A → B) (xs : List A) (ys : List B) → map f xs ≡ ys → length xs ≡ length ys
 same_count f xs ys e = sym (length-map xs f) ∙ ap length e
+
+-- what a task uses and what it reads
+pub few_in_two : (app : AppData) → IsAccepted app → (name : Text) (ts : List TaskData) (uses reads : List (String Global)) → ts ≡ app.tasks
+    → map string_bytes uses ++ map string_bytes reads ≡ areas_of name ts → length uses + length reads ≤ 6
+few_in_two app a name ts uses reads same is = omega (
+  arith,
+  length-map uses string_bytes,
+  length-map reads string_bytes,
+  length-append (map string_bytes uses) (map string_bytes reads),
+  ap length (is ∙ ap (areas_of name) same),
+  owner_areas app a name,
+)
 
 pub owned_in : (app : AppData) (xs : List LineSpec) → IsAccepted app → map interrupt_of xs ≡ app.interrupts
     → (k : ℕ) (d : LineSpec) → k < length xs → IsOwned app (interrupt_of (get_or xs k d))

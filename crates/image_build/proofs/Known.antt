@@ -1,10 +1,11 @@
 -- What an accepted description says of its parts.
-use Rattle.std.proofs.Common.{◌≡◌, ℕ, zero, suc, true, not, ◌+◌, ◌≤◌, ◌<◌, ◌||◌, ◌==◌, List, [], ◌∷◌, codes, Option, None, length, get_or, nat_lt, arith}
+use Rattle.std.proofs.Common.{◌≡◌, ℕ, zero, suc, true, not, ◌+◌, ◌≤◌, ◌<◌, ◌||◌, ◌==◌, List, [], ◌∷◌, codes, Option, None, Some, length, get_or, nat_lt, arith}
+use Rattle.std.specs.Prelude.{IfSome}
 use Rattle.std.proofs.lemmas.Bool.{ltb-false, not-false}
 use Rattle.app_toml.specs.Accepted.{IsAccepted}
 use Rattle.app_toml.specs.Apps.{AppData, InterruptData, TaskData}
-use Rattle.app_toml.specs.Crossed.{count_fault, has_device, has_region, has_task, is_among, line_fault, name_twice, notification_count, notifications_of, region_count, start_fault, task_count, task_site, unknown_bit, unknown_entry, unknown_fault_bit, unknown_name, unknown_owner, unknown_region}
-use Rattle.app_toml.specs.Places.{Refusal, first_fault, refuse_if}
+use Rattle.app_toml.specs.Crossed.{count_fault, has_device, has_region, has_task, is_among, is_device_of, line_fault, name_twice, notification_count, notifications_of, region_count, start_fault, task_count, task_site, unknown_bit, unknown_device, unknown_entry, unknown_fault_bit, unknown_line_device, unknown_name, unknown_owner, unknown_region}
+use Rattle.app_toml.specs.Places.{Refusal, Text, first_fault, refuse_if}
 use Rattle.image_build.specs.Building.{IsKnown, IsOwned}
 use Rattle.image_build.specs.Layout.{no_task, task_at}
 use Rattle.app_toml.proofs.Passed.{both_none, not_refused}
@@ -74,8 +75,9 @@ pub used_known : (app : AppData) → IsAccepted app → (i : ℕ) → i < length
 used_known app a i lt j below =
     let u = both_none (first_fault (unknown_owner app.tasks) 0 app.interrupts) _ (groups app a).unknown in
     let v = both_none (unknown_fault_bit app.fault app.tasks) _ u.1 in
-    let w = both_none (first_fault (unknown_bit app.tasks) 0 app.interrupts) (first_fault (unknown_region app.regions app.devices) 0 app.tasks) v.1 in
-    let e = each_none (unknown_region app.regions app.devices) 0 app.tasks i no_task lt w.1 in
+    let w = both_none (first_fault (unknown_bit app.tasks) 0 app.interrupts) _ v.1 in
+    let x = both_none (first_fault (unknown_region app.regions app.devices) 0 app.tasks) _ w.1 in
+    let e = each_none (unknown_region app.regions app.devices) 0 app.tasks i no_task lt x.0 in
     let f = both_none (first_fault (unknown_entry app.regions app.devices (task_site (0 + i) (codes "uses"))) 0 (task_at app i).uses) _ e in
     let g = each_none (unknown_entry app.regions app.devices (task_site (0 + i) (codes "uses"))) 0 (task_at app i).uses j [] below f.0 in
     not-false _ (not_refused (not (has_region (get_or (task_at app i).uses j []) app.regions || has_device (get_or (task_at app i).uses j []) app.devices)) _ _ g)
@@ -85,22 +87,32 @@ pub read_known : (app : AppData) → IsAccepted app → (i : ℕ) → i < length
 read_known app a i lt j below =
     let u = both_none (first_fault (unknown_owner app.tasks) 0 app.interrupts) _ (groups app a).unknown in
     let v = both_none (unknown_fault_bit app.fault app.tasks) _ u.1 in
-    let w = both_none (first_fault (unknown_bit app.tasks) 0 app.interrupts) (first_fault (unknown_region app.regions app.devices) 0 app.tasks) v.1 in
-    let e = each_none (unknown_region app.regions app.devices) 0 app.tasks i no_task lt w.1 in
+    let w = both_none (first_fault (unknown_bit app.tasks) 0 app.interrupts) _ v.1 in
+    let x = both_none (first_fault (unknown_region app.regions app.devices) 0 app.tasks) _ w.1 in
+    let e = each_none (unknown_region app.regions app.devices) 0 app.tasks i no_task lt x.0 in
     let f = both_none (first_fault (unknown_entry app.regions app.devices (task_site (0 + i) (codes "uses"))) 0 (task_at app i).uses) _ e in
     let g = each_none (unknown_entry app.regions app.devices (task_site (0 + i) (codes "reads"))) 0 (task_at app i).reads j [] below f.1 in
     not-false _ (not_refused (not (has_region (get_or (task_at app i).reads j []) app.regions || has_device (get_or (task_at app i).reads j []) app.devices)) _ _ g)
 
+its_device : (app : AppData) (k : ℕ) (task : Text) (device : Option Text) → unknown_device app.tasks app.devices k task device ≡ None
+    → IfSome device (λ name. is_device_of app.tasks app.devices task name ≡ true)
+its_device app k task None e = tt
+its_device app k task (Some name) e = not-false _ (not_refused (not (is_device_of app.tasks app.devices task name)) _ _ e)
+
 pub owned : (app : AppData) → IsAccepted app → (k : ℕ) (d : InterruptData) → k < length app.interrupts → IsOwned app (get_or app.interrupts k d)
 owned app a k d lt =
+    let i = get_or app.interrupts k d in
     let u = both_none (first_fault (unknown_owner app.tasks) 0 app.interrupts) _ (groups app a).unknown in
     let v = both_none (unknown_fault_bit app.fault app.tasks) _ u.1 in
     let w = both_none (first_fault (unknown_bit app.tasks) 0 app.interrupts) _ v.1 in
+    let x = both_none (first_fault (unknown_region app.regions app.devices) 0 app.tasks) _ w.1 in
     let e = each_none (unknown_owner app.tasks) 0 app.interrupts k d lt u.0 in
     let f = each_none (unknown_bit app.tasks) 0 app.interrupts k d lt w.0 in
+    let g = each_none (unknown_line_device app.tasks app.devices) 0 app.interrupts k d lt x.1 in
     record {
-      owner = not-false _ (not_refused (not (has_task (get_or app.interrupts k d).task app.tasks)) _ _ e);
-      bit = not-false _ (not_refused (not (is_among (get_or app.interrupts k d).notification (notifications_of (get_or app.interrupts k d).task app.tasks))) _ _ f);
+      owner = not-false _ (not_refused (not (has_task i.task app.tasks)) _ _ e);
+      bit = not-false _ (not_refused (not (is_among i.notification (notifications_of i.task app.tasks))) _ _ f);
+      device = its_device app (0 + k) i.task i.device g;
     }
 
 pub fault_known : (app : AppData) → IsAccepted app → is_among app.fault (task_at app 0).notifications ≡ true

@@ -1,3 +1,4 @@
+pub mod EachDevice
 pub mod EachLine
 pub mod EachName
 pub mod EachRegion

@@ -23,7 +23,7 @@ use Rattle.image_build.proofs.Walking.{Each, Pairs, each_append}
 
 -- ---- what is found by its name
 
-found : {T : Type 0} (name_of : T → Text) (k : ℕ) (name : Text) (xs : List T) → list_any (λ x. bytes_eq (name_of x) name) xs ≡ true
+pub found : {T : Type 0} (name_of : T → Text) (k : ℕ) (name : Text) (xs : List T) → list_any (λ x. bytes_eq (name_of x) name) xs ≡ true
     → (j : ℕ) × (j < length xs) × (index_from k name (map name_of xs) ≡ k + j) × ((d : T) → name_of (get_or xs j d) ≡ name)
 found name_of k name [] e = cc
 found name_of k name (x ∷ xs) e = elim (cases_Bool (bytes_eq (name_of x) name)) [

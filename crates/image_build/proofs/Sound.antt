@@ -7,7 +7,7 @@ use Rattle.app_toml.specs.Relations.{Relations}
 use Rattle.image_format.specs.Names.{names_fault}
 use Rattle.image_format.specs.ImageData.{ImageData, Sound, ImageTask, all_names, all_regions, header_of, line_record, records_of, region_record, task_record}
 use Rattle.image_format.specs.Records.{records_fault}
-use Rattle.image_format.specs.Regions.{entries_fault, regions_fault}
+use Rattle.image_format.specs.Regions.{entries_fault, line_devices_fault, regions_fault}
 use Rattle.image_format.specs.Steps.{count_fault, field_fault, lines_fault, lines_from, lines_place, tasks_fault}
 use Rattle.image_format.proofs.Named.{names_pass}
 use Rattle.image_format.specs.declared.records.ImageForm.TheVariants.{Second}
@@ -23,7 +23,8 @@ use Rattle.image_build.proofs.Known.{few_regions, few_tasks, some_task}
 use Rattle.image_build.proofs.Planning.{flash_count, flash_end, flash_most}
 use Rattle.image_build.proofs.Rounding.{some_size}
 use Rattle.image_build.proofs.Spots.{fine, no_cut, ram_most}
-use Rattle.image_build.proofs.Walking.{Each, HasOwn, IsGood, Runs, both, counted_all, counted_none, entries_none, fields_none, regions_none, tasks_none}
+use Rattle.image_build.proofs.Walking.{Each, HasOwn, IsGood, Runs, both, counted_all, counted_none, entries_none, fields_none, line_devices_none, regions_none, tasks_none}
+use Rattle.image_build.proofs.EachDevice.{devices_drive}
 use Rattle.image_build.proofs.EachLine.{at_most, few_lines, lines_none}
 use Rattle.image_build.proofs.EachName.{all_short, are_names}
 use Rattle.image_build.proofs.EachRegion.{LiesSomewhere, has_own, runs}
@@ -104,8 +105,10 @@ records_none app layout l a r flash whole =
     let lines : lines_fault h (map line_record (lines_built app)) ≡ None =
     subst (λ (n : ℕ). lines_from Second 0 n (lines_place h) (map line_record (lines_built app)) ≡ None) (sym (built_count app 0 app.tasks))
     (lines_none (lines_at app) (length app.tasks) (at_most app a r) 64 0 0 (lines_place h) (omega arith) (omega arith)) in
+    let devices : line_devices_fault h (map task_record ts) all (map line_record (lines_built app)) ≡ None =
+    line_devices_none (map task_record ts) all (lines_place h) (lines_built app) (devices_drive app a r) in
     let names : names_fault h (map task_record ts) (all_names ts) ≡ None = names_pass p (are_names app a r) in
-    both _ _ tasks (both _ _ count (both _ _ regions (both _ _ entries (both _ _ lines names))))
+    both _ _ tasks (both _ _ count (both _ _ regions (both _ _ entries (both _ _ lines (both _ _ devices names)))))
 
 pub sound_built : (app : AppData) (layout : Layout) → IsLaid app layout → IsAccepted app → Relations app → (flash : List ℕ) → length flash ≡ flash_needed app
     → Sound (image_data_built app flash)

@@ -6,7 +6,7 @@ use Rattle.std.proofs.lemmas.Bool.{and_left, and_right, cases_eq, eq-eqb, le-ltb
 use Rattle.std.proofs.lemmas.List.Folds.{list_any-append}
 use Rattle.std.proofs.lemmas.List.Sums.{sum_by-cons}
 use Rattle.image_format.specs.ImageData.{ImageLine, ImageTask, all_regions, line_record, region_record, task_record}
-use Rattle.image_format.specs.Regions.{clashes, cuts, entries_from, entry_fault, has_area, has_rights, has_shape, meets, own_fault, region_fault, regions_from, runs_at}
+use Rattle.image_format.specs.Regions.{clashes, cuts, entries_from, entry_fault, has_area, has_rights, has_shape, line_device_fault, line_devices_from, may_drive, meets, own_fault, own_regions, region_fault, regions_from, runs_at}
 use Rattle.image_format.specs.Steps.{Refusal, count_fault, counted, line_fault, or_else, second_field_fault, task_fault, tasks_from}
 use Rattle.image_format.specs.declared.records.ImageForm.TheVariants.{Second}
 use Rattle.image_format.specs.declared.records.Header.{Header}
@@ -210,6 +210,7 @@ pub record IsOf (line tasks : ℕ) (l : ImageLine) : Type 0 where
   pub is : l.line ≡ line
   pub owner : l.task < tasks
   pub bits : 0 < l.bits
+  pub device : l.device ≤ 8
 
 pub line_none : (least tasks line : ℕ) (l : ImageLine) (place : ℕ) → least ≤ line → line < 64 → IsOf line tasks l → line_fault Second least tasks (line_record l) place ≡ None
 line_none least tasks line l place low high g =
@@ -217,4 +218,17 @@ line_none least tasks line l place low high g =
     let line_low = le-ltb l.line least (omega (arith, g.is, low)) in
     let owner = lt-leb tasks l.task g.owner in
     let bits = above_zero l.bits g.bits in
-    rw (line_high, line_low, owner, bits) refl
+    let device = le-ltb 8 l.device g.device in
+    rw (line_high, line_low, device, owner, bits) refl
+
+-- ---- the devices that drive lines
+
+line_device_none : (own : List RegionRecord) (l : ImageLine) (place : ℕ) → may_drive own l.device ≡ true → line_device_fault own (line_record l) place ≡ None
+line_device_none own l place drives = rw drives refl
+
+pub line_devices_none : (ts : List TaskRecord) (rs : List RegionRecord) (place : ℕ) (ls : List ImageLine) → Each (λ l. may_drive (own_regions ts rs l.task) l.device ≡ true) ls
+    → line_devices_from ts rs place (map line_record ls) ≡ None
+line_devices_none ts rs place [] each = refl
+line_devices_none ts rs place (l ∷ ls) each =
+    both (line_device_fault (own_regions ts rs l.task) (line_record l) place) (line_devices_from ts rs (place + 8) (map line_record ls))
+    (line_device_none (own_regions ts rs l.task) l place each.0) (line_devices_none ts rs (place + 8) ls each.1)

@@ -1,16 +1,35 @@
 //! The interrupts, ascending by line.
 
 ghost use Rattle.std.specs.Prelude.{◌≡◌, ◌++◌, ◌==◌, All, filter, map, IfOk, OnOk};
+ghost use Rattle.app_toml.specs.Crossed.{areas_of};
 ghost use Rattle.app_toml.specs.Held.{app_of};
 ghost use Rattle.app_toml.specs.Sites.{interrupt_of};
 ghost use Rattle.image_format.specs.ImageData.{line_record};
 ghost use Rattle.image_build.specs.Building.{IsOwned};
-ghost use Rattle.image_build.specs.Built.{line_built, lines_built};
+ghost use Rattle.image_build.specs.Built.{device_number, line_built, lines_built};
 
-use crate::names::{bit_of, notifications_of, task_place};
+use crate::names::{areas_of, bit_of, notifications_of, place_in_two, task_place};
 use app_toml::{App, LineSpec};
 use image_format::LineRecord;
 use std::alloc::{AllocError, Global};
+
+/// The number of the device's region among those of the interrupt's task, counted from one; 0 if no
+/// device drives the line. The task's flash and its RAM come first.
+fn device_number(app: &App, interrupt: &LineSpec) -> u16
+    ensures { result ≡ device_number
+        (areas_of (interrupt_of interrupt.now).task (app_of app.now).tasks)
+        (interrupt_of interrupt.now).device }
+{
+    app.facts();
+    match &interrupt.device {
+        None => 0,
+        Some(device) => {
+            let (uses, reads) = areas_of(interrupt.task.as_str(), app.tasks());
+            let place = place_in_two(device.as_str(), uses, reads);
+            3 + place as u16
+        }
+    }
+}
 
 fn line_record(app: &App, interrupt: &LineSpec) -> LineRecord
     requires { IsOwned (app_of app.now) (interrupt_of interrupt.now) }
@@ -22,7 +41,7 @@ fn line_record(app: &App, interrupt: &LineSpec) -> LineRecord
     LineRecord {
         line: interrupt.line,
         task: task_place(owner, tasks) as u16,
-        zero: 0,
+        device: device_number(app, interrupt),
         bits: bit_of(
             interrupt.notification.as_str(),
             notifications_of(owner, tasks),

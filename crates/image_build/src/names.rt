@@ -1,7 +1,7 @@
 //! Looks up what names refer to.
 
-ghost use Rattle.std.specs.Prelude.{◌≡◌, ◌≤◌, ◌<◌, ◌^◌, length, map, string_bytes, true};
-ghost use Rattle.app_toml.specs.Crossed.{is_among, notifications_of};
+ghost use Rattle.std.specs.Prelude.{◌≡◌, ◌≤◌, ◌<◌, ◌+◌, ◌^◌, ◌++◌, length, map, string_bytes, true};
+ghost use Rattle.app_toml.specs.Crossed.{areas_of, is_among, notifications_of};
 ghost use Rattle.app_toml.specs.Sites.{device_of, region_of, task_of};
 ghost use Rattle.image_build.specs.Built.{bit_of};
 ghost use Rattle.image_build.specs.Layout.{index_of};
@@ -18,6 +18,22 @@ fn place_of(name: &str, names: &[String]) -> usize
         }
     }
     names.len()
+}
+
+/// The index of a name in two lists, the second behind the first, or the length of both if it is in
+/// neither.
+pub(crate) fn place_in_two(name: &str, first: &[String], second: &[String]) -> usize
+    requires { length first.now + length second.now ≤ 6 }
+    ensures place { result ≡ index_of name.now
+        (map string_bytes first.now ++ map string_bytes second.now) }
+    ensures most { result ≤ 6 }
+{
+    let place = place_of(name, first);
+    if place < first.len() {
+        place
+    } else {
+        place + place_of(name, second)
+    }
 }
 
 pub(crate) fn task_place(name: &str, tasks: &[TaskSpec]) -> usize
@@ -79,4 +95,17 @@ pub(crate) fn notifications_of<'a>(name: &str, tasks: &'a [TaskSpec]) -> &'a [St
         }
     }
     &[]
+}
+
+/// What the first task of that name uses, and what it reads; nothing if there is no such task.
+pub(crate) fn areas_of<'a>(name: &str, tasks: &'a [TaskSpec]) -> (&'a [String], &'a [String])
+    ensures { map string_bytes result.0.now ++ map string_bytes result.1.now
+        ≡ areas_of name.now (map task_of tasks.now) }
+{
+    for task in tasks {
+        if task.name.as_str() == name {
+            return (task.uses.as_slice(), task.reads.as_slice());
+        }
+    }
+    (&[], &[])
 }
