@@ -26,8 +26,8 @@ pub struct TaskStart {
     pub regions: Vec<Region>,
 }
 
-/// The task that owns an interrupt line, the bits that are posted to it, and the first address of the
-/// device that drives the line: 0, where no device is, if none does.
+/// The task that owns an interrupt line, the bits that are posted to it, and the first address of
+/// the device that drives the line: 0, where no device is, if none does.
 #[derive(Clone, Copy, Debug, PartialEq, Eq)]
 pub struct LineStart {
     pub line: u8,
