@@ -1,5 +1,5 @@
 -- The devices that drive the lines that are built: the region of each is one of the line's task, and a device's.
-use Rattle.std.proofs.Common.{◌≡◌, ◌≢◌, ◌∙◌, ℕ, zero, suc, Bool, true, false, ◌+◌, ◌≤◌, ◌<◌, ◌==◌, List, [], ◌∷◌, ◌++◌, Option, None, Some, filter, length, get_or, map, refl, sym, ap, subst, arith, inl, inr}
+use Rattle.std.proofs.Common.{◌≡◌, ◌≢◌, ◌∙◌, ℕ, zero, suc, Bool, true, false, ◌+◌, ◌<◌, ◌==◌, List, [], ◌∷◌, ◌++◌, Option, None, Some, filter, length, get_or, map, refl, sym, ap, subst, arith, inl, inr}
 use Rattle.std.specs.List.{flat_map, range_with_len, slice_get}
 use Rattle.std.specs.Prelude.{IfSome}
 use Rattle.std.specs.Str.{bytes_eq}
@@ -19,9 +19,8 @@ use Rattle.image_build.specs.Building.{IsOwned}
 use Rattle.image_build.specs.Built.{device_number, line_built, lines_at, lines_built, tasks_from}
 use Rattle.image_build.specs.Layout.{index_from, index_of, named, no_device, no_region, no_task, task_at, task_regions}
 use Rattle.image_build.proofs.EachTask.{built_count, no_built, task_built_at}
-use Rattle.image_build.proofs.Known.{owned}
-use Rattle.image_build.proofs.Naming.{each_from, found}
-use Rattle.image_build.proofs.Walking.{Each, each_append}
+use Rattle.image_build.proofs.Naming.{each_from, found, owned_all}
+use Rattle.image_build.proofs.Walking.{Each, each_append, each_weaker}
 
 -- ---- each line that is built
 
@@ -105,12 +104,14 @@ area_at app (u ∷ uses) reads (suc j) name lt is none = area_at app uses reads 
 
 -- ---- the device of each line
 
-abbrev pub MayDrive : AppData → ImageLine → Type 0
-MayDrive app l =
-    may_drive (own_regions (map task_record (tasks_from app 0 app.tasks)) (map region_record (all_regions (tasks_from app 0 app.tasks))) l.task) l.device ≡ true
+-- the regions of the i-th task
+abbrev pub own_at : AppData → ℕ → List RegionRecord
+own_at app i = own_regions (map task_record (tasks_from app 0 app.tasks)) (map region_record (all_regions (tasks_from app 0 app.tasks))) i
 
-regions_at : (app : AppData) (i : ℕ) → i < length app.tasks
-    → own_regions (map task_record (tasks_from app 0 app.tasks)) (map region_record (all_regions (tasks_from app 0 app.tasks))) i ≡ map region_record (task_regions app i (task_at app i))
+abbrev pub MayDrive : AppData → ImageLine → Type 0
+MayDrive app l = may_drive (own_at app l.task) l.device ≡ true
+
+regions_at : (app : AppData) (i : ℕ) → i < length app.tasks → own_at app i ≡ map region_record (task_regions app i (task_at app i))
 regions_at app i lt =
     let ts = tasks_from app 0 app.tasks in
     let below : i < length ts = omega (arith, lt, built_count app 0 app.tasks) in
@@ -127,30 +128,21 @@ place_among name names is =
 
 device_drives : (app : AppData) → HasNames app → (task : Text) (device : Option Text) → has_task task app.tasks ≡ true
     → IfSome device (λ name. is_device_of app.tasks app.devices task name ≡ true)
-    → may_drive (own_regions (map task_record (tasks_from app 0 app.tasks)) (map region_record (all_regions (tasks_from app 0 app.tasks))) (index_of task (map (λ t. t.name) app.tasks)))
-    (device_number (areas_of task app.tasks) device) ≡ true
+    → may_drive (own_at app (index_of task (map (λ t. t.name) app.tasks))) (device_number (areas_of task app.tasks) device) ≡ true
 device_drives app h task None there known = refl
 device_drives app h task (Some name) there known =
-    let ts = tasks_from app 0 app.tasks in
     let parts = and_parts (is_among name (areas_of task app.tasks)) (has_device name app.devices) known in
     let f = first_named 0 task app.tasks there in
     let t = task_at app f.at in
     let a = place_among name (t.uses ++ t.reads) (subst (λ (names : List Text). is_among name names ≡ true) f.areas parts.0) in
     let owner : index_of task (map (λ t. t.name) app.tasks) ≡ f.at = omega (arith, f.place) in
-    let own = ap (own_regions (map task_record ts) (map region_record (all_regions ts))) owner ∙ regions_at app f.at f.below in
     let place : index_of name (areas_of task app.tasks) ≡ a.0 = ap (index_of name) f.areas ∙ a.2 in
     let number : 3 + index_of name (areas_of task app.tasks) ≡ suc (suc (suc a.0)) = omega (arith, place) in
-    ap (λ (rs : List RegionRecord). may_drive rs (3 + index_of name (areas_of task app.tasks))) own
+    ap (λ (own : List RegionRecord). may_drive own (3 + index_of name (areas_of task app.tasks))) (ap (own_at app) owner ∙ regions_at app f.at f.below)
     ∙ ap (may_drive (map region_record (task_regions app f.at t))) number
     ∙ area_at app t.uses t.reads a.0 name a.1 a.3 (device_apart app h name parts.1)
 
 pub devices_drive : (app : AppData) → IsAccepted app → Relations app → Each (MayDrive app) (lines_built app)
 devices_drive app a r =
     each_line (MayDrive app) (lines_at app) (λ line. each_at app (MayDrive app) line app.interrupts
-    (each_from (λ i. MayDrive app (line_built app i)) no_interrupt app.interrupts (λ k lt. one (owned app a k no_interrupt lt)))) 64 0
-  where
-    no_interrupt : InterruptData
-    no_interrupt = record { line = 0; task = []; notification = []; device = None }
-
-    one : {i : InterruptData} → IsOwned app i → MayDrive app (line_built app i)
-    one {i} own = device_drives app r.names i.task i.device own.owner own.device
+    (each_weaker (IsOwned app) (λ i. MayDrive app (line_built app i)) (λ i own. device_drives app r.names i.task i.device own.owner own.device) app.interrupts (owned_all app a))) 64 0

@@ -14,8 +14,7 @@ use Rattle.image_format.specs.declared.records.ImageForm.TheVariants.{Second}
 use Rattle.image_build.specs.Building.{IsOwned}
 use Rattle.image_build.specs.Built.{device_number, line_built, lines_at}
 use Rattle.image_build.proofs.Finding.{among_below, owner_areas, task_below}
-use Rattle.image_build.proofs.Known.{owned}
-use Rattle.image_build.proofs.Naming.{each_from, pairs_from}
+use Rattle.image_build.proofs.Naming.{no_interrupt, owned_all, pairs_from}
 use Rattle.image_build.proofs.Walking.{Each, IsOf, Pairs, both, line_none}
 
 -- ---- interrupts
@@ -81,7 +80,4 @@ few_lines at tasks most (suc n) line = omega (arith, length-append (at line) (fl
 pub at_most : (app : AppData) → IsAccepted app → Relations app → (line : ℕ) → AtMost line (length app.tasks) (lines_at app line)
 at_most app a r line =
     one_line app a line app.interrupts (pairs_from (λ i j. i.line ≢ j.line) no_interrupt app.interrupts r.devices.lines)
-    (each_from (IsOwned app) no_interrupt app.interrupts (λ k lt. owned app a k no_interrupt lt))
-  where
-    no_interrupt : InterruptData
-    no_interrupt = record { line = 0; task = []; notification = []; device = None }
+    (owned_all app a)

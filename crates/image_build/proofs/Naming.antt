@@ -1,5 +1,5 @@
 -- Where the regions of a task lie, by their names, and that they are different places.
-use Rattle.std.proofs.Common.{◌≡◌, ◌≢◌, ◌∙◌, ℕ, suc, Bool, true, false, ◌+◌, ◌-◌, ◌≤◌, ◌<◌, ◌||◌, List, [], ◌∷◌, ◌++◌, length, get_or, map, length-append, refl, sym, ap, subst, arith, inl, inr}
+use Rattle.std.proofs.Common.{◌≡◌, ◌≢◌, ◌∙◌, ℕ, suc, Bool, true, false, ◌+◌, ◌-◌, ◌≤◌, ◌<◌, ◌||◌, List, [], ◌∷◌, ◌++◌, None, length, get_or, map, length-append, refl, sym, ap, subst, arith, inl, inr}
 use Rattle.std.specs.List.{list_any}
 use Rattle.std.specs.Prelude.{⊤, AllPairs, if◌then◌else◌}
 use Rattle.std.specs.Str.{bytes_eq}
@@ -7,16 +7,16 @@ use Rattle.std.proofs.lemmas.Bool.{cases_Bool}
 use Rattle.std.proofs.lemmas.List.{get_or-append-add, get_or-map, get_or_append_left, length-map, map-append}
 use Rattle.std.proofs.lemmas.Slice.Eq.{bytes_eq-Decides}
 use Rattle.app_toml.specs.Accepted.{IsAccepted}
-use Rattle.app_toml.specs.Apps.{AppData, DeviceData, RegionData, TaskData}
+use Rattle.app_toml.specs.Apps.{AppData, DeviceData, InterruptData, RegionData, TaskData}
 use Rattle.app_toml.specs.Crossed.{has_device, has_region}
 use Rattle.app_toml.specs.Places.{Text}
 use Rattle.app_toml.specs.Relations.{AreApart, HasOwnNames}
 use Rattle.image_format.specs.ImageData.{region_record}
 use Rattle.image_format.specs.declared.records.RegionRecord.{RegionRecord}
 use Rattle.mem_plan.specs.Sizes.{rounded}
-use Rattle.image_build.specs.Building.{IsKnown}
+use Rattle.image_build.specs.Building.{IsKnown, IsOwned}
 use Rattle.image_build.specs.Layout.{device, flash_base, flash_sizes, index_from, index_of, index_of_region, memory, named, no_device, no_region, no_task, ram_base, ram_sizes, ram_wanted, region_base, task_at, task_regions}
-use Rattle.image_build.proofs.Known.{read_known, used_known}
+use Rattle.image_build.proofs.Known.{owned, read_known, used_known}
 use Rattle.image_build.proofs.Planning.{flash_count}
 use Rattle.image_build.proofs.Spots.{Lies, Spot, at_device, in_flash, in_ram}
 use Rattle.image_build.proofs.Walking.{Each, Pairs, each_append}
@@ -235,3 +235,11 @@ uses_all app a i lt = each_from (IsKnown app) [] (task_at app i).uses (used_know
 
 pub reads_all : (app : AppData) → IsAccepted app → (i : ℕ) → i < length app.tasks → Each (IsKnown app) (task_at app i).reads
 reads_all app a i lt = each_from (IsKnown app) [] (task_at app i).reads (read_known app a i lt)
+
+-- ---- the interrupts
+
+abbrev pub no_interrupt : InterruptData
+no_interrupt = record { line = 0; task = []; notification = []; device = None }
+
+pub owned_all : (app : AppData) → IsAccepted app → Each (IsOwned app) app.interrupts
+owned_all app a = each_from (IsOwned app) no_interrupt app.interrupts (λ k lt. owned app a k no_interrupt lt)
