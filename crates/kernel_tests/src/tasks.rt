@@ -116,6 +116,7 @@ fn two_tasks(alloc: Global) -> Result<Kernel, AllocError>
         line: 7,
         task: 1,
         bits: 0x10,
+        device: 0,
     }];
     Kernel::start(alloc, memory, 0x8000_0000, &tasks, &lines)
 }

@@ -18,7 +18,7 @@ ghost use Rattle.task_table.specs.model.Sends.{sent, replied, reply_faulted, pos
 ghost use Rattle.task_table.specs.model.Borrows.{reading, writing, borrowed, informed};
 ghost use Rattle.task_table.specs.model.Requests.{requested};
 ghost use Rattle.task_table.specs.model.Syscalls.{syscall_made};
-ghost use Rattle.task_table.specs.model.Events.{ticked, interrupted, fed};
+ghost use Rattle.task_table.specs.model.Events.{ticked, interrupted, fed, driven};
 ghost use Rattle.task_table.specs.model.Placed.{ArePlaced};
 ghost use Rattle.task_table.specs.model.Sane.{Sane, IsCounted};
 ghost use Rattle.task_table.specs.model.Counts.{AreWhole, IsSameTime, AreCounts, IsNoted, AreNoted, IsAsReady};
@@ -173,13 +173,15 @@ pub fn posts_and_faults_are_noted()
         IsNoted (faulted g i fault t) }
 {}
 
-/// A tick, an interrupt and a byte for a device leave a sane state sane.
+/// A tick, an interrupt, a byte for a device and the lines that devices drive leave a sane state
+/// sane.
 pub fn events_keep_sane()
     ensures ticked { (g : Setup) (t : Turn) → Sane g t.state → Sane g (ticked t).state }
     ensures interrupted { (g : Setup) (k : ℕ) (t : Turn) → Sane g t.state →
         Sane g (interrupted g k t).state }
     ensures fed { (g : Setup) (device byte : ℕ) (t : Turn) → byte < 256 → Sane g t.state →
         Sane g (fed device byte t).state }
+    ensures driven { (g : Setup) (t : Turn) → Sane g t.state → Sane g (driven g t).state }
 {}
 
 /// The state at the start of a run of a sound image is sane, and its counts are in order.

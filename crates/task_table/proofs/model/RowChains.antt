@@ -12,6 +12,7 @@ use Rattle.kernel_abi.specs.declared.arguments.RecvArgs.{RecvArgs}
 use Rattle.region_check.specs.declared.Right.TheVariants.{Write}
 use Rattle.task_table.specs.declared.Line.{Line}
 use Rattle.task_table.specs.model.State.{Setup, LineSetup, Birth, Call, Listen, From, Any, One, KernelOnly, Offered, Turn}
+use Rattle.task_table.specs.model.Asking.{is_asked}
 use Rattle.task_table.specs.model.Reading.{task_at, line_at, line_off, line_on, register, arguments, is_ready, is_out, is_dead, present, is_valid, bad_byte, offer_by, best_sender, admits, IsIdle}
 use Rattle.task_table.specs.model.Effects.{noted, past_syscall, bits_cleared, posted, with_timer, with_line}
 use Rattle.task_table.specs.model.Rows.{panicked, timer_set, timer_words, timer_answered, owns_with, line_controlled, irq_controlled, status_of_lines, irq_answered, buffer_of, listens, receives, receives_or_listens, takes_bits, offer_of, received, syscall_noted}
@@ -63,16 +64,16 @@ module _ (g : Setup) (c : ℕ) (t : Turn) (inside : c < length g.tasks) where
       few None = omega arith
       few (Some x) = omega arith
 
-  controls : (bits : ℕ) (enable : Bool) (o : LineSetup) → Contains g.lines o → (u : Turn) → Chain (Made g t.state c) u (line_controlled c bits enable o.line u)
-  controls bits enable o here u = by_tests enable (line_at u.state o.line).pending
+  controls : (bits : ℕ) (enable asks : Bool) (o : LineSetup) → Contains g.lines o → (u : Turn) → Chain (Made g t.state c) u (line_controlled c bits enable asks o.line u)
+  controls bits enable asks o here u = let pending = (line_at u.state o.line).pending in by_tests enable pending (pending || asks)
     where
       owned : (line : Line) → line.enabled ≡ false → line.pending ≡ true → (line.enabled ≡ false) × IsOwned g o.line
       owned line off p = (off, (o, here, refl))
 
-      by_tests : (b p : Bool) → Chain (Made g t.state c) u (cond (not b) (with_line o.line (line_off p) u) (cond p (posted c bits (with_line o.line (line_off false) u)) (with_line o.line line_on u)))
-      by_tests false p = one (Lines o.line (line_off p) u (owned (line_off p) refl), tt)
-      by_tests true true = one (Lines o.line (line_off false) u (owned (line_off false) refl), tt) ▷ (Posts c bits (with_line o.line (line_off false) u) inside, tt)
-      by_tests true false = one (Lines o.line line_on u (λ p. absurd (false≢true p)), tt)
+      by_tests : (b p waits : Bool) → Chain (Made g t.state c) u (cond (not b) (with_line o.line (line_off p) u) (cond waits (posted c bits (with_line o.line (line_off false) u)) (with_line o.line line_on u)))
+      by_tests false p waits = one (Lines o.line (line_off p) u (owned (line_off p) refl), tt)
+      by_tests true p true = one (Lines o.line (line_off false) u (owned (line_off false) refl), tt) ▷ (Posts c bits (with_line o.line (line_off false) u) inside, tt)
+      by_tests true p false = one (Lines o.line line_on u (λ p. absurd (false≢true p)), tt)
 
   pub comes-irq_controlled : Comes g c t (irq_controlled g c t)
   unfolding irq_controlled
@@ -80,7 +81,7 @@ module _ (g : Setup) (c : ℕ) (t : Turn) (inside : c < length g.tasks) where
       let x = irq_args (arguments t.state c) in
       let lines = filter (owns_with c x.bits) g.lines in
       by_outcome (not (list_any (owns_with c x.bits) g.lines)) (λ none. comes-misused g c t inside 6) (λ some.
-      goes g c t inside _ (chain-fold (λ u o. line_controlled c x.bits x.enable o.line u) lines t (λ o u here. controls x.bits x.enable o (filter_in (owns_with c x.bits) g.lines o here).0 u)))
+      goes g c t inside _ (chain-fold (λ u o. line_controlled c x.bits x.enable (is_asked t.state o) o.line u) lines t (λ o u here. controls x.bits x.enable (is_asked t.state o) o (filter_in (owns_with c x.bits) g.lines o here).0 u)))
 
   pub comes-irq_answered : Comes g c t (irq_answered g c t)
   unfolding irq_answered

@@ -1,16 +1,18 @@
--- Ticks, interrupts and lines keep a state sane.
-use Rattle.std.proofs.Common.{◌≡◌, ◌≢◌, ◌+◌, ◌<◌, ◌⊎◌, inl, inr, ℕ, zero, suc, Bool, true, false, cond, List, [], ◌∷◌, length, Option, Some, None, refl, sym, ◌∙◌, ap, arith, eqb, leb, get_or, set, IfSome}
-use Rattle.std.specs.Prelude.{Contains}
+-- Ticks, interrupts and lines, also those that devices drive, keep a state sane.
+use Rattle.std.proofs.Common.{◌≡◌, ◌≢◌, ◌+◌, ◌<◌, ◌⊎◌, inl, inr, ℕ, zero, suc, Bool, true, false, cond, ◌&&◌, List, [], ◌∷◌, length, Option, Some, None, refl, sym, ◌∙◌, ap, arith, eqb, leb, get_or, set, IfSome}
+use Rattle.std.specs.Prelude.{Contains, fold}
 use Rattle.std.proofs.lemmas.Bool.{false≢true, eqb-true, leb-false}
 use Rattle.std.proofs.lemmas.Bool.Decides.{eqb_tells}
+use Rattle.kernel_abi.specs.Devices.{DeviceData}
 use Rattle.kernel_abi.specs.declared.Handled.TheVariants.{Posted, Held}
 use Rattle.kernel_abi.specs.declared.Note.TheVariants as note
 use Rattle.kernel_abi.specs.declared.Timer.{Timer}
 use Rattle.task_table.specs.declared.Line.{Line}
 use Rattle.task_table.specs.model.State.{Setup, LineSetup, Task, State, Turn}
+use Rattle.task_table.specs.model.Asking.{asks_at}
 use Rattle.task_table.specs.model.Reading.{task_at, line_at, line_off, no_line}
 use Rattle.task_table.specs.model.Effects.{noted, posted, with_timer, clocked, with_line}
-use Rattle.task_table.specs.model.Events.{expired_by, expired, ticked, owner_of, interrupted_by, interrupted}
+use Rattle.task_table.specs.model.Events.{expired_by, expired, ticked, owner_of, interrupted_by, interrupted, driven_by, driven}
 use Rattle.task_table.specs.model.Sane.{Sane, IsSaneBut, Every, Both, IsOwned}
 use Rattle.task_table.proofs.model.Changes.{task_at-with_task}
 use Rattle.task_table.proofs.model.Keeps.{found_in, keeps-lines, keeps-now}
@@ -112,8 +114,20 @@ unfolding owner_of
 is_owner g k o e = let r = found_in (λ (x : LineSetup). eqb x.line k) g.lines o e in (r.0, eqb-true _ _ r.1)
 
 -- the owner of a line is a task
+pub line_owner_there : {g : Setup} (o : LineSetup) (s : State) → Sane g s → Contains g.lines o → o.owner < length s.tasks
+line_owner_there o s h here = rw h.steady.as_many (h.steady.placed.owners o here)
+
 pub owner_there : {g : Setup} (k : ℕ) (o : LineSetup) (s : State) → Sane g s → owner_of g k ≡ Some o → o.owner < length s.tasks
-owner_there {g} k o s h e = rw h.steady.as_many (h.steady.placed.owners o (is_owner g k o e).0)
+owner_there {g} k o s h e = line_owner_there o s h (is_owner g k o e).0
+
+sane-interrupted_by : {g : Setup} (k : ℕ) (o : LineSetup) (t : Turn) → Sane g t.state → Contains g.lines o → o.line ≡ k → Sane g (interrupted_by k (Some o) t).state
+sane-interrupted_by {g} k o t h here same = by_line (line_at t.state k).enabled
+  where
+    by_line : (b : Bool) → Sane g (cond b (posted o.owner o.bits (with_line k (line_off false) (noted (note.Irq k Posted) t))) (with_line k (line_off true) (noted (note.Irq k Held) t))).state
+    by_line true =
+        let h1 = keeps-line k (line_off false) (noted (note.Irq k Posted) t) (keeps-noted _ t h) no_true in
+        sane-posted o.owner o.bits (with_line k (line_off false) (noted (note.Irq k Posted) t)) h1 (still h h1 (line_owner_there o t.state h here))
+    by_line false = keeps-line k (line_off true) (noted (note.Irq k Held) t) (keeps-noted _ t h) (λ p. (refl, (o, here, same)))
 
 pub sane-interrupted : {g : Setup} (k : ℕ) (t : Turn) → Sane g t.state → Sane g (interrupted g k t).state
 unfolding interrupted
@@ -121,10 +135,21 @@ sane-interrupted {g} k t h = by_owner (owner_of g k) refl
   where
     by_owner : (o : Option LineSetup) → owner_of g k ≡ o → Sane g (interrupted_by k o t).state
     by_owner None e = keeps-noted _ t h
-    by_owner (Some o) e = by_line (line_at t.state k).enabled
-      where
-        by_line : (b : Bool) → Sane g (cond b (posted o.owner o.bits (with_line k (line_off false) (noted (note.Irq k Posted) t))) (with_line k (line_off true) (noted (note.Irq k Held) t))).state
-        by_line true =
-            let h1 = keeps-line k (line_off false) (noted (note.Irq k Posted) t) (keeps-noted _ t h) no_true in
-            sane-posted o.owner o.bits (with_line k (line_off false) (noted (note.Irq k Posted) t)) h1 (still h h1 (owner_there k o t.state h e))
-        by_line false = let r = is_owner g k o e in keeps-line k (line_off true) (noted (note.Irq k Held) t) (keeps-noted _ t h) (λ p. (refl, (o, r.0, r.1)))
+    by_owner (Some o) e = let r = is_owner g k o e in sane-interrupted_by k o t h r.0 r.1
+
+-- ## the lines that devices drive
+
+sane-driven_by : {g : Setup} (ds : List DeviceData) (o : LineSetup) (t : Turn) → Sane g t.state → Contains g.lines o → Sane g (driven_by ds t o).state
+sane-driven_by {g} ds o t h here = by_test ((line_at t.state o.line).enabled && asks_at ds o.device)
+  where
+    by_test : (b : Bool) → Sane g (cond b (interrupted_by o.line (Some o) t) t).state
+    by_test true = sane-interrupted_by o.line o t h here refl
+    by_test false = h
+
+sane-driven_all : {g : Setup} (ds : List DeviceData) (os : List LineSetup) (t : Turn) → Sane g t.state → ((o : LineSetup) → Contains os o → Contains g.lines o) → Sane g (fold (driven_by ds) t os).state
+sane-driven_all ds [] t h here = h
+sane-driven_all ds (o ∷ os) t h here = sane-driven_all ds os (driven_by ds t o) (sane-driven_by ds o t h (here o (zero, omega arith, refl))) (λ x later. here x (suc later.0, omega (arith, later.1), later.2))
+
+pub sane-driven : {g : Setup} (t : Turn) → Sane g t.state → Sane g (driven g t).state
+unfolding driven
+sane-driven {g} t h = sane-driven_all t.state.devices g.lines t h (λ o here. here)
