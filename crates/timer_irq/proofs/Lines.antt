@@ -1,10 +1,11 @@
 -- Lists of lines, and folds over them.
 use Rattle.std.proofs.Common.{◌≡◌, ◌+◌, ◌<◌, ◌≤◌, inl, inr, ℕ, zero, suc, Bool, true, false, cond, List, [], ◌∷◌, length, map, take, Some, None, refl, sym, ◌∙◌, ap, arith, get_or}
 use Rattle.std.proofs.lemmas.Bool.{cases_Bool}
-use Rattle.std.specs.Prelude.{filter, find, fold, slice_get}
+use Rattle.std.proofs.lemmas.Option.{slice_get_within, get_or_from_slice_get}
+use Rattle.std.specs.Prelude.{Contains, filter, find, fold, slice_get}
 use Rattle.std.specs.List.{range_with_len, list_any}
 use Rattle.std.specs.Option.{option_map}
-use Rattle.timer_irq.specs.Midway.{with_next}
+use Rattle.timer_irq.specs.Midway.{with_any, with_next}
 use Rattle.task_table.proofs.model.Clients.{no_some}
 
 -- one more index at the end of a range
@@ -52,6 +53,33 @@ next_folded f p b (y ∷ ys) (suc i) = go (p y) (next_folded f p (f b y) ys i) (
 
 pub fold_next : {A B : Type 0} (f : B → A → B) (p : A → Bool) (b : B) (xs : List A) (i : ℕ) → with_next f p (slice_get xs i) (fold f b (filter p (take i xs))) ≡ fold f b (filter p (take (i + 1) xs))
 fold_next f p b xs i = let e : suc i ≡ i + 1 = omega arith in sym (next_folded f p b xs i) ∙ ap (λ n. fold f b (filter p (take n xs))) e
+
+-- one more item of a fold over all items
+next_of_all : {A B : Type 0} (f : B → A → B) (b : B) (xs : List A) (i : ℕ) → fold f b (take (suc i) xs) ≡ with_any f (slice_get xs i) (fold f b (take i xs))
+next_of_all f b [] zero = refl
+next_of_all f b [] (suc i) = refl
+next_of_all f b (y ∷ ys) zero = refl
+next_of_all f b (y ∷ ys) (suc i) = next_of_all f (f b y) ys i
+
+pub fold_any : {A B : Type 0} (f : B → A → B) (b : B) (xs : List A) (i : ℕ) → with_any f (slice_get xs i) (fold f b (take i xs)) ≡ fold f b (take (i + 1) xs)
+fold_any f b xs i = let e : suc i ≡ i + 1 = omega arith in sym (next_of_all f b xs i) ∙ ap (λ n. fold f b (take n xs)) e
+
+-- what is done with an item and with what a list says of it, is done with the item and its own value
+asked_in : {A B : Type 0} (f : Bool → B → A → B) (q : A → Bool) (xs : List A) (i : ℕ) (b : B) → with_any (f (get_or (map q xs) i false)) (slice_get xs i) b ≡ with_any (λ u x. f (q x) u x) (slice_get xs i) b
+asked_in f q [] i b = refl
+asked_in f q (x ∷ xs) zero b = refl
+asked_in f q (x ∷ xs) (suc i) b = asked_in f q xs i b
+
+pub asked_any : {A B : Type 0} (f : Bool → B → A → B) (q : A → Bool) (xs : List A) (asked : List Bool) (i : ℕ) (b : B) → asked ≡ map q xs → with_any (f (get_or asked i false)) (slice_get xs i) b ≡ with_any (λ u x. f (q x) u x) (slice_get xs i) b
+asked_any f q xs asked i b e = ap (λ bs. with_any (f (get_or bs i false)) (slice_get xs i) b) e ∙ asked_in f q xs i b
+
+pub asked_at : {A : Type 0} (q : A → Bool) (xs : List A) (i : ℕ) (d : A) → i < length xs → get_or (map q xs) i false ≡ q (get_or xs i d)
+asked_at q [] i d below = absurd (omega arith)
+asked_at q (x ∷ xs) zero d below = refl
+asked_at q (x ∷ xs) (suc i) d below = asked_at q xs i d (omega arith)
+
+pub get_in : {A : Type 0} (xs : List A) (i : ℕ) (x : A) → slice_get xs i ≡ Some x → Contains xs x
+get_in xs i x e = (i, slice_get_within xs i x e, get_or_from_slice_get xs i x x e)
 
 pub get_mapped : {A B : Type 0} (f : A → B) (xs : List A) (i : ℕ) → option_map f (slice_get xs i) ≡ slice_get (map f xs) i
 get_mapped f [] i = refl

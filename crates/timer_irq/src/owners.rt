@@ -1,5 +1,5 @@
 //! The interrupt lines and their owners.
-ghost use Rattle.std.specs.Prelude.{◌≡◌, ◌*◌, ◌<◌, ◌==◌, ◌&&◌, Some, Option};
+ghost use Rattle.std.specs.Prelude.{◌≡◌, ◌*◌, ◌<◌, ◌==◌, ◌&&◌, Some, Option, false, slice_get, slice_index_or};
 ghost use Rattle.std.specs.Option.{option_map};
 ghost use Rattle.std.specs.List.{list_any};
 ghost use Rattle.task_table.specs.model.State.{Setup, Turn};
@@ -24,6 +24,28 @@ pub(crate) fn owner_of(k: &Kernel, line: u8) -> Option<LineStart>
         }
     }
     None
+}
+
+/// The owner at an index of a list, if there is one.
+fn item(owners: &[LineStart], i: usize) -> Option<LineStart>
+    ensures { result ≡ slice_get owners.now i }
+{
+    owners.get(i).copied()
+}
+
+/// The i-th owner of a line, if there is one.
+pub(crate) fn owner_at(k: &Kernel, i: usize) -> Option<LineStart>
+    ensures { (g : Setup) (t : Turn) → Holds g k.now t →
+        option_map line_setup result ≡ slice_get g.lines i }
+{
+    item(k.owners(), i)
+}
+
+/// Whether the device of the i-th line asks for an interrupt; past the last line none does.
+pub(crate) fn is_asked(asked: &[bool], i: usize) -> bool
+    ensures { result ≡ slice_index_or asked.now i false }
+{
+    asked.get(i).copied().unwrap_or(false)
 }
 
 /// The state of a line; a line that does not exist counts as disabled, with nothing pending.

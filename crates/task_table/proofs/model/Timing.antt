@@ -139,8 +139,9 @@ sane-interrupted {g} k t h = by_owner (owner_of g k) refl
 
 -- ## the lines that devices drive
 
-sane-driven_by : {g : Setup} (ds : List DeviceData) (o : LineSetup) (t : Turn) → Sane g t.state → Contains g.lines o → Sane g (driven_by ds t o).state
-sane-driven_by {g} ds o t h here = by_test ((line_at t.state o.line).enabled && asks_at ds o.device)
+-- one of them, whose device asks or not
+pub sane-driven_by : {g : Setup} (asks : Bool) (o : LineSetup) (t : Turn) → Sane g t.state → Contains g.lines o → Sane g (cond ((line_at t.state o.line).enabled && asks) (interrupted_by o.line (Some o) t) t).state
+sane-driven_by {g} asks o t h here = by_test ((line_at t.state o.line).enabled && asks)
   where
     by_test : (b : Bool) → Sane g (cond b (interrupted_by o.line (Some o) t) t).state
     by_test true = sane-interrupted_by o.line o t h here refl
@@ -148,7 +149,7 @@ sane-driven_by {g} ds o t h here = by_test ((line_at t.state o.line).enabled && 
 
 sane-driven_all : {g : Setup} (ds : List DeviceData) (os : List LineSetup) (t : Turn) → Sane g t.state → ((o : LineSetup) → Contains os o → Contains g.lines o) → Sane g (fold (driven_by ds) t os).state
 sane-driven_all ds [] t h here = h
-sane-driven_all ds (o ∷ os) t h here = sane-driven_all ds os (driven_by ds t o) (sane-driven_by ds o t h (here o (zero, omega arith, refl))) (λ x later. here x (suc later.0, omega (arith, later.1), later.2))
+sane-driven_all ds (o ∷ os) t h here = sane-driven_all ds os (driven_by ds t o) (sane-driven_by (asks_at ds o.device) o t h (here o (zero, omega arith, refl))) (λ x later. here x (suc later.0, omega (arith, later.1), later.2))
 
 pub sane-driven : {g : Setup} (t : Turn) → Sane g t.state → Sane g (driven g t).state
 unfolding driven

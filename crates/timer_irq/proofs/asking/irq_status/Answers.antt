@@ -2,11 +2,7 @@ use Rattle.std.proofs.Common.{◌<◌, length, arith}
 use Rattle.task_table.proofs.model.StepKeeps.{sane-irq_answered}
 use Rattle.timer_irq.proofs.asking.irq_status.Goals as goal
 
-pub returns : goal.returns
-returns c =
-    record {
-      stands = λ g t h ready.
-          let inside : c.args.caller < length t.state.tasks = omega (arith, c.requires.there, h.holds.count) in
-          record { holds = c.irq_status_rows.ensures.holds g t h.holds; sane = sane-irq_answered c.args.caller t h.sane inside };
-      frame = c.irq_status_rows.ensures.frame;
-    }
+pub returns-clause-stands : goal.returns-clause-stands
+returns-clause-stands c = λ g t h ready a.
+    let inside : c.args.caller < length t.state.tasks = omega (arith, c.requires.there, h.holds.count) in
+    record { holds = c.irq_status_rows.ensures.holds g t h.holds a; sane = sane-irq_answered c.args.caller t h.sane inside }

@@ -5,7 +5,7 @@ use Rattle.task_table.specs.model.State.{LineSetup}
 use Rattle.std.proofs.Common.{List}
 use Rattle.task_table.specs.kept.Parts.{line_setup}
 use Rattle.timer_irq.proofs.Lines.{get_mapped}
-use Rattle.timer_irq.proofs.controlling.owner_at.Goals as goal
+use Rattle.timer_irq.proofs.owners.owner_at.Goals as goal
 
 pub returns : goal.returns
 returns c = λ g t h.
