@@ -32,7 +32,7 @@ region_again : (r : RegionRecord) (rest : List ℕ) → region_at (region_bytes 
 region_again r rest = same_region _ _ _ _ _ _ (num_again r.base) (num_again r.size) (num_again r.rights)
 
 line_again : (form : ImageForm) (l : LineRecord) (rest : List ℕ) → line_at form (line_bytes form l ++ rest) ≡ l
-line_again First l rest = ap₂ (λ (z b : ℕ). record l { zero = z; bits = b }) (half_again l.zero) (num_again l.bits)
+line_again First l rest = ap₂ (λ (d b : ℕ). record l { device = d; bits = b }) (half_again l.device) (num_again l.bits)
 line_again Second l rest = ap₂ (λ (t b : ℕ). record l { task = t; bits = b }) (half_again l.task) (num_again l.bits)
 
 tasks_again : (ts : List TaskRecord) (rest : List ℕ) → tasks_at (length ts) (flat_map task_bytes ts ++ rest) ≡ ts

@@ -7,11 +7,15 @@ use Rattle.std.specs.Option.{is_some}
 use Rattle.image_format.specs.declared.records.Header.{Header}
 use Rattle.image_format.specs.declared.records.TaskRecord.{TaskRecord}
 use Rattle.image_format.specs.declared.records.RegionRecord.{RegionRecord}
+use Rattle.image_format.specs.declared.records.LineRecord.{LineRecord}
 use Rattle.image_format.specs.Regions.{entries_from, entry_fault, own_fault, regions_from}
 use Rattle.image_format.specs.Steps.{Refusal, counted, or_else}
 
 abbrev pub blank : TaskRecord
 blank = record { priority = 0; flags = 0; regions = 0; names = 0; entry = 0; sp = 0 }
+
+abbrev pub blank_line : LineRecord
+blank_line = record { line = 0; task = 0; device = 0; bits = 0 }
 
 pub none_found : (found : Option Refusal) → is_some found ≡ false → found ≡ None
 none_found None e = refl

@@ -1,6 +1,6 @@
 -- What is known of each sound image, from what the steps say.
-use Rattle.std.proofs.Common.{◌≡◌, ◌∙◌, ◌+◌, ◌-◌, ◌*◌, ◌/◌, ◌%◌, ◌<◌, ◌≤◌, ℕ, zero, suc, List, All, [], ◌∷◌, ◌++◌, Bool, true, false, not, ◌||◌, ◌&&◌, ◌==◌, None, length, take, drop, map, get_or, nat_le, nat_lt, ◌⊎◌, inl, inr, arith, ap, refl, sym, subst, append_assoc, mul_assoc, div-add-mod'}
-use Rattle.std.specs.Prelude.{Contains}
+use Rattle.std.proofs.Common.{◌≡◌, ◌∙◌, ◌+◌, ◌-◌, ◌*◌, ◌/◌, ◌%◌, ◌<◌, ◌≤◌, ℕ, zero, suc, List, All, [], ◌∷◌, ◌++◌, Bool, true, false, not, ◌||◌, ◌&&◌, ◌==◌, Option, None, Some, length, take, drop, map, get_or, nat_le, nat_lt, ◌⊎◌, inl, inr, arith, ap, refl, sym, subst, append_assoc, mul_assoc, div-add-mod'}
+use Rattle.std.specs.Prelude.{Contains, slice_get}
 use Rattle.std.specs.List.{list_all, list_any}
 use Rattle.std.proofs.lemmas.Bool.{cases_lt, eqb-true, le-leb, leb-true, lt-ltb, ltb-false, ltb-true, and_parts, or_parts, not-false, or_cases}
 use Rattle.std.proofs.lemmas.Bool.Decides.{nat_tests}
@@ -17,19 +17,19 @@ use Rattle.region_check.specs.declared.Right.TheVariants.{Execute}
 use Rattle.region_check.specs.Rights.{gives, may_use, SameOrApart}
 use Rattle.image_format.specs.Accepted.{Accepted}
 use Rattle.image_format.specs.Facts.{Facts, HasLines, HasNames, HasRegions, HasSizes, HasTasks, IsInFlash, IsInRam}
-use Rattle.image_format.specs.ImageData.{ImageLine, ImageData, ImageTask, line_of, names_in, no_line, no_task, image_data_of, region_of, regions_in, rights_of, task_of, tasks_of}
+use Rattle.image_format.specs.ImageData.{ImageLine, ImageData, ImageTask, device_region, line_of, names_in, no_line, no_task, image_data_of, region_by, region_of, regions_in, rights_of, task_of, tasks_of}
 use Rattle.image_format.specs.Names.{after_names, names_from, task_names_fault}
 use Rattle.image_format.specs.Records.{Records}
-use Rattle.image_format.specs.Regions.{clashes, cuts, entries_from, entry_fault, has_area, lies_in, meets, own_fault, region_fault, regions_from, runs_at}
+use Rattle.image_format.specs.Regions.{clashes, cuts, entries_from, entry_fault, has_area, is_devices, lies_in, line_device_fault, line_devices_from, may_drive, meets, own_fault, own_regions, region_fault, regions_from, runs_at}
 use Rattle.region_check.specs.Sizes.{is_size, sizes}
 use Rattle.text_lines.specs.Names.{is_name}
 use Rattle.image_format.specs.Steps.{counted, header_size, highest_line, line_fault, lines_from, lines_place, most_names, names_place, regions_place, task_fault, tasks_from}
-use Rattle.image_format.proofs.Chunks.{blank}
-use Rattle.image_format.proofs.Limits.{limits, lines_64, row_none, tasks_512}
-use Rattle.image_format.proofs.Lookups.{In, in_list, names_at, names_looked, own_at, region_source, regions_looked, task_looked}
+use Rattle.image_format.proofs.Chunks.{blank, blank_line}
+use Rattle.image_format.proofs.Limits.{holds, limits, lines_64, row_none, tasks_512}
+use Rattle.image_format.proofs.Lookups.{In, in_list, in_own, names_at, names_looked, region_source, regions_looked, task_looked}
 use Rattle.image_format.proofs.Named.{AreNew, are_new, new_apart, new_named}
 use Rattle.image_format.proofs.Passed.{both_none, passed_steps}
-use Rattle.image_format.proofs.Shape.{Every, IsLine, IsRegion, IsTask, counts, equals, every_append, every_region, is_line, is_region, is_task, names_length, nothing_left, rest_counted, rights_cases, tasks_length}
+use Rattle.image_format.proofs.Shape.{Every, IsLine, IsRegion, IsTask, are_lines, counts, each_line, equals, every_append, every_region, is_region, is_task, names_length, nothing_left, rest_counted, rights_cases, tasks_length}
 
 -- ---- tests
 
@@ -250,7 +250,7 @@ enters own t place e =
         by : (m : ℕ) → m < 2 → (m == 0) ≡ false → m ≡ 1
         by m lt e = grind (arith, nat_tests)
 
-entry_steps : (place : ℕ) (ts : List TaskRecord) (rs : List RegionRecord) (i : ℕ) → i < length ts → entries_from place ts rs ≡ None → Enters (own_at ts rs i) (get_or ts i blank)
+entry_steps : (place : ℕ) (ts : List TaskRecord) (rs : List RegionRecord) (i : ℕ) → i < length ts → entries_from place ts rs ≡ None → Enters (own_regions ts rs i) (get_or ts i blank)
 entry_steps place [] rs i lt e = absurd (omega (arith, lt))
 entry_steps place (t ∷ ts) rs zero lt e =
     enters (take t.regions rs) t place (both_none (entry_fault (take t.regions rs) t place) (entries_from (place + 12) ts (drop t.regions rs)) e).0
@@ -286,7 +286,7 @@ some_gives entry (r ∷ rs) e =
     or_right true b e = refl
     or_right false b e = e
 
-own_length : (ts : List TaskRecord) (rs : List RegionRecord) (i : ℕ) → i < length ts → counted ts ≡ length rs → length (own_at ts rs i) ≡ (get_or ts i blank).regions
+own_length : (ts : List TaskRecord) (rs : List RegionRecord) (i : ℕ) → i < length ts → counted ts ≡ length rs → length (own_regions ts rs i) ≡ (get_or ts i blank).regions
 own_length [] rs i lt e = absurd (omega (arith, lt))
 own_length (t ∷ ts) rs zero lt e = (rest_counted t ts rs e).0
 own_length (t ∷ ts) rs (suc i) lt e = own_length ts (drop t.regions rs) i (omega (arith, lt)) (rest_counted t ts rs e).1
@@ -319,38 +319,25 @@ has_tasks r a =
       odd_entries = λ i below. let lt = within i below in ap (λ (t : ImageTask). t.entry % 2) (look i lt) ∙ (enter i lt).odd;
       entries = λ i below. let lt = within i below in
           ap (λ (t : ImageTask). may_use t.regions Execute (t.entry - 1)) (look i lt)
-          ∙ some_gives (get_or r.tasks i blank).entry (own_at r.tasks r.regions i) (enter i lt).runs;
+          ∙ some_gives (get_or r.tasks i blank).entry (own_regions r.tasks r.regions i) (enter i lt).runs;
     }
   where
     within : (i : ℕ) → i < length (tasks_of r.tasks r.regions r.names) → i < length r.tasks
     within i lt = omega (arith, lt, tasks_length r.tasks r.regions r.names)
 
-    look : (i : ℕ) → i < length r.tasks → get_or (tasks_of r.tasks r.regions r.names) i no_task ≡ task_of (get_or r.tasks i blank) (own_at r.tasks r.regions i) (names_at r.tasks r.names i)
+    look : (i : ℕ) → i < length r.tasks → get_or (tasks_of r.tasks r.regions r.names) i no_task ≡ task_of (get_or r.tasks i blank) (own_regions r.tasks r.regions i) (names_at r.tasks r.names i)
     look i lt = task_looked r.tasks r.regions r.names i lt
 
     each : (i : ℕ) → i < length r.tasks → IsTask r.header.form i (get_or r.tasks i blank)
     each i lt = task_there r a i lt
 
-    enter : (i : ℕ) → i < length r.tasks → Enters (own_at r.tasks r.regions i) (get_or r.tasks i blank)
+    enter : (i : ℕ) → i < length r.tasks → Enters (own_regions r.tasks r.regions i) (get_or r.tasks i blank)
     enter i lt = entry_steps (header_size r.header.form) r.tasks r.regions i lt (passed_steps r a.records).entries
 
     long : (i : ℕ) → i < length r.tasks → length (regions_in (image_data_of r) i) ≡ (get_or r.tasks i blank).regions
-    long i lt = ap length (regions_looked r.tasks r.regions r.names i) ∙ length-map (own_at r.tasks r.regions i) region_of ∙ own_length r.tasks r.regions i lt (counts r a)
+    long i lt = ap length (regions_looked r.tasks r.regions r.names i) ∙ length-map (own_regions r.tasks r.regions i) region_of ∙ own_length r.tasks r.regions i lt (counts r a)
 
 -- ---- interrupts
-
-blank_line : LineRecord
-blank_line = record { line = 0; task = 0; zero = 0; bits = 0 }
-
-line_steps : (form : ImageForm) (least tasks place : ℕ) (ls : List LineRecord) (k : ℕ) → k < length ls → lines_from form least tasks place ls ≡ None → IsLine form least tasks (get_or ls k blank_line)
-line_steps form least tasks place [] k lt e = absurd (omega (arith, lt))
-line_steps form least tasks place (l ∷ ls) zero lt e =
-    is_line form least tasks l place (both_none (line_fault form least tasks l place) (lines_from form (l.line + 1) tasks (place + 8) ls) e).0
-line_steps form least tasks place (l ∷ ls) (suc k) lt e =
-    let a = both_none (line_fault form least tasks l place) (lines_from form (l.line + 1) tasks (place + 8) ls) e in
-    let here = is_line form least tasks l place a.0 in
-    let next = line_steps form (l.line + 1) tasks (place + 8) ls k (omega (arith, lt)) a.1 in
-    record { most = next.most; least_line = omega (arith, here.least_line, next.least_line); owner = next.owner; zero_half = next.zero_half; bits = next.bits }
 
 line_order : (form : ImageForm) (least tasks place : ℕ) (ls : List LineRecord) (k m : ℕ) → k < m → m < length ls → lines_from form least tasks place ls ≡ None
     → (get_or ls k blank_line).line < (get_or ls m blank_line).line
@@ -358,10 +345,39 @@ line_order form least tasks place [] k m lt in_list e = absurd (omega (arith, in
 line_order form least tasks place (l ∷ ls) k zero lt in_list e = absurd (omega (arith, lt))
 line_order form least tasks place (l ∷ ls) zero (suc m) lt in_list e =
     let a = both_none (line_fault form least tasks l place) (lines_from form (l.line + 1) tasks (place + 8) ls) e in
-    let next = line_steps form (l.line + 1) tasks (place + 8) ls m (omega (arith, in_list)) a.1 in
+    let next = are_lines form (l.line + 1) tasks (place + 8) ls a.1 m blank_line (omega (arith, in_list)) in
     omega (arith, next.least_line)
 line_order form least tasks place (l ∷ ls) (suc k) (suc m) lt in_list e =
     line_order form (l.line + 1) tasks (place + 8) ls k m (omega (arith, lt)) (omega (arith, in_list)) (both_none (line_fault form least tasks l place) (lines_from form (l.line + 1) tasks (place + 8) ls) e).1
+
+drive_steps : (ts : List TaskRecord) (rs : List RegionRecord) (place : ℕ) (ls : List LineRecord) (k : ℕ) → k < length ls → line_devices_from ts rs place ls ≡ None
+    → may_drive (own_regions ts rs (get_or ls k blank_line).task) (get_or ls k blank_line).device ≡ true
+drive_steps ts rs place [] k lt e = absurd (omega (arith, lt))
+drive_steps ts rs place (l ∷ ls) zero lt e =
+    let own = own_regions ts rs l.task in
+    holds (may_drive own l.device) (3, place + 1) (both_none (line_device_fault own l place) (line_devices_from ts rs (place + 8) ls) e).0
+drive_steps ts rs place (l ∷ ls) (suc k) lt e =
+    drive_steps ts rs (place + 8) ls k (omega (arith, lt)) (both_none (line_device_fault (own_regions ts rs l.task) l place) (line_devices_from ts rs (place + 8) ls) e).1
+
+-- a device's region among those of a task, by its number
+record IsDriver (own : List RegionRecord) (r : Option Region) : Type 0 where
+  from : RegionRecord
+  among : In from own
+  is : r ≡ Some (region_of from)
+  high : nat_le 8 from.rights ≡ true
+
+driver_at : (own : List RegionRecord) (k : ℕ) → is_devices (slice_get own k) ≡ true → IsDriver own (slice_get (map region_of own) k)
+driver_at [] k e = cc
+driver_at (r ∷ rs) zero e = record { from = r; among = inl refl; is = refl; high = e }
+driver_at (r ∷ rs) (suc k) e = let d = driver_at rs k e in record { from = d.from; among = inr d.among; is = d.is; high = d.high }
+
+driver : (own : List RegionRecord) (number : ℕ) → 0 < number → may_drive own number ≡ true → IsDriver own (region_by (map region_of own) number)
+driver own zero above e = absurd (omega (arith, above))
+driver own (suc k) above e = driver_at own k e
+
+-- rights that are taken, and at least 8, are a device's
+device_rights : (n : ℕ) → list_any (λ k. n == k) (1 ∷ 3 ∷ 5 ∷ 7 ∷ 9 ∷ 11 ∷ []) ≡ true → nat_le 8 n ≡ true → (rights_of n).device ≡ true
+device_rights = rights_cases (λ n. nat_le 8 n ≡ true → (rights_of n).device ≡ true) (λ e. no e) (λ e. no e) (λ e. no e) (λ e. no e) (λ e. refl) (λ e. refl)
 
 line_63 : (form : ImageForm) → highest_line form < 64
 line_63 First = omega arith
@@ -378,8 +394,13 @@ has_lines r a = record {
   owners = λ k below. let n = within k below in
       omega (arith, ap (λ (l : ImageLine). l.task) (look k n), (each k n).owner, a.tasks, tasks_length r.tasks r.regions r.names);
   bits = λ k below. let n = within k below in omega (arith, ap (λ (l : ImageLine). l.bits) (look k n), (each k n).bits);
+  devices = λ k below driven. let n = within k below in let d = drives k n (subst (λ (l : ImageLine). 0 < l.device) (look k n) driven) in
+      (region_of d.from, region k n ∙ d.is, device_rights d.from.rights (every_in (IsRegion r.header) r.regions d.from every (in_own r.tasks r.regions (line k).task d.from d.among)).rights d.high);
 }
   where
+    line : ℕ → LineRecord
+    line k = get_or r.lines k blank_line
+
     step : lines_from r.header.form 0 r.header.tasks (lines_place r.header) r.lines ≡ None
     step = (passed_steps r a.records).lines
 
@@ -390,7 +411,21 @@ has_lines r a = record {
     look k lt = get_or-map line_of r.lines k blank_line no_line lt
 
     each : (k : ℕ) → k < length r.lines → IsLine r.header.form 0 r.header.tasks (get_or r.lines k blank_line)
-    each k lt = line_steps r.header.form 0 r.header.tasks (lines_place r.header) r.lines k lt step
+    each k lt = each_line r a k blank_line lt
+
+    every : Every (IsRegion r.header) r.regions
+    every = every_region r.header [] (regions_place r.header) r.tasks r.regions (counts r a) (passed_steps r a.records).regions
+
+    own : ℕ → List RegionRecord
+    own k = own_regions r.tasks r.regions (line k).task
+
+    drives : (k : ℕ) → k < length r.lines → 0 < (line k).device → IsDriver (own k) (region_by (map region_of (own k)) (line k).device)
+    drives k lt above = driver (own k) (line k).device above (drive_steps r.tasks r.regions (lines_place r.header) r.lines k lt (passed_steps r a.records).devices)
+
+    region : (k : ℕ) → k < length r.lines → device_region (image_data_of r) k ≡ region_by (map region_of (own k)) (line k).device
+    region k lt =
+        ap (λ (l : ImageLine). region_by (regions_in (image_data_of r) l.task) l.device) (look k lt)
+        ∙ ap (λ (rs : List Region). region_by rs (line k).device) (regions_looked r.tasks r.regions r.names (line k).task)
 
 -- ---- names
 

@@ -180,12 +180,13 @@ plain_header Second bytes e = cc
 
 -- ---- the number of regions
 
+-- a condition that does not refuse
+pub holds : (t : Bool) (r : Refusal) → cond t None (Some r) ≡ None → t ≡ true
+holds true r e = refl
+holds false r e = cc
+
 equal : (a b : ℕ) (r : Refusal) → cond (a == b) None (Some r) ≡ None → a ≡ b
-equal a b r e = eqb-true a b (stated (a == b) e)
-  where
-    stated : (t : Bool) → cond t None (Some r) ≡ None → t ≡ true
-    stated true e = refl
-    stated false e = cc
+equal a b r e = eqb-true a b (holds (a == b) r e)
 
 -- the numbers of regions sum to the header's
 pub all_counted : (h : Header) (ts : List TaskRecord) → count_fault h ts ≡ None → counted ts ≡ h.regions

@@ -1,6 +1,7 @@
 -- The i-th task of an image, its regions and its names.
-use Rattle.std.proofs.Common.{◌≡◌, ◌∙◌, ◌+◌, ◌<◌, ℕ, zero, suc, List, [], ◌∷◌, length, take, drop, get_or, map, arith, ap, refl, subst, sym, ◌⊎◌, inl, inr}
-use Rattle.std.specs.Prelude.{Contains}
+use Rattle.std.proofs.Common.{◌≡◌, ◌∙◌, ◌+◌, ◌-◌, ◌<◌, ℕ, zero, suc, List, [], ◌∷◌, length, take, drop, get_or, map, arith, ap, refl, subst, sym, ◌⊎◌, inl, inr}
+use Rattle.std.specs.Prelude.{Contains, option_map, slice_get}
+use Rattle.std.proofs.lemmas.Option.{slice_get-map}
 use Rattle.std.proofs.lemmas.List.{drop-drop}
 use Rattle.std.specs.List.{sum_by}
 use Rattle.std.proofs.lemmas.List.Sums.{sum_by-cons}
@@ -8,15 +9,10 @@ use Rattle.image_format.specs.declared.records.TaskRecord.{TaskRecord}
 use Rattle.image_format.specs.declared.records.RegionRecord.{RegionRecord}
 use Rattle.region_check.specs.declared.Region.{Region}
 use Rattle.image_format.specs.Names.{after_name, after_names, names_of}
-use Rattle.image_format.specs.ImageData.{no_task, region_of, task_of, tasks_of}
+use Rattle.image_format.specs.ImageData.{no_task, region_by, region_of, task_of, tasks_of}
+use Rattle.image_format.specs.Regions.{is_devices, may_drive, own_regions}
 use Rattle.image_format.specs.Steps.{counted}
 use Rattle.image_format.proofs.Chunks.{blank}
-
--- the i-th task's regions
-abbrev pub own_at : List TaskRecord → List RegionRecord → ℕ → List RegionRecord
-own_at [] rs i = []
-own_at (t ∷ ts) rs zero = take t.regions rs
-own_at (t ∷ ts) rs (suc i) = own_at ts (drop t.regions rs) i
 
 -- the i-th task's names
 abbrev pub names_at : List TaskRecord → List ℕ → ℕ → List (List ℕ)
@@ -25,7 +21,7 @@ names_at (t ∷ ts) ns zero = names_of t.names ns
 names_at (t ∷ ts) ns (suc i) = names_at ts (after_names t.names ns) i
 
 pub task_looked : (ts : List TaskRecord) (rs : List RegionRecord) (ns : List ℕ) (i : ℕ) → i < length ts
-    → get_or (tasks_of ts rs ns) i no_task ≡ task_of (get_or ts i blank) (own_at ts rs i) (names_at ts ns i)
+    → get_or (tasks_of ts rs ns) i no_task ≡ task_of (get_or ts i blank) (own_regions ts rs i) (names_at ts ns i)
 task_looked [] rs ns i lt = absurd (omega (arith, lt))
 task_looked (t ∷ ts) rs ns zero lt = refl
 task_looked (t ∷ ts) rs ns (suc i) lt = task_looked ts (drop t.regions rs) (after_names t.names ns) i (omega (arith, lt))
@@ -54,7 +50,7 @@ names_looked (t ∷ ts) rs ns zero = refl
 names_looked (t ∷ ts) rs ns (suc i) = names_looked ts (drop t.regions rs) (after_names t.names ns) i
 
 pub own_sliced : (ts : List TaskRecord) (rs : List RegionRecord) (i : ℕ) → i < length ts
-    → own_at ts rs i ≡ take (get_or ts i blank).regions (drop (counted (take i ts)) rs)
+    → own_regions ts rs i ≡ take (get_or ts i blank).regions (drop (counted (take i ts)) rs)
 own_sliced [] rs i lt = absurd (omega (arith, lt))
 own_sliced (t ∷ ts) rs zero lt = refl
 own_sliced (t ∷ ts) rs (suc i) lt =
@@ -91,12 +87,12 @@ in_drop zero xs x h = h
 in_drop (suc n) [] x h = absurd h
 in_drop (suc n) (y ∷ ys) x h = inr (in_drop n ys x h)
 
-pub in_own : (ts : List TaskRecord) (rs : List RegionRecord) (i : ℕ) (r : RegionRecord) → In r (own_at ts rs i) → In r rs
+pub in_own : (ts : List TaskRecord) (rs : List RegionRecord) (i : ℕ) (r : RegionRecord) → In r (own_regions ts rs i) → In r rs
 in_own [] rs i r h = absurd h
 in_own (t ∷ ts) rs zero r h = in_take t.regions rs r h
 in_own (t ∷ ts) rs (suc i) r h = in_drop t.regions rs r (in_own ts (drop t.regions rs) i r h)
 
-pub regions_looked : (ts : List TaskRecord) (rs : List RegionRecord) (ns : List ℕ) (i : ℕ) → (get_or (tasks_of ts rs ns) i no_task).regions ≡ map region_of (own_at ts rs i)
+pub regions_looked : (ts : List TaskRecord) (rs : List RegionRecord) (ns : List ℕ) (i : ℕ) → (get_or (tasks_of ts rs ns) i no_task).regions ≡ map region_of (own_regions ts rs i)
 regions_looked [] rs ns i = past i
   where
     past : (i : ℕ) → (get_or [] i no_task).regions ≡ []
@@ -105,10 +101,22 @@ regions_looked [] rs ns i = past i
 regions_looked (t ∷ ts) rs ns zero = refl
 regions_looked (t ∷ ts) rs ns (suc i) = regions_looked ts (drop t.regions rs) (after_names t.names ns) i
 
+-- a region by its number, which counts from one
+pub region_numbered : (own : List RegionRecord) (number : ℕ) → 0 < number → region_by (map region_of own) number ≡ option_map region_of (slice_get own (number - 1))
+region_numbered own zero above = absurd (omega (arith, above))
+region_numbered own (suc k) above =
+    let same : k ≡ suc k - 1 = omega arith in
+    slice_get-map region_of own k ∙ ap (λ (j : ℕ). option_map region_of (slice_get own j)) same
+
+-- whether it may drive a line
+pub drive_numbered : (own : List RegionRecord) (number : ℕ) → 0 < number → may_drive own number ≡ is_devices (slice_get own (number - 1))
+drive_numbered own zero above = absurd (omega (arith, above))
+drive_numbered own (suc k) above = let same : k ≡ suc k - 1 = omega arith in ap (λ (j : ℕ). is_devices (slice_get own j)) same
+
 -- the record that a region of a task comes from
 pub region_source : (ts : List TaskRecord) (rs : List RegionRecord) (ns : List ℕ) (i : ℕ) (r : Region)
     → Contains (get_or (tasks_of ts rs ns) i no_task).regions r → (q : RegionRecord) × (In q rs) × (region_of q ≡ r)
 region_source ts rs ns i r c =
-    let h : In r (map region_of (own_at ts rs i)) = subst (In r) (regions_looked ts rs ns i) (in_list (get_or (tasks_of ts rs ns) i no_task).regions r c) in
-    let m = in_map region_of (own_at ts rs i) r h in
+    let h : In r (map region_of (own_regions ts rs i)) = subst (In r) (regions_looked ts rs ns i) (in_list (get_or (tasks_of ts rs ns) i no_task).regions r c) in
+    let m = in_map region_of (own_regions ts rs i) r h in
     (m.0, in_own ts rs i m.0 m.1, m.2)

@@ -1,6 +1,6 @@
 -- Records that no step refuses in one form are refused by none in the other, where they keep its limits: the conditions are the same, and a place matters only where something is refused.
 use Rattle.std.proofs.Common.{◌≡◌, ◌+◌, ◌*◌, ◌%◌, ◌≤◌, ℕ, suc, List, [], ◌∷◌, ◌++◌, Bool, true, false, not, ◌||◌, ◌&&◌, ◌==◌, None, Some, length, take, drop, map, nat_le, nat_lt, cond, arith, ap, refl}
-use Rattle.std.proofs.lemmas.Bool.{or_parts, or_from, ltb-false, le-ltb}
+use Rattle.std.proofs.lemmas.Bool.{eqb-true, not-false, or_parts, or_from, ltb-false, le-ltb}
 use Rattle.std.specs.Prelude.{Contains}
 use Rattle.std.specs.List.{list_any}
 use Rattle.image_format.specs.declared.records.ImageForm.{ImageForm}
@@ -12,7 +12,7 @@ use Rattle.image_format.specs.declared.records.LineRecord.{LineRecord}
 use Rattle.image_format.specs.Accepted.{Accepted}
 use Rattle.image_format.specs.ImageData.{ImageLine, ImageData, Sound, SpellsFirst, ImageTask, line_record, records_of, task_record}
 use Rattle.image_format.specs.Records.{Records}
-use Rattle.image_format.specs.Regions.{clashes, entries_from, entry_fault, has_area, has_rights, has_shape, own_fault, region_fault, regions_from, runs_at}
+use Rattle.image_format.specs.Regions.{clashes, entries_from, entry_fault, has_area, has_rights, has_shape, line_device_fault, line_devices_from, may_drive, own_fault, own_regions, region_fault, regions_from, runs_at}
 use Rattle.image_format.specs.Steps.{Refusal, count_place, counted, header_size, highest_line, line_fault, lines_from, lines_place, most_names, names_place, regions_place, task_fault, tasks_from}
 use Rattle.image_format.proofs.Limits.{Limits, limits, lines_64, no_zero, plain_names, row_none, row_pass, taken, tasks_512}
 use Rattle.image_format.proofs.Named.{names_moved}
@@ -120,67 +120,99 @@ entries_moved place other (t ∷ ts) rs e =
 
 -- ---- interrupts
 
+-- a form does not allow such a device
+abbrev pub no_device : ImageForm → ℕ → Bool
+no_device First d = not (d == 0)
+no_device Second d = nat_lt 8 d
+
+-- the form allows the interrupt's line and its device
+pub record Fits (f : ImageForm) (l : LineRecord) : Type 0 where
+  pub high : nat_lt (highest_line f) l.line ≡ false
+  pub device : no_device f l.device ≡ false
+
 -- what both forms ask of an interrupt
 pub record IsOwned (least tasks : ℕ) (l : LineRecord) : Type 0 where
   pub low : nat_lt l.line least ≡ false
   pub owner : nat_le tasks l.task ≡ false
-  pub zero_half : not (l.zero == 0) ≡ false
   pub bits : (l.bits == 0) ≡ false
 
-pub line_rows : (f : ImageForm) (least tasks : ℕ) (l : LineRecord) (place : ℕ) → line_fault f least tasks l place ≡ None → (nat_lt (highest_line f) l.line ≡ false) × IsOwned least tasks l
+pub line_rows : (f : ImageForm) (least tasks : ℕ) (l : LineRecord) (place : ℕ) → line_fault f least tasks l place ≡ None → Fits f l × IsOwned least tasks l
 line_rows First least tasks l place e =
     let a = row_none (nat_lt 31 l.line || nat_lt l.line least) _ _ e in
     let b = row_none (nat_le tasks l.task) _ _ a.1 in
-    let c = row_none (not (l.zero == 0)) _ _ b.1 in
+    let c = row_none (not (l.device == 0)) _ _ b.1 in
     let d = row_none (l.bits == 0) _ _ c.1 in
     let line = or_parts (nat_lt 31 l.line) (nat_lt l.line least) a.0 in
-    (line.0, record { low = line.1; owner = b.0; zero_half = c.0; bits = d.0 })
+    (record { high = line.0; device = c.0 }, record { low = line.1; owner = b.0; bits = d.0 })
 line_rows Second least tasks l place e =
     let a = row_none (nat_lt 63 l.line || nat_lt l.line least) _ _ e in
-    let b = row_none (not (l.zero == 0)) _ _ a.1 in
+    let b = row_none (nat_lt 8 l.device) _ _ a.1 in
     let c = row_none (nat_le tasks l.task) _ _ b.1 in
     let d = row_none (l.bits == 0) _ _ c.1 in
     let line = or_parts (nat_lt 63 l.line) (nat_lt l.line least) a.0 in
-    (line.0, record { low = line.1; owner = c.0; zero_half = b.0; bits = d.0 })
+    (record { high = line.0; device = b.0 }, record { low = line.1; owner = c.0; bits = d.0 })
 
-rows_line : (f : ImageForm) (least tasks : ℕ) (l : LineRecord) (place : ℕ) → nat_lt (highest_line f) l.line ≡ false → IsOwned least tasks l → line_fault f least tasks l place ≡ None
-rows_line First least tasks l place high o =
-    row_pass (nat_lt 31 l.line || nat_lt l.line least) _ _ (or_from (nat_lt 31 l.line) (nat_lt l.line least) high o.low)
-    (row_pass (nat_le tasks l.task) _ _ o.owner (row_pass (not (l.zero == 0)) _ _ o.zero_half (row_pass (l.bits == 0) _ _ o.bits refl)))
-rows_line Second least tasks l place high o =
-    row_pass (nat_lt 63 l.line || nat_lt l.line least) _ _ (or_from (nat_lt 63 l.line) (nat_lt l.line least) high o.low)
-    (row_pass (not (l.zero == 0)) _ _ o.zero_half (row_pass (nat_le tasks l.task) _ _ o.owner (row_pass (l.bits == 0) _ _ o.bits refl)))
+rows_line : (f : ImageForm) (least tasks : ℕ) (l : LineRecord) (place : ℕ) → Fits f l → IsOwned least tasks l → line_fault f least tasks l place ≡ None
+rows_line First least tasks l place fits o =
+    row_pass (nat_lt 31 l.line || nat_lt l.line least) _ _ (or_from (nat_lt 31 l.line) (nat_lt l.line least) fits.high o.low)
+    (row_pass (nat_le tasks l.task) _ _ o.owner (row_pass (not (l.device == 0)) _ _ fits.device (row_pass (l.bits == 0) _ _ o.bits refl)))
+rows_line Second least tasks l place fits o =
+    row_pass (nat_lt 63 l.line || nat_lt l.line least) _ _ (or_from (nat_lt 63 l.line) (nat_lt l.line least) fits.high o.low)
+    (row_pass (nat_lt 8 l.device) _ _ fits.device (row_pass (nat_le tasks l.task) _ _ o.owner (row_pass (l.bits == 0) _ _ o.bits refl)))
 
--- no line is ltb-false the highest of the form
-abbrev pub AreLow : ImageForm → List LineRecord → Type 0
-AreLow f [] = Unit {0}
-AreLow f (l ∷ ls) = (nat_lt (highest_line f) l.line ≡ false) × AreLow f ls
+-- the form allows the line and the device of each interrupt
+abbrev pub AllFit : ImageForm → List LineRecord → Type 0
+AllFit f [] = Unit {0}
+AllFit f (l ∷ ls) = Fits f l × AllFit f ls
 
-lines_moved : (f g : ImageForm) (least tasks place other : ℕ) (ls : List LineRecord) → AreLow g ls → lines_from f least tasks place ls ≡ None → lines_from g least tasks other ls ≡ None
-lines_moved f g least tasks place other [] low e = refl
-lines_moved f g least tasks place other (l ∷ ls) low e =
+lines_moved : (f g : ImageForm) (least tasks place other : ℕ) (ls : List LineRecord) → AllFit g ls → lines_from f least tasks place ls ≡ None → lines_from g least tasks other ls ≡ None
+lines_moved f g least tasks place other [] fit e = refl
+lines_moved f g least tasks place other (l ∷ ls) fit e =
     let a = both_none (line_fault f least tasks l place) (lines_from f (l.line + 1) tasks (place + 8) ls) e in
-    none_both (line_fault g least tasks l other) (lines_from g (l.line + 1) tasks (other + 8) ls) (rows_line g least tasks l other low.0 (line_rows f least tasks l place a.0).1)
-    (lines_moved f g (l.line + 1) tasks (place + 8) (other + 8) ls low.1 a.1)
+    none_both (line_fault g least tasks l other) (lines_from g (l.line + 1) tasks (other + 8) ls) (rows_line g least tasks l other fit.0 (line_rows f least tasks l place a.0).1)
+    (lines_moved f g (l.line + 1) tasks (place + 8) (other + 8) ls fit.1 a.1)
 
 higher : (f : ImageForm) (n : ℕ) → nat_lt (highest_line f) n ≡ false → nat_lt 63 n ≡ false
 higher First n e = let le = ltb-false 31 n e in le-ltb 63 n (omega (arith, le))
 higher Second n e = e
 
-low_second : (f : ImageForm) (least tasks place : ℕ) (ls : List LineRecord) → lines_from f least tasks place ls ≡ None → AreLow Second ls
-low_second f least tasks place [] e = tt
-low_second f least tasks place (l ∷ ls) e =
-    let a = both_none (line_fault f least tasks l place) (lines_from f (l.line + 1) tasks (place + 8) ls) e in
-    (higher f l.line (line_rows f least tasks l place a.0).0, low_second f (l.line + 1) tasks (place + 8) ls a.1)
+-- a device that a form allows is no higher than a task has regions
+pub bounded : (f : ImageForm) (d : ℕ) → no_device f d ≡ false → nat_lt 8 d ≡ false
+bounded First d e = let none = eqb-true d 0 (not-false (d == 0) e) in le-ltb 8 d (omega (arith, none))
+bounded Second d e = e
 
-low_first : (ls : List ImageLine) → ((l : ImageLine) → Contains ls l → l.line ≤ highest_line First) → AreLow First (map line_record ls)
-low_first [] h = tt
-low_first (l ∷ ls) h = (le-ltb 31 l.line (h l (0, omega arith, refl)), low_first ls (λ m is. h m (suc is.0, omega (arith, is.1), is.2)))
+fit_second : (f : ImageForm) (least tasks place : ℕ) (ls : List LineRecord) → lines_from f least tasks place ls ≡ None → AllFit Second ls
+fit_second f least tasks place [] e = tt
+fit_second f least tasks place (l ∷ ls) e =
+    let a = both_none (line_fault f least tasks l place) (lines_from f (l.line + 1) tasks (place + 8) ls) e in
+    let fits = (line_rows f least tasks l place a.0).0 in
+    (record { high = higher f l.line fits.high; device = bounded f l.device fits.device }, fit_second f (l.line + 1) tasks (place + 8) ls a.1)
+
+-- no line of an image is too high for the first form, and none has a device
+fit_first : (ls : List ImageLine) → ((l : ImageLine) → Contains ls l → l.line ≤ highest_line First) → ((l : ImageLine) → Contains ls l → l.device ≡ 0) → AllFit First (map line_record ls)
+fit_first [] low none = tt
+fit_first (l ∷ ls) low none =
+    let here : Contains (l ∷ ls) l = (0, omega arith, refl) in (
+      record { high = le-ltb 31 l.line (low l here); device = ap (λ (d : ℕ). not (d == 0)) (none l here) },
+      fit_first ls (λ m is. low m (suc is.0, omega (arith, is.1), is.2)) (λ m is. none m (suc is.0, omega (arith, is.1), is.2)),
+    )
+
+-- ---- the devices that drive lines
+
+line_device_moved : (own : List RegionRecord) (l : LineRecord) (place other : ℕ) → line_device_fault own l place ≡ None → line_device_fault own l other ≡ None
+line_device_moved own l place other e = count_moved (may_drive own l.device) (3, place + 1) (3, other + 1) e
+
+line_devices_moved : (ts : List TaskRecord) (rs : List RegionRecord) (place other : ℕ) (ls : List LineRecord) → line_devices_from ts rs place ls ≡ None → line_devices_from ts rs other ls ≡ None
+line_devices_moved ts rs place other [] e = refl
+line_devices_moved ts rs place other (l ∷ ls) e =
+    let own = own_regions ts rs l.task in
+    let a = both_none (line_device_fault own l place) (line_devices_from ts rs (place + 8) ls) e in
+    none_both (line_device_fault own l other) (line_devices_from ts rs (other + 8) ls) (line_device_moved own l place other a.0) (line_devices_moved ts rs (place + 8) (other + 8) ls a.1)
 
 -- ---- the whole
 
-passed_moved : (f : ImageForm) (r : Records) → AreFew f r.tasks → AreLow f r.lines → Passed r → Passed (in_form f r)
-passed_moved f r few low p =
+passed_moved : (f : ImageForm) (r : Records) → AreFew f r.tasks → AllFit f r.lines → Passed r → Passed (in_form f r)
+passed_moved f r few fit p =
     let h = r.header in
     let g = header_in_form f h in
     record {
@@ -188,19 +220,20 @@ passed_moved f r few low p =
       count = count_moved (counted r.tasks == h.regions) (3, count_place h.form) (3, count_place f) p.count;
       regions = regions_moved f h [] (regions_place h) (regions_place g) r.tasks r.regions p.regions;
       entries = entries_moved (header_size h.form) (header_size f) r.tasks r.regions p.entries;
-      lines = lines_moved h.form f 0 h.tasks (lines_place h) (lines_place g) r.lines low p.lines;
+      lines = lines_moved h.form f 0 h.tasks (lines_place h) (lines_place g) r.lines fit p.lines;
+      devices = line_devices_moved r.tasks r.regions (lines_place h) (lines_place g) r.lines p.devices;
       names = names_moved (names_place h + length r.names) (names_place g + length r.names) r.tasks r.names p.names;
     }
 
-accepted_moved : (f : ImageForm) (r : Records) → Limits f (header_in_form f r.header) → AreFew f r.tasks → AreLow f r.lines → Accepted r → Accepted (in_form f r)
-accepted_moved f r l few low a = record {
+accepted_moved : (f : ImageForm) (r : Records) → Limits f (header_in_form f r.header) → AreFew f r.tasks → AllFit f r.lines → Accepted r → Accepted (in_form f r)
+accepted_moved f r l few fit a = record {
   tasks = a.tasks;
   regions = a.regions;
   lines = a.lines;
   names = a.names;
   flash = a.flash;
   fields = taken (header_in_form f r.header) l;
-  records = steps_passed (in_form f r) (passed_moved f r few low (passed_steps r a.records));
+  records = steps_passed (in_form f r) (passed_moved f r few fit (passed_steps r a.records));
 }
 
 -- accepted records of either form are accepted in the second
@@ -220,7 +253,7 @@ second_accepted r a plain =
       ram = l.ram;
       bits = l.bits;
       second = λ e. (no_zero h a.fields (λ f. (plain f).0), plain_names h h.form refl a.fields (λ f. (plain f).1));
-    }) (few_second h.form 0 (header_size h.form) r.tasks s.tasks) (low_second h.form 0 h.tasks (lines_place h) r.lines s.lines) a
+    }) (few_second h.form 0 (header_size h.form) r.tasks s.tasks) (fit_second h.form 0 h.tasks (lines_place h) r.lines s.lines) a
 
 -- a sound image that the first form can hold is accepted in it
 pub first_accepted : (p : ImageData) (bytes : List ℕ) → SpellsFirst p bytes → Sound p → Accepted (records_of First p)
@@ -238,4 +271,4 @@ first_accepted p bytes f a =
       ram = l.ram;
       bits = l.bits;
       second = λ e. cc;
-    }) (few_first p.tasks f.unnamed) (low_first p.lines f.low_lines) a
+    }) (few_first p.tasks f.unnamed) (fit_first p.lines f.low_lines f.undriven) a

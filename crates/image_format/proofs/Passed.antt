@@ -3,7 +3,7 @@ use Rattle.std.proofs.Common.{◌≡◌, None, Some, Option, ap, refl, ◌∙◌
 use Rattle.image_format.specs.Names.{names_fault}
 use Rattle.image_format.specs.Records.{Records, records_fault}
 use Rattle.image_format.specs.Steps.{Refusal, count_fault, lines_fault, or_else, tasks_fault}
-use Rattle.image_format.specs.Regions.{entries_fault, regions_fault}
+use Rattle.image_format.specs.Regions.{entries_fault, line_devices_fault, regions_fault}
 
 pub both_none : (a b : Option Refusal) → or_else a b ≡ None → (a ≡ None) × (b ≡ None)
 both_none None b e = (refl, e)
@@ -18,6 +18,7 @@ pub record Passed (r : Records) : Type 0 where
   pub regions : regions_fault r.header r.tasks r.regions ≡ None
   pub entries : entries_fault r.header r.tasks r.regions ≡ None
   pub lines : lines_fault r.header r.lines ≡ None
+  pub devices : line_devices_fault r.header r.tasks r.regions r.lines ≡ None
   pub names : names_fault r.header r.tasks r.names ≡ None
 
 pub passed_steps : (r : Records) → records_fault r ≡ None → Passed r
@@ -27,7 +28,8 @@ passed_steps r e =
     let g = both_none (regions_fault r.header r.tasks r.regions) _ c.1 in
     let n = both_none (entries_fault r.header r.tasks r.regions) _ g.1 in
     let l = both_none (lines_fault r.header r.lines) _ n.1 in
-    record { tasks = t.0; count = c.0; regions = g.0; entries = n.0; lines = l.0; names = l.1 }
+    let d = both_none (line_devices_fault r.header r.tasks r.regions r.lines) _ l.1 in
+    record { tasks = t.0; count = c.0; regions = g.0; entries = n.0; lines = l.0; devices = d.0; names = d.1 }
 
 pub steps_passed : (r : Records) → Passed r → records_fault r ≡ None
 steps_passed r p =
@@ -35,4 +37,5 @@ steps_passed r p =
     (none_both (count_fault r.header r.tasks) _ p.count
     (none_both (regions_fault r.header r.tasks r.regions) _ p.regions
     (none_both (entries_fault r.header r.tasks r.regions) _ p.entries
-    (none_both (lines_fault r.header r.lines) (names_fault r.header r.tasks r.names) p.lines p.names))))
+    (none_both (lines_fault r.header r.lines) _ p.lines
+    (none_both (line_devices_fault r.header r.tasks r.regions r.lines) (names_fault r.header r.tasks r.names) p.devices p.names)))))

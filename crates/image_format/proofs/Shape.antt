@@ -21,7 +21,7 @@ use Rattle.image_format.specs.Records.{Records}
 use Rattle.image_format.specs.Regions.{clashes, has_area, has_rights, has_shape, own_fault, region_fault, regions_from}
 use Rattle.image_format.specs.Steps.{counted, header_size, highest_line, line_fault, lines_from, lines_place, most_names, names_place, regions_place, task_fault, tasks_from}
 use Rattle.image_format.proofs.Limits.{all_counted, limits, positive, row_none}
-use Rattle.image_format.proofs.Moved.{line_rows}
+use Rattle.image_format.proofs.Moved.{bounded, line_rows}
 use Rattle.image_format.proofs.Named.{all_names_again, names_after, names_back}
 use Rattle.image_format.proofs.Passed.{both_none, passed_steps}
 
@@ -200,36 +200,36 @@ pub record IsLine (form : ImageForm) (least tasks : ℕ) (l : LineRecord) : Type
   pub most : l.line ≤ highest_line form
   pub least_line : least ≤ l.line
   pub owner : l.task < tasks
-  pub zero_half : l.zero ≡ 0
+  pub device : l.device ≤ 8
   pub bits : 0 < l.bits
 
 pub is_line : (form : ImageForm) (least tasks : ℕ) (l : LineRecord) (place : ℕ) → line_fault form least tasks l place ≡ None → IsLine form least tasks l
 is_line form least tasks l place e =
     let rows = line_rows form least tasks l place e in
     record {
-      most = ltb-false (highest_line form) l.line rows.0;
+      most = ltb-false (highest_line form) l.line rows.0.high;
       least_line = ltb-false l.line least rows.1.low;
       owner = leb-false tasks l.task rows.1.owner;
-      zero_half = equals l.zero 0 rows.1.zero_half;
+      device = ltb-false 8 l.device (bounded form l.device rows.0.device);
       bits = positive l.bits rows.1.bits;
     }
 
-line_again : (l : LineRecord) → l.zero ≡ 0 → line_record (line_of l) ≡ l
-line_again l e = ap (λ (n : ℕ). record l { zero = n }) (sym e)
+lines_again : (ls : List LineRecord) → map line_record (map line_of ls) ≡ ls
+lines_again [] = refl
+lines_again (l ∷ ls) = ap (λ (xs : List LineRecord). l ∷ xs) (lines_again ls)
 
-lines_again : (form : ImageForm) (least tasks place : ℕ) (ls : List LineRecord) → lines_from form least tasks place ls ≡ None → map line_record (map line_of ls) ≡ ls
-lines_again form least tasks place [] e = refl
-lines_again form least tasks place (l ∷ ls) e =
+pub are_lines : (form : ImageForm) (least tasks place : ℕ) (ls : List LineRecord) → lines_from form least tasks place ls ≡ None → All (IsLine form least tasks) ls
+are_lines form least tasks place [] e k d lt = absurd (omega (arith, lt))
+are_lines form least tasks place (l ∷ ls) e zero d lt =
+    is_line form least tasks l place (both_none (line_fault form least tasks l place) (lines_from form (l.line + 1) tasks (place + 8) ls) e).0
+are_lines form least tasks place (l ∷ ls) e (suc k) d lt =
     let a = both_none (line_fault form least tasks l place) (lines_from form (l.line + 1) tasks (place + 8) ls) e in
-    ap₂ (λ x xs. x ∷ xs) (line_again l (is_line form least tasks l place a.0).zero_half) (lines_again form (l.line + 1) tasks (place + 8) ls a.1)
+    let here = is_line form least tasks l place a.0 in
+    let next = are_lines form (l.line + 1) tasks (place + 8) ls a.1 k d (omega (arith, lt)) in
+    record { most = next.most; least_line = omega (arith, here.least_line, next.least_line); owner = next.owner; device = next.device; bits = next.bits }
 
--- no interrupt has another zero than 0
-pub no_zeros : (form : ImageForm) (least tasks place : ℕ) (ls : List LineRecord) → lines_from form least tasks place ls ≡ None → All (λ l. l.zero ≡ 0) ls
-no_zeros form least tasks place [] e k d lt = absurd (omega (arith, lt))
-no_zeros form least tasks place (l ∷ ls) e zero d lt =
-    (is_line form least tasks l place (both_none (line_fault form least tasks l place) (lines_from form (l.line + 1) tasks (place + 8) ls) e).0).zero_half
-no_zeros form least tasks place (l ∷ ls) e (suc k) d lt =
-    no_zeros form (l.line + 1) tasks (place + 8) ls (both_none (line_fault form least tasks l place) (lines_from form (l.line + 1) tasks (place + 8) ls) e).1 k d (omega (arith, lt))
+pub each_line : (r : Records) → Accepted r → All (IsLine r.header.form 0 r.header.tasks) r.lines
+each_line r a = are_lines r.header.form 0 r.header.tasks (lines_place r.header) r.lines (passed_steps r a.records).lines
 
 -- ---- the whole
 
@@ -259,7 +259,7 @@ shape_again r a nothing =
     (ap length all ∙ length-map r.regions region_of ∙ a.regions) (sym nothing) a.flash (ap length names ∙ a.names)
     (tasks_again h.form 0 (header_size h.form) r.tasks r.regions r.names n s.tasks)
     (ap (map region_record) all ∙ regions_again h r.regions (every_region h [] (regions_place h) r.tasks r.regions n s.regions))
-    (lines_again h.form 0 h.tasks (lines_place h) r.lines s.lines)
+    (lines_again r.lines)
     names
 
 -- records of the second form are those of their picture

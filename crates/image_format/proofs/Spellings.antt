@@ -16,10 +16,10 @@ use Rattle.image_format.specs.Records.{Records, bytes_of, header_at, header_byte
 use Rattle.image_format.specs.Steps.{Refusal, header_size, line_fault, lines_from, lines_place, task_fault, tasks_from}
 use Rattle.image_format.proofs.Again.{IsCounted, IsPlain, bytes_length, header_again, reads_again, records_again}
 use Rattle.image_format.proofs.Limits.{Limits, limits, short_total}
-use Rattle.image_format.proofs.Moved.{first_accepted, in_form, second_accepted}
+use Rattle.image_format.proofs.Moved.{first_accepted, in_form, line_rows, second_accepted}
 use Rattle.image_format.proofs.Named.{no_name}
 use Rattle.image_format.proofs.Passed.{both_none, passed_steps}
-use Rattle.image_format.proofs.Shape.{is_line, image_data_again, shape_again, sound_image_data, tasks_length}
+use Rattle.image_format.proofs.Shape.{equals, is_line, image_data_again, shape_again, sound_image_data, tasks_length}
 use Rattle.image_format.proofs.Spelled.{accepted_plain, spelled}
 
 -- ---- what is read is a spelling
@@ -31,6 +31,14 @@ low_at least tasks place (m ∷ ls) zero l e lt is =
     subst (λ (x : ImageLine). x.line ≤ 31) is (is_line First least tasks m place a.0).most
 low_at least tasks place (m ∷ ls) (suc k) l e lt is =
     low_at (m.line + 1) tasks (place + 8) ls k l (both_none (line_fault First least tasks m place) (lines_from First (m.line + 1) tasks (place + 8) ls) e).1 (omega (arith, lt)) is
+
+undriven_at : (least tasks place : ℕ) (ls : List LineRecord) (k : ℕ) (l : ImageLine) → lines_from First least tasks place ls ≡ None → k < length (map line_of ls) → get_or (map line_of ls) k l ≡ l → l.device ≡ 0
+undriven_at least tasks place [] k l e lt is = absurd (omega (arith, lt))
+undriven_at least tasks place (m ∷ ls) zero l e lt is =
+    let a = both_none (line_fault First least tasks m place) (lines_from First (m.line + 1) tasks (place + 8) ls) e in
+    sym (ap (λ (x : ImageLine). x.device) is) ∙ equals m.device 0 (line_rows First least tasks m place a.0).0.device
+undriven_at least tasks place (m ∷ ls) (suc k) l e lt is =
+    undriven_at (m.line + 1) tasks (place + 8) ls k l (both_none (line_fault First least tasks m place) (lines_from First (m.line + 1) tasks (place + 8) ls) e).1 (omega (arith, lt)) is
 
 unnamed_at : (index place : ℕ) (ts : List TaskRecord) (rs : List RegionRecord) (ns : List ℕ) (k : ℕ) (t : ImageTask) → tasks_from First index place ts ≡ None
     → k < length (tasks_of ts rs ns) → get_or (tasks_of ts rs ns) k t ≡ t → t.names ≡ []
@@ -55,6 +63,7 @@ spells_first bytes r is spelled a plain =
       few_tasks = omega (arith, l.tasks, a.tasks, tasks_length r.tasks r.regions r.names);
       few_lines = omega (arith, l.lines, a.lines, length-map r.lines line_of);
       low_lines = λ x c. low_at 0 h.tasks (lines_place h) r.lines c.0 x lines c.1 c.2;
+      undriven = λ x c. undriven_at 0 h.tasks (lines_place h) r.lines c.0 x lines c.1 c.2;
       unnamed = λ t c. unnamed_at 0 20 r.tasks r.regions r.names c.0 t tasks c.1 c.2;
     }
 

@@ -154,7 +154,7 @@ fn check_first_line(least: u16, tasks: u16, l: &LineRecord, place: u32) -> Optio
         Some((13, place))
     } else if l.task >= tasks {
         Some((14, place + 1))
-    } else if l.zero != 0 {
+    } else if l.device != 0 {
         Some((3, place + 2))
     } else if l.bits == 0 {
         Some((15, place + 4))
@@ -171,7 +171,7 @@ fn check_second_line(least: u16, tasks: u16, l: &LineRecord, place: u32) -> Opti
 {
     if l.line > 63 || u16::from(l.line) < least {
         Some((13, place))
-    } else if l.zero != 0 {
+    } else if l.device > 8 {
         Some((3, place + 1))
     } else if l.task >= tasks {
         Some((14, place + 2))

@@ -5,6 +5,7 @@
 mod checks;
 mod image;
 pub mod laws;
+mod line_devices;
 mod making;
 mod names;
 mod parts;
@@ -17,6 +18,7 @@ mod writing;
 
 pub use checks::{check_count, check_fields, check_lines, check_tasks};
 pub use image::Image;
+pub use line_devices::check_line_devices;
 pub use names::check_names;
 pub use records::{Header, ImageFault, ImageForm, LineRecord, RegionRecord, TaskRecord};
 pub use regions::{check_entries, check_regions};

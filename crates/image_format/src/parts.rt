@@ -102,7 +102,7 @@ fn first_line(bytes: &[u8]) -> LineRecord
     LineRecord {
         line: bytes[0],
         task: u16::from(bytes[1]),
-        zero: u16_at(bytes, 2),
+        device: u16_at(bytes, 2),
         bits: u32_at(bytes, 4),
     }
 }
@@ -114,7 +114,7 @@ fn second_line(bytes: &[u8]) -> LineRecord
     LineRecord {
         line: bytes[0],
         task: u16_at(bytes, 2),
-        zero: u16::from(bytes[1]),
+        device: u16::from(bytes[1]),
         bits: u32_at(bytes, 4),
     }
 }

@@ -10,6 +10,7 @@ ghost use Rattle.image_format.specs.Steps.{field_fault, header_size};
 
 use crate::checks::{check_count, check_fields, check_lines, check_tasks};
 use crate::image::Image;
+use crate::line_devices::check_line_devices;
 use crate::names::check_names;
 use crate::parts::{Parts, header_at, parts_of, u32_at};
 use crate::places::{header_size, names_place};
@@ -137,6 +138,10 @@ fn check_records(p: &Parts) -> Option<(u8, u32)>
     let lines = check_lines(h, p.lines.as_slice());
     if lines.is_some() {
         return lines;
+    }
+    let devices = check_line_devices(h, tasks, regions, p.lines.as_slice());
+    if devices.is_some() {
+        return devices;
     }
     check_names(h, tasks, p.names.as_slice())
 }

@@ -6,10 +6,10 @@ ghost use Rattle.image_format.specs.Facts.{Facts};
 ghost use Rattle.image_format.specs.Images.{image_data};
 ghost use Rattle.text_lines.specs.Names.{is_name};
 ghost use Rattle.image_format.specs.Names.{names_of};
-ghost use Rattle.image_format.specs.ImageData.{Sound, line_in, names_in, region_of, regions_in, rights_of, task_in};
-ghost use Rattle.image_format.specs.Steps.{counted};
+ghost use Rattle.image_format.specs.ImageData.{Sound, device_region, line_in, names_in, region_by, region_of, regions_in, rights_of, task_in};
 
 use crate::image::Image;
+use crate::line_devices::own_regions;
 use crate::names::{skip_names, split_name};
 use crate::records::{RegionRecord, TaskRecord};
 use region_check::{Region, Rights};
@@ -36,19 +36,6 @@ fn region_of(r: &RegionRecord) -> Region
     }
 }
 
-/// How many regions the first n tasks have.
-fn counted(tasks: &[TaskRecord], n: usize) -> usize
-    requires few { length tasks.now ≤ 512 }
-    requires within { n ≤ length tasks.now }
-    ensures { result ≡ counted (take n tasks.now) }
-{
-    let mut sum = 0usize;
-    for i in 0..n {
-        sum += usize::from(tasks[i].regions);
-    }
-    sum
-}
-
 /// The i-th task's record.
 #[tactic(auto, using(crate::proofs::Shape::tasks_length))]
 fn task_at(image: &Image, i: usize) -> TaskRecord
@@ -62,16 +49,11 @@ fn task_at(image: &Image, i: usize) -> TaskRecord
 }
 
 /// The i-th task's regions.
-#[tactic(auto, using(crate::proofs::Shape::tasks_length))]
-fn own_regions(image: &Image, i: usize) -> &[RegionRecord]
+fn regions_in(image: &Image, i: usize) -> &[RegionRecord]
     requires { i < length (image_data image.now).tasks }
     ensures { map region_of result.now ≡ regions_in (image_data image.now) i }
 {
-    let tasks = image.tasks.as_slice();
-    let regions = image.regions.as_slice();
-    let start = counted(tasks, i);
-    let end = start + usize::from(tasks[i].regions);
-    &regions[start..end]
+    own_regions(image.tasks.as_slice(), image.regions.as_slice(), i)
 }
 
 fn regions_of(alloc: Global, own: &[RegionRecord]) -> Result<Vec<Region>, AllocError>
@@ -82,6 +64,19 @@ fn regions_of(alloc: Global, own: &[RegionRecord]) -> Result<Vec<Region>, AllocE
         regions.push(region_of(r))?;
     }
     Ok(regions)
+}
+
+/// The region of a task by its number, which counts from one.
+fn region_by(own: &[RegionRecord], number: u16) -> Option<Region>
+    ensures { result ≡ region_by (map region_of own.now) number }
+{
+    if number == 0 {
+        return None;
+    }
+    match own.get(usize::from(number) - 1) {
+        Some(region) => Some(region_of(region)),
+        None => None,
+    }
 }
 
 /// How many names the first n tasks have.
@@ -175,7 +170,7 @@ impl Image {
         requires { i < length (image_data self.now).tasks }
         ensures { IfOk result (λ v. v.items ≡ regions_in (image_data self.now) i) }
     {
-        regions_of(alloc, own_regions(self, i))
+        regions_of(alloc, regions_in(self, i))
     }
 
     /// The names of the i-th task's notifications, of which the k-th is bit k.
@@ -218,6 +213,24 @@ impl Image {
         ensures { result ≡ (line_in (image_data self.now) k).bits }
     {
         self.lines[k].bits
+    }
+
+    /// The number, counted from one, of the region of its task whose device drives the k-th
+    /// interrupt: 1 to 8, or 0 if no device drives it.
+    pub fn line_device(&self, k: usize) -> u8
+        requires { k < length (image_data self.now).lines }
+        ensures { result ≡ (line_in (image_data self.now) k).device }
+    {
+        self.lines[k].device as u8
+    }
+
+    /// The region of the device that drives the k-th interrupt, or None if no device drives it.
+    pub fn line_device_region(&self, k: usize) -> Option<Region>
+        requires { k < length (image_data self.now).lines }
+        ensures { result ≡ device_region (image_data self.now) k }
+    {
+        let line = self.lines[k];
+        region_by(regions_in(self, usize::from(line.task)), line.device)
     }
 
     /// The notification bits that a fault posts to task 0.

@@ -1,6 +1,6 @@
 //! Writes an image in its one spelling in the second form.
 
-ghost use Rattle.std.specs.Prelude.{◌≡◌, ◌++◌, ◌∷◌, [], All, IfOk, Ok};
+ghost use Rattle.std.specs.Prelude.{◌≡◌, ◌≤◌, ◌++◌, ◌∷◌, [], All, IfOk, Ok};
 ghost use Rattle.std.specs.Result.{OnOk};
 ghost use Rattle.std.specs.List.{flat_map};
 ghost use Rattle.image_format.specs.declared.records.ImageForm.TheVariants.{Second};
@@ -83,10 +83,11 @@ fn push_region(out: &mut Vec<u8>, r: &RegionRecord) -> Result<(), AllocError>
 }
 
 fn push_line(out: &mut Vec<u8>, l: &LineRecord) -> Result<(), AllocError>
-    requires { l.now.zero ≡ 0 }
+    requires { l.now.device ≤ 8 }
     ensures { OnOk result (out.new.items ≡ out.old.items ++ line_bytes Second l.now) }
 {
-    push_four(out, l.line, 0, (l.task % 256) as u8, (l.task / 256) as u8)?;
+    out.extend_from_slice(&[l.line, l.device as u8])?;
+    push_half(out, l.task)?;
     push_num(out, l.bits)
 }
 
@@ -109,7 +110,7 @@ fn push_regions(out: &mut Vec<u8>, regions: &[RegionRecord]) -> Result<(), Alloc
 }
 
 fn push_lines(out: &mut Vec<u8>, lines: &[LineRecord]) -> Result<(), AllocError>
-    requires { All (λ l. l.zero ≡ 0) lines.now }
+    requires { All (λ l. l.device ≤ 8) lines.now }
     ensures { OnOk result (out.new.items ≡ out.old.items
         ++ flat_map (line_bytes Second) lines.now) }
 {

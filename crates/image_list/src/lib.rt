@@ -123,11 +123,21 @@ fn line_value(alloc: Global, image: &Image, k: usize) -> Result<Value, AllocErro
     requires { k < length (image_data image.now).lines }
     ensures { IfOk result (λ v. view v ≡ line_data (line_in (image_data image.now) k)) }
 {
-    json!(in alloc; {
-        "bits": image.line_bits(k),
-        "line": image.line(k),
-        "task": image.line_task(k)
-    })
+    let device = image.line_device(k);
+    if device == 0 {
+        json!(in alloc; {
+            "bits": image.line_bits(k),
+            "line": image.line(k),
+            "task": image.line_task(k)
+        })
+    } else {
+        json!(in alloc; {
+            "bits": image.line_bits(k),
+            "device": device - 1,
+            "line": image.line(k),
+            "task": image.line_task(k)
+        })
+    }
 }
 
 fn line_values(alloc: Global, image: &Image) -> Result<Vec<Value>, AllocError>

@@ -1,6 +1,6 @@
 use Rattle.std.proofs.Common.{◌≡◌, ◌*◌, ◌≤◌, take}
 use Rattle.image_format.specs.Steps.{counted}
-use Rattle.image_format.proofs.views.counted.Given as goal
+use Rattle.image_format.proofs.line_devices.counted.Given as goal
 
 abbrev pub invariant-loop-i : goal.invariant-loop-i
 invariant-loop-i l = record {
