@@ -108,6 +108,10 @@ pub line_alike : (v : ℕ → ℕ) (s u : State) (k : ℕ) → shown v s ≡ sho
 unfolding seen line_at
 line_alike v s u k e = ap (λ (x : State). line_at x k) e
 
+pub devices_alike : (v : ℕ → ℕ) (s u : State) → shown v s ≡ shown v u → s.devices ≡ u.devices
+unfolding seen
+devices_alike v s u e = ap (λ (x : State). x.devices) e
+
 pub now_alike : (v : ℕ → ℕ) (s u : State) → shown v s ≡ shown v u → s.now ≡ u.now
 unfolding seen
 now_alike v s u e = ap (λ (x : State). x.now) e

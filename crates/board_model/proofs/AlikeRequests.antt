@@ -28,7 +28,7 @@ use Rattle.board_model.proofs.Sight.{IsOpen, checked_seen}
 use Rattle.task_table.proofs.model.RequestChains.{each_found}
 
 -- what holds of each request of a list holds of the one that is found in it
-abbrev EachRequest : (Request → Type 0) → List Request → Type 0
+abbrev pub EachRequest : (Request → Type 0) → List Request → Type 0
 EachRequest P [] = Unit {0}
 EachRequest P (request ∷ requests) = P request × EachRequest P requests
 

@@ -6,6 +6,7 @@ use Rattle.std.proofs.lemmas.List.Elements.{Contains-append_right}
 use Rattle.std.proofs.lemmas.Bool.{false≢true}
 use Rattle.std.proofs.lemmas.List.{append-nil}
 use Rattle.kernel_abi.specs.Arguments.{recv_args, timer_args, irq_args}
+use Rattle.kernel_abi.specs.Devices.{DeviceData}
 use Rattle.kernel_abi.specs.Ids.{index_of, generation_of, dead_code_of}
 use Rattle.kernel_abi.specs.declared.arguments.RecvArgs.{RecvArgs}
 use Rattle.kernel_abi.specs.declared.Ending.{Ending}
@@ -23,14 +24,15 @@ use Rattle.task_table.specs.declared.Line.{Line}
 use Rattle.mem_banks.specs.Memory.{Memory, bytes_at, copied as copied_memory}
 use Rattle.task_table.specs.model.State.{Setup, LineSetup, Task, State, Call, From, Any, One, KernelOnly, Listen, Turn, Ground, Own, Read, MessageFront}
 use Rattle.task_table.specs.declared.slot.Slice.{Slice}
+use Rattle.task_table.specs.model.Asking.{asks_at}
 use Rattle.task_table.specs.model.Reading.{task_at, line_at, line_off, line_on, register, arguments, call_of, is_out, is_dead, dead_code_for, present, is_valid, bad_byte}
 use Rattle.task_table.specs.model.Effects.{with_task, without_call, without_listen, with_listen, with_taken, changed, noted, with_processor, with_health, writes_on, stored, copied, looked, with_results, given, returned, past_syscall, bits_added, bits_cleared, woken_by, woken, posted, with_timer, clocked, with_line, close_notes, closed, faulted_as, faulted, handed}
 use Rattle.task_table.specs.model.Rows.{goes_on, goes_on_with, misused, denied, panicked, timer_set, timer_words, timer_answered, owns_with, line_controlled, irq_controlled, status_of_lines, irq_answered, listened_from, buffer_of, listens, receives_or_listens, offer_of, received, syscall_noted}
-use Rattle.task_table.specs.model.Events.{expired_by, expired, ticked, owner_of, interrupted_by, interrupted}
+use Rattle.task_table.specs.model.Events.{expired_by, expired, ticked, owner_of, interrupted_by, interrupted, driven_by, driven}
 use Rattle.board_model.specs.Levels.{is_noted_always}
 use Rattle.board_model.specs.Alike.{Viewer, IsAttentive, seen_task, seen_call, seen_from, seen_listen, seen, IsAlike, IsAlikeWhereSeen}
 use Rattle.std.proofs.lemmas.List.Elements.{filter-append}
-use Rattle.board_model.proofs.Alike.{shown, task_alike, registers_alike, arguments_alike, register_alike, count_alike, call_alike, offer_alike, listen_alike, line_alike, now_alike, alike-with_task, alike-without_call, alike-without_listen, alike-with_listen, alike-with_taken, alike-with_bytes, bytes_alike}
+use Rattle.board_model.proofs.Alike.{shown, task_alike, registers_alike, arguments_alike, register_alike, count_alike, call_alike, offer_alike, listen_alike, line_alike, devices_alike, now_alike, alike-with_task, alike-without_call, alike-without_listen, alike-with_listen, alike-with_taken, alike-with_bytes, bytes_alike}
 
 -- both sides of a test
 pub by_test : (P : Turn → Turn → Type 0) (b c : Bool) {t t' u u' : Turn} → b ≡ c → P t u → P t' u' → P (cond b t t') (cond c u u')
@@ -337,21 +339,27 @@ module _ (w : Viewer) (a : IsAttentive w) where
   alike-fold f [] t u step h = h
   alike-fold f (x ∷ xs) t u step h = alike-fold f xs (f t x) (f u x) step (step x t u h)
 
-  alike-line_controlled : (c bits : ℕ) (enable : Bool) (k : ℕ) (t u : Turn) → IsAlike w t u → IsAlike w (line_controlled c bits enable k t) (line_controlled c bits enable k u)
-  alike-line_controlled c bits enable k t u h = go (line_at t.state k) (line_at u.state k) (line_alike w.birth t.state u.state k h.state)
+  alike-line_controlled : (c bits : ℕ) (enable asks : Bool) (k : ℕ) (t u : Turn) → IsAlike w t u → IsAlike w (line_controlled c bits enable asks k t) (line_controlled c bits enable asks k u)
+  alike-line_controlled c bits enable asks k t u h = go (line_at t.state k) (line_at u.state k) (line_alike w.birth t.state u.state k h.state)
     where
       controlled : Line → Turn → Turn
       controlled l x =
           if not enable then with_line k (line_off l.pending) x
-          else (if l.pending then posted c bits (with_line k (line_off false) x) else with_line k line_on x)
+          else (if l.pending || asks then posted c bits (with_line k (line_off false) x) else with_line k line_on x)
 
       same : (l : Line) → IsAlike w (controlled l t) (controlled l u)
       same l =
           by_same (IsAlike w) (not enable) (alike-line k (line_off l.pending) t u h) (
-          by_same (IsAlike w) l.pending (alike-posted c bits _ _ (alike-line k (line_off false) t u h)) (alike-line k line_on t u h))
+          by_same (IsAlike w) (l.pending || asks) (alike-posted c bits _ _ (alike-line k (line_off false) t u h)) (alike-line k line_on t u h))
 
       go : (l m : Line) → l ≡ m → IsAlike w (controlled l t) (controlled m u)
       go l m e = rw (sym e) (same l)
+
+  -- the devices that are looked at are the same in both
+  alike-lines_controlled : (c bits : ℕ) (enable : Bool) (lines : List LineSetup) (ds es : List DeviceData) (t u : Turn) → ds ≡ es → IsAlike w t u →
+      IsAlike w (fold (λ v o. line_controlled c bits enable (asks_at ds o.device) o.line v) t lines) (fold (λ v o. line_controlled c bits enable (asks_at es o.device) o.line v) u lines)
+  alike-lines_controlled c bits enable lines ds es t u e h =
+      rw (sym e) (alike-fold (λ v (o : LineSetup). line_controlled c bits enable (asks_at ds o.device) o.line v) lines t u (λ o p q k. alike-line_controlled c bits enable (asks_at ds o.device) o.line p q k) h)
 
   pub alike-irq_controlled : (g : Setup) (c : ℕ) (t u : Turn) → IsAlike w t u → IsAlike w (irq_controlled g c t) (irq_controlled g c u)
   unfolding irq_controlled
@@ -360,14 +368,15 @@ module _ (w : Viewer) (a : IsAttentive w) where
       let x = irq_args (arguments t.state c) in
       rw e (
       by_same (IsAlike w) (not (list_any (owns_with c x.bits) g.lines)) (alike-misused g c 6 t u h)
-      (alike-goes_on c _ _ (alike-fold (λ v (o : LineSetup). line_controlled c x.bits x.enable o.line v) (filter (owns_with c x.bits) g.lines) t u (λ o p q k. alike-line_controlled c x.bits x.enable o.line p q k) h)))
+      (alike-goes_on c _ _ (alike-lines_controlled c x.bits x.enable (filter (owns_with c x.bits) g.lines) t.state.devices u.state.devices t u (devices_alike w.birth t.state u.state h.state) h)))
 
   status_same : (g : Setup) (c bits : ℕ) (t u : Turn) → IsAlike w t u → status_of_lines g t.state c bits ≡ status_of_lines g u.state c bits
   status_same g c bits t u h =
       let line : (k : ℕ) → line_at t.state k ≡ line_at u.state k = λ k. line_alike w.birth t.state u.state k h.state in
+      let ds = devices_alike w.birth t.state u.state h.state in
       let p = posted_same c t u h in
       let own = filter (owns_with c bits) g.lines in
-      λ j. cond (list_any (λ (o : LineSetup). (line o.line j).enabled) own) 1 0 + cond (list_any (λ (o : LineSetup). (line o.line j).pending) own) 2 0 + cond (not (eqb (bit_and (p j) bits) 0)) 4 0
+      λ j. cond (list_any (λ (o : LineSetup). (line o.line j).enabled) own) 1 0 + cond (list_any (λ (o : LineSetup). (line o.line j).pending || asks_at (ds j) o.device) own) 2 0 + cond (not (eqb (bit_and (p j) bits) 0)) 4 0
 
   pub alike-irq_answered : (g : Setup) (c : ℕ) (t u : Turn) → IsAlike w t u → IsAlike w (irq_answered g c t) (irq_answered g c u)
   unfolding irq_answered
@@ -474,13 +483,26 @@ module _ (w : Viewer) (a : IsAttentive w) where
       let n = sym (count_alike w.birth t.state u.state h.state) in
       rw n (alike-fold expired (range_with_len 0 (length t.state.tasks)) _ _ alike-expired (alike-clocked t u h))
 
+  alike-interrupted_by : (k : ℕ) (o : Option LineSetup) (t u : Turn) → IsAlike w t u → IsAlike w (interrupted_by k o t) (interrupted_by k o u)
+  alike-interrupted_by k None t u h = alike-noted (note.Irq k Unowned) t u refl h
+  alike-interrupted_by k (Some o) t u h =
+      by_test (IsAlike w) (line_at t.state k).enabled (line_at u.state k).enabled (ap (λ (l : Line). l.enabled) (line_alike w.birth t.state u.state k h.state))
+      (alike-posted o.owner o.bits _ _ (alike-line k (line_off false) _ _ (alike-noted (note.Irq k Posted) t u refl h)))
+      (alike-line k (line_off true) _ _ (alike-noted (note.Irq k Held) t u refl h))
+
   pub alike-interrupted : (g : Setup) (k : ℕ) (t u : Turn) → IsAlike w t u → IsAlike w (interrupted g k t) (interrupted g k u)
   unfolding interrupted
-  alike-interrupted g k t u h = go (owner_of g k)
+  alike-interrupted g k t u h = alike-interrupted_by k (owner_of g k) t u h
+
+  alike-driven_by : (ds : List DeviceData) (o : LineSetup) (t u : Turn) → IsAlike w t u → IsAlike w (driven_by ds t o) (driven_by ds u o)
+  alike-driven_by ds o t u h =
+      by_test (IsAlike w) ((line_at t.state o.line).enabled && asks_at ds o.device) ((line_at u.state o.line).enabled && asks_at ds o.device)
+      (ap (λ (l : Line). l.enabled && asks_at ds o.device) (line_alike w.birth t.state u.state o.line h.state))
+      (alike-interrupted_by o.line (Some o) t u h) h
+
+  pub alike-driven : (g : Setup) (t u : Turn) → IsAlike w t u → IsAlike w (driven g t) (driven g u)
+  unfolding driven
+  alike-driven g t u h = go t.state.devices u.state.devices (devices_alike w.birth t.state u.state h.state)
     where
-      go : (o : Option LineSetup) → IsAlike w (interrupted_by k o t) (interrupted_by k o u)
-      go None = alike-noted (note.Irq k Unowned) t u refl h
-      go (Some o) =
-          by_test (IsAlike w) (line_at t.state k).enabled (line_at u.state k).enabled (ap (λ (l : Line). l.enabled) (line_alike w.birth t.state u.state k h.state))
-          (alike-posted o.owner o.bits _ _ (alike-line k (line_off false) _ _ (alike-noted (note.Irq k Posted) t u refl h)))
-          (alike-line k (line_off true) _ _ (alike-noted (note.Irq k Held) t u refl h))
+      go : (ds es : List DeviceData) → ds ≡ es → IsAlike w (fold (driven_by ds) t g.lines) (fold (driven_by es) u g.lines)
+      go ds es e = rw (sym e) (alike-fold (driven_by ds) g.lines t u (alike-driven_by ds) h)

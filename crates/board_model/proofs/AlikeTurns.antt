@@ -25,8 +25,8 @@ use Rattle.thumb_exec.specs.Bytes.{bytes_of}
 use Rattle.board_model.specs.Turn.{may, is_device, or_zero, held, cpu_of, moved, noted_at, stepped, happened, after_events, with_current, low_note, high_note, with_registers_noted, turn_of, ended, turn}
 use Rattle.board_model.specs.Alike.{Viewer, IsAttentive, seen, IsAlike, IsAlikeWhereSeen}
 use Rattle.board_model.specs.Agreement.{rest_of}
-use Rattle.board_model.proofs.Alike.{register_alike, chosen_alike, bytes_alike, turn_alike}
-use Rattle.board_model.proofs.AlikeRows.{by_test, alike-heard, alike-unheard, the_task, alike-processor, alike-current, alike-next_turn, alike-stored, alike-faulted, surely, alike-syscall_noted, alike-ticked, alike-interrupted, alike-fold, alike-noted_always}
+use Rattle.board_model.proofs.Alike.{devices_alike, register_alike, chosen_alike, bytes_alike, turn_alike}
+use Rattle.board_model.proofs.AlikeRows.{by_test, alike-heard, alike-unheard, the_task, alike-processor, alike-current, alike-next_turn, alike-stored, alike-faulted, surely, alike-syscall_noted, alike-ticked, alike-interrupted, alike-driven, alike-fold, alike-noted_always}
 use Rattle.board_model.proofs.AlikeSyscalls.{alike-syscall_made}
 use Rattle.board_model.proofs.Sight.{IsOpen, none_lacking}
 use Rattle.board_model.proofs.Births.{AreTellable}
@@ -95,8 +95,7 @@ module _ (w : Viewer) (a : IsAttentive w) where
       go All Calls q = absurd q
 
   devices_same : (t u : Turn) → IsAlike w t u → t.state.devices ≡ u.state.devices
-  unfolding seen
-  devices_same t u h = ap (λ (s : State). s.devices) h.state
+  devices_same t u h = devices_alike w.birth t.state u.state h.state
 
   alike-with_devices : (devices : List DeviceData) (t u : Turn) → IsAlike w t u → IsAlike w (with_devices devices t) (with_devices devices u)
   unfolding with_devices seen
@@ -197,7 +196,7 @@ module _ (w : Viewer) (a : IsAttentive w) where
   alike-happened : (g : Setup) (e : Event) (t u : Turn) → IsAlike w t u → IsAlike w (happened g t e) (happened g u e)
   alike-happened g Tick t u h = alike-ticked w a t u h
   alike-happened g (Irq line) t u h = alike-interrupted w a g line t u h
-  alike-happened g (Feed device byte) t u h = alike-fed device (byte % 256) t u h
+  alike-happened g (Feed device byte) t u h = alike-driven w a g _ _ (alike-fed device (byte % 256) t u h)
 
   pub alike-events : (x : Scenario) (s u : State) → IsAlike w (begun s) (begun u) → IsAlike w (after_events x s) (after_events x u)
   unfolding after_events begun

@@ -1,8 +1,9 @@
 -- A turn leaves the births of every task, or restarts one, which begins a birth then.
-use Rattle.std.proofs.Common.{◌≡◌, ◌≢◌, ◌+◌, ◌%◌, ◌<◌, inl, inr, ℕ, Bool, true, false, cond, List, [], ◌∷◌, length, Option, Some, None, refl, ◌∙◌, ap, leb}
+use Rattle.std.proofs.Common.{◌≡◌, ◌≢◌, ◌+◌, ◌%◌, ◌<◌, inl, inr, ℕ, Bool, true, false, cond, ◌&&◌, List, [], ◌∷◌, length, Option, Some, None, refl, ◌∙◌, ap, leb}
 use Rattle.std.specs.Prelude.{fold, Result, Ok, Err}
 use Rattle.std.specs.List.{range_with_len}
 use Rattle.std.proofs.lemmas.Bool.Decides.{eqb_tells}
+use Rattle.kernel_abi.specs.Devices.{DeviceData}
 use Rattle.kernel_abi.specs.declared.Fault.{Fault}
 use Rattle.kernel_abi.specs.declared.Ending.TheVariants.{Client}
 use Rattle.kernel_abi.specs.declared.Handled.TheVariants.{Posted, Held, Unowned}
@@ -16,9 +17,10 @@ use Rattle.thumb_insn.specs.declared.Insn.{Insn}
 use Rattle.thumb_exec.specs.Effect.{Effect, Next, Syscall, Trap, Move}
 use Rattle.thumb_exec.specs.declared.fetch.Fetched.{Fetched}
 use Rattle.task_table.specs.model.State.{Setup, LineSetup, State, Task, Turn}
+use Rattle.task_table.specs.model.Asking.{asks_at}
 use Rattle.task_table.specs.model.Reading.{task_at, line_at, line_off, chosen}
 use Rattle.task_table.specs.model.Effects.{noted, posted, with_timer, with_line, clocked, faulted, restarted, with_devices}
-use Rattle.task_table.specs.model.Events.{expired_by, expired, ticked, owner_of, interrupted_by, interrupted, fed}
+use Rattle.task_table.specs.model.Events.{expired_by, expired, ticked, owner_of, interrupted_by, interrupted, fed, driven_by, driven}
 use Rattle.task_table.specs.model.Rows.{goes_on_with, syscall_noted}
 use Rattle.task_table.specs.model.Start.{begun}
 use Rattle.task_table.specs.model.Syscalls.{syscall_made}
@@ -74,20 +76,32 @@ module _ (i : ℕ) where
   unfolding ticked
   births-ticked t = births-all_expired (range_with_len 0 (length t.state.tasks)) (clocked t) ∙ births-clocked t
 
+  births-interrupted_by : (k : ℕ) (o : Option LineSetup) (t : Turn) → SameBirths i t.state (interrupted_by k o t).state
+  births-interrupted_by k None t = left-noted births_of by_births i (note.Irq k Unowned) t
+  births-interrupted_by k (Some o) t = by_line (line_at t.state k).enabled
+    where
+      by_line : (b : Bool) → SameBirths i t.state (cond b (posted o.owner o.bits (with_line k (line_off false) (noted (note.Irq k Posted) t))) (with_line k (line_off true) (noted (note.Irq k Held) t))).state
+      by_line true =
+          left-posted births_of by_births i o.owner o.bits _
+          ∙ left-line births_of by_births i k (line_off false) _
+          ∙ left-noted births_of by_births i (note.Irq k Posted) t
+      by_line false = left-line births_of by_births i k (line_off true) _ ∙ left-noted births_of by_births i (note.Irq k Held) t
+
   births-interrupted : (g : Setup) (k : ℕ) (t : Turn) → SameBirths i t.state (interrupted g k t).state
   unfolding interrupted
-  births-interrupted g k t = by_owner (owner_of g k)
+  births-interrupted g k t = births-interrupted_by k (owner_of g k) t
+
+  births-all_driven : (ds : List DeviceData) (lines : List LineSetup) (t : Turn) → SameBirths i t.state (fold (driven_by ds) t lines).state
+  births-all_driven ds [] t = refl
+  births-all_driven ds (o ∷ lines) t = births-all_driven ds lines (driven_by ds t o) ∙ by_test ((line_at t.state o.line).enabled && asks_at ds o.device)
     where
-      by_owner : (o : Option LineSetup) → SameBirths i t.state (interrupted_by k o t).state
-      by_owner None = left-noted births_of by_births i (note.Irq k Unowned) t
-      by_owner (Some o) = by_line (line_at t.state k).enabled
-        where
-          by_line : (b : Bool) → SameBirths i t.state (cond b (posted o.owner o.bits (with_line k (line_off false) (noted (note.Irq k Posted) t))) (with_line k (line_off true) (noted (note.Irq k Held) t))).state
-          by_line true =
-              left-posted births_of by_births i o.owner o.bits _
-              ∙ left-line births_of by_births i k (line_off false) _
-              ∙ left-noted births_of by_births i (note.Irq k Posted) t
-          by_line false = left-line births_of by_births i k (line_off true) _ ∙ left-noted births_of by_births i (note.Irq k Held) t
+      by_test : (b : Bool) → SameBirths i t.state (cond b (interrupted_by o.line (Some o) t) t).state
+      by_test true = births-interrupted_by o.line (Some o) t
+      by_test false = refl
+
+  births-driven : (g : Setup) (t : Turn) → SameBirths i t.state (driven g t).state
+  unfolding driven
+  births-driven g t = births-all_driven t.state.devices g.lines t
 
   births-fed : (device byte : ℕ) (t : Turn) → SameBirths i t.state (fed device byte t).state
   unfolding fed with_devices noted task_at
@@ -97,7 +111,9 @@ module _ (i : ℕ) where
   births-events g [] t = refl
   births-events g (Tick ∷ events) t = births-events g events (ticked t) ∙ births-ticked t
   births-events g (Irq line ∷ events) t = births-events g events (interrupted g line t) ∙ births-interrupted g line t
-  births-events g (Feed device byte ∷ events) t = births-events g events (fed device (byte % 256) t) ∙ births-fed device (byte % 256) t
+  births-events g (Feed device byte ∷ events) t =
+      let u = fed device (byte % 256) t in
+      births-events g events (driven g u) ∙ births-driven g u ∙ births-fed device (byte % 256) t
 
   births-begun : (s : State) → SameBirths i s (begun s).state
   unfolding begun

@@ -20,7 +20,7 @@ setup = record {
       record { priority = 0; entry = 134217729; stack = 536870976; start = true; regions = record { base = 134217728; size = 256; rights = record { read = true; write = false; execute = true; device = false } } ∷ record { base = 536870912; size = 256; rights = record { read = true; write = true; execute = false; device = false } } ∷ [] } ∷
       record { priority = 1; entry = 134217985; stack = 536871232; start = true; regions = record { base = 134217984; size = 256; rights = record { read = true; write = false; execute = true; device = false } } ∷ record { base = 536871168; size = 256; rights = record { read = true; write = true; execute = false; device = false } } ∷ record { base = 1342177280; size = 256; rights = record { read = true; write = true; execute = false; device = true } } ∷ [] } ∷
       [];
-  lines = record { line = 5; owner = 1; bits = 2 } ∷ [];
+  lines = record { line = 5; owner = 1; bits = 2; device = 0 } ∷ [];
   fault_bits = 1;
   ram = 512;
   line_count = 32;

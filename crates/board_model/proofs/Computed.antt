@@ -5,7 +5,7 @@ use Rattle.thumb_exec.specs.Effect.{words, transfers, first_refused, stores_of, 
 use Rattle.thumb_insn.specs.Table.{rows, narrow_of, wide_rows, wide_of}
 use Rattle.task_table.specs.model.Reading.{task_at, line_at, register, arguments, call_of, listen_of, dead_code_for, is_out, is_dead, is_ready, bad_byte, chosen, offer_by, best_sender, present_id, taken_by}
 use Rattle.task_table.specs.model.Effects.{with_task, without_call, without_listen, with_listen, with_taken, noted, with_processor, with_health, stored, copied, looked, given, returned, past_syscall, bits_added, bits_cleared, woken, posted, with_timer, clocked, with_line, closed, faulted_as, handed, with_call, offered, reborn, restarted, with_devices, device_stored, device_taken}
-use Rattle.task_table.specs.model.Events.{ticked, interrupted, owner_of, fed}
+use Rattle.task_table.specs.model.Events.{ticked, interrupted, owner_of, fed, driven}
 use Rattle.task_table.specs.model.Rows.{panicked, timer_set, timer_answered, irq_controlled, received, syscall_noted}
 use Rattle.task_table.specs.model.Syscalls.{syscall_made}
 use Rattle.task_table.specs.model.Sends.{sent, replied, reply_faulted, post_made, refreshed}
@@ -32,7 +32,7 @@ of_effects = tt
 
 -- system calls and events, row by row
 unfoldable pub of_rows : Unit {0}
-unfolding ticked interrupted owner_of fed panicked timer_set timer_answered irq_controlled received syscall_noted syscall_made sent replied reply_faulted post_made refreshed grant borrowed informed injected requested
+unfolding ticked interrupted owner_of fed driven panicked timer_set timer_answered irq_controlled received syscall_noted syscall_made sent replied reply_faulted post_made refreshed grant borrowed informed injected requested
 of_rows = tt
 
 -- turns and runs of them

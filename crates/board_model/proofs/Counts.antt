@@ -7,13 +7,13 @@ use Rattle.run_script.specs.declared.events.Event.TheVariants.{Tick, Irq, Feed}
 use Rattle.run_script.specs.Scripts.{events_of}
 use Rattle.task_table.specs.model.State.{Setup, State, Turn}
 use Rattle.task_table.specs.model.Reading.{chosen}
-use Rattle.task_table.specs.model.Events.{ticked, interrupted, fed}
+use Rattle.task_table.specs.model.Events.{ticked, interrupted, fed, driven}
 use Rattle.task_table.specs.model.Start.{begun}
 use Rattle.task_table.specs.model.Sane.{Sane, IsCounted}
 use Rattle.task_table.specs.model.Counts.{AreCounts}
 use Rattle.task_table.proofs.model.Counting.{time-aside, counts_same, chain_counts}
 use Rattle.task_table.proofs.kept.Starts.{counted-start}
-use Rattle.task_table.proofs.model.Outside.{outside-ticked, now-ticked, aside-interrupted, outside-fed, now-fed}
+use Rattle.task_table.proofs.model.Outside.{outside-ticked, now-ticked, aside-interrupted, outside-fed, now-fed, aside-driven}
 use Rattle.board_model.specs.declared.outcomes.Level.{Level}
 use Rattle.board_model.specs.Run.{run}
 use Rattle.board_model.specs.Script.{Scenario, start_of}
@@ -34,9 +34,11 @@ later-events g (Tick ∷ events) t =
     let b = later-events g events (ticked t) in
     record { turn = b.turn ∙ a.turn; now = omega (arith, b.now, now-ticked t); next_call = b.next_call ∙ a.next_call }
 later-events g (Feed device byte ∷ events) t =
+    let u = fed device (byte % 256) t in
     let a = outside-fed device (byte % 256) t in
-    let b = later-events g events (fed device (byte % 256) t) in
-    record { turn = b.turn ∙ a.turn; now = omega (arith, b.now, now-fed device (byte % 256) t); next_call = b.next_call ∙ a.next_call }
+    let d = aside-driven g u in
+    let b = later-events g events (driven g u) in
+    record { turn = b.turn ∙ d.outside.turn ∙ a.turn; now = omega (arith, b.now, d.now, now-fed device (byte % 256) t); next_call = b.next_call ∙ d.outside.next_call ∙ a.next_call }
 later-events g (Irq line ∷ events) t =
     let a = aside-interrupted g line t in
     let b = later-events g events (interrupted g line t) in

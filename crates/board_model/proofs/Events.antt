@@ -6,18 +6,21 @@ use Rattle.run_script.specs.declared.events.Event.{Event}
 use Rattle.run_script.specs.declared.events.Event.TheVariants.{Tick, Irq, Feed}
 use Rattle.run_script.specs.Scripts.{events_of}
 use Rattle.task_table.specs.model.State.{Setup, State, Turn}
-use Rattle.task_table.specs.model.Events.{ticked, interrupted, fed}
+use Rattle.task_table.specs.model.Events.{ticked, interrupted, fed, driven}
 use Rattle.task_table.specs.model.Start.{begun}
 use Rattle.task_table.specs.model.Lives.{IsFresh}
 use Rattle.task_table.proofs.model.Moves.{plain_one, IsOutside, outside_here, outside_then}
-use Rattle.task_table.proofs.model.Outside.{outside-ticked, aside-interrupted, outside-fed}
+use Rattle.task_table.proofs.model.Outside.{outside-ticked, aside-interrupted, outside-fed, aside-driven}
 use Rattle.board_model.specs.Script.{Scenario}
 use Rattle.board_model.specs.Turn.{happened, after_events}
 
 outside-events : (g : Setup) (events : List Event) (t : Turn) → IsOutside t (fold (happened g) t events)
 outside-events g [] t = outside_here t
 outside-events g (Tick ∷ events) t = outside_then t (ticked t) _ (outside-ticked t) (outside-events g events (ticked t))
-outside-events g (Feed device byte ∷ events) t = outside_then t (fed device (byte % 256) t) _ (outside-fed device (byte % 256) t) (outside-events g events (fed device (byte % 256) t))
+outside-events g (Feed device byte ∷ events) t =
+    let u = fed device (byte % 256) t in
+    outside_then t u _ (outside-fed device (byte % 256) t)
+    (outside_then u (driven g u) _ (aside-driven g u).outside (outside-events g events (driven g u)))
 outside-events g (Irq line ∷ events) t = outside_then t (interrupted g line t) _ (aside-interrupted g line t).outside (outside-events g events (interrupted g line t))
 
 pub outside-after_events : (x : Scenario) (s : State) → IsOutside (begun s) (after_events x s)

@@ -23,7 +23,7 @@ setup = record {
       record { priority = 2; entry = 134218497; stack = 536871744; start = true; regions = record { base = 134218496; size = 256; rights = record { read = true; write = false; execute = true; device = false } } ∷ record { base = 536871680; size = 256; rights = record { read = true; write = true; execute = false; device = false } } ∷ [] } ∷
       record { priority = 3; entry = 134218753; stack = 536872000; start = true; regions = record { base = 134218752; size = 256; rights = record { read = true; write = false; execute = true; device = false } } ∷ record { base = 536871936; size = 256; rights = record { read = true; write = true; execute = false; device = false } } ∷ [] } ∷
       [];
-  lines = record { line = 7; owner = 2; bits = 1 } ∷ [];
+  lines = record { line = 7; owner = 2; bits = 1; device = 0 } ∷ [];
   fault_bits = 1;
   ram = 1280;
   line_count = 32;

@@ -53,3 +53,8 @@ pub mod Laid
 pub mod SameScripts
 pub mod Forks
 pub mod SameTurn
+pub mod LinesKept
+pub mod Answered
+pub mod Enabling
+pub mod AskingLess
+pub mod AnsweredTurns

@@ -1,8 +1,9 @@
 -- A turn that is not a task's own, and the events of any turn, leave what it has for itself as it was, where it waits
 -- for nothing and the supervisor does not strike it.
-use Rattle.std.proofs.Common.{◌≡◌, ◌≢◌, inl, inr, ◌+◌, ◌%◌, ℕ, Bool, true, false, cond, List, [], ◌∷◌, length, Option, Some, None, refl, sym, ◌∙◌, ap, leb}
+use Rattle.std.proofs.Common.{◌≡◌, ◌≢◌, inl, inr, ◌+◌, ◌%◌, ℕ, Bool, true, false, cond, ◌&&◌, List, [], ◌∷◌, length, Option, Some, None, refl, sym, ◌∙◌, ap, leb}
 use Rattle.std.specs.Prelude.{fold}
 use Rattle.std.specs.List.{range_with_len}
+use Rattle.kernel_abi.specs.Devices.{DeviceData}
 use Rattle.kernel_abi.specs.declared.Handled.TheVariants.{Posted, Held, Unowned}
 use Rattle.kernel_abi.specs.declared.Note.TheVariants as note
 use Rattle.kernel_abi.specs.declared.Timer.{Timer}
@@ -11,9 +12,10 @@ use Rattle.run_script.specs.declared.events.Event.{Event}
 use Rattle.run_script.specs.declared.events.Event.TheVariants.{Tick, Irq, Feed}
 use Rattle.run_script.specs.Scripts.{events_of}
 use Rattle.task_table.specs.model.State.{Setup, LineSetup, State, Turn}
+use Rattle.task_table.specs.model.Asking.{asks_at}
 use Rattle.task_table.specs.model.Reading.{task_at, line_at, line_off, chosen, IsIdle}
 use Rattle.task_table.specs.model.Effects.{noted, posted, with_timer, with_line, clocked, with_devices}
-use Rattle.task_table.specs.model.Events.{expired_by, expired, ticked, owner_of, interrupted_by, interrupted, fed}
+use Rattle.task_table.specs.model.Events.{expired_by, expired, ticked, owner_of, interrupted_by, interrupted, fed, driven_by, driven}
 use Rattle.task_table.specs.model.Start.{begun}
 use Rattle.task_table.specs.model.Sane.{Sane}
 use Rattle.task_table.specs.model.Grounds.{with_writes}
@@ -61,17 +63,29 @@ module _ (s : State) (j : ℕ) where
   unfolding ticked
   untouched-ticked t h = untouched-expired_all (range_with_len 0 (length t.state.tasks)) (clocked t) (untouched-clocked t h)
 
+  untouched-interrupted_by : (k : ℕ) (o : Option LineSetup) (t : Turn) → IsUntouched s j t.state → IsUntouched s j (interrupted_by k o t).state
+  untouched-interrupted_by k None t h = same-noted s j (note.Irq k Unowned) t h
+  untouched-interrupted_by k (Some o) t h = by_line (line_at t.state k).enabled
+    where
+      by_line : (b : Bool) → IsUntouched s j (cond b (posted o.owner o.bits (with_line k (line_off false) (noted (note.Irq k Posted) t))) (with_line k (line_off true) (noted (note.Irq k Held) t))).state
+      by_line true = same-posted s j o.owner o.bits _ (same-line s j k (line_off false) _ (same-noted s j (note.Irq k Posted) t h))
+      by_line false = same-line s j k (line_off true) _ (same-noted s j (note.Irq k Held) t h)
+
   untouched-interrupted : (g : Setup) (k : ℕ) (t : Turn) → IsUntouched s j t.state → IsUntouched s j (interrupted g k t).state
   unfolding interrupted
-  untouched-interrupted g k t h = by_owner (owner_of g k)
+  untouched-interrupted g k t h = untouched-interrupted_by k (owner_of g k) t h
+
+  untouched-driven_all : (ds : List DeviceData) (lines : List LineSetup) (t : Turn) → IsUntouched s j t.state → IsUntouched s j (fold (driven_by ds) t lines).state
+  untouched-driven_all ds [] t h = h
+  untouched-driven_all ds (o ∷ lines) t h = untouched-driven_all ds lines (driven_by ds t o) (by_test ((line_at t.state o.line).enabled && asks_at ds o.device))
     where
-      by_owner : (o : Option LineSetup) → IsUntouched s j (interrupted_by k o t).state
-      by_owner None = same-noted s j (note.Irq k Unowned) t h
-      by_owner (Some o) = by_line (line_at t.state k).enabled
-        where
-          by_line : (b : Bool) → IsUntouched s j (cond b (posted o.owner o.bits (with_line k (line_off false) (noted (note.Irq k Posted) t))) (with_line k (line_off true) (noted (note.Irq k Held) t))).state
-          by_line true = same-posted s j o.owner o.bits _ (same-line s j k (line_off false) _ (same-noted s j (note.Irq k Posted) t h))
-          by_line false = same-line s j k (line_off true) _ (same-noted s j (note.Irq k Held) t h)
+      by_test : (b : Bool) → IsUntouched s j (cond b (interrupted_by o.line (Some o) t) t).state
+      by_test true = untouched-interrupted_by o.line (Some o) t h
+      by_test false = h
+
+  untouched-driven : (g : Setup) (t : Turn) → IsUntouched s j t.state → IsUntouched s j (driven g t).state
+  unfolding driven
+  untouched-driven g t h = untouched-driven_all t.state.devices g.lines t h
 
   untouched-fed : (device byte : ℕ) (t : Turn) → IsUntouched s j t.state → IsUntouched s j (fed device byte t).state
   unfolding fed with_devices noted
@@ -81,7 +95,9 @@ module _ (s : State) (j : ℕ) where
   untouched-events g [] t h = h
   untouched-events g (Tick ∷ events) t h = untouched-events g events (ticked t) (untouched-ticked t h)
   untouched-events g (Irq line ∷ events) t h = untouched-events g events (interrupted g line t) (untouched-interrupted g line t h)
-  untouched-events g (Feed device byte ∷ events) t h = untouched-events g events (fed device (byte % 256) t) (untouched-fed device (byte % 256) t h)
+  untouched-events g (Feed device byte ∷ events) t h =
+      let u = fed device (byte % 256) t in
+      untouched-events g events (driven g u) (untouched-driven g u (untouched-fed device (byte % 256) t h))
 
   untouched-begun : IsIdle s j → IsUntouched s j (begun s).state
   unfolding begun

@@ -94,14 +94,15 @@ pub record IsChosenAlike (g : Setup) (s u : State) : Type 0 where
   pub down : is_down u ≡ is_down s
 
 -- a byte for a device makes no one ready, and no one wait
-ready-fed : (device byte : ℕ) (t : Turn) → IsAsReady t.state (fed device byte t).state
+pub ready-fed : (device byte : ℕ) (t : Turn) → IsAsReady t.state (fed device byte t).state
 unfolding fed with_devices noted is_ready task_at call_of listen_of
 ready-fed device byte t = record { count = refl; health = λ i. refl; ready = λ i. refl; current = refl }
 
-pub quiet-fed : (g : Setup) (device byte : ℕ) (t : Turn) → IsChosenAlike g t.state (fed device byte t).state
-quiet-fed g device byte t =
-    let same = ready-fed device byte t in
-    record { next = chosen_same g t.state _ same; ready = same.ready; down = same-down t.state _ same }
+pub next-fed : (g : Setup) (device byte : ℕ) (t : Turn) → chosen g (fed device byte t).state ≡ chosen g t.state
+next-fed g device byte t = chosen_same g t.state _ (ready-fed device byte t)
+
+pub down-fed : (device byte : ℕ) (t : Turn) → is_down (fed device byte t).state ≡ is_down t.state
+down-fed device byte t = same-down t.state _ (ready-fed device byte t)
 
 current-down : (s : State) (c : ℕ) → is_down record s { current = c } ≡ is_down s
 unfolding task_at

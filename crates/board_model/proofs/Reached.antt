@@ -1,5 +1,5 @@
 -- A turn changes devices only where its task reaches them.
-use Rattle.std.proofs.Common.{◌≡◌, ℕ, List, [], ◌∷◌, Option, Some, None, refl, sym, ◌∙◌, ap, subst}
+use Rattle.std.proofs.Common.{◌≡◌, ◌%◌, ℕ, List, [], ◌∷◌, Option, Some, None, refl, sym, ◌∙◌, ap, subst}
 use Rattle.std.specs.Prelude.{fold}
 use Rattle.kernel_abi.specs.Devices.{DeviceData}
 use Rattle.kernel_abi.specs.declared.Note.TheVariants as note
@@ -13,7 +13,7 @@ use Rattle.task_table.specs.model.Events.{fed}
 use Rattle.task_table.specs.model.Grounds.{AreReached}
 use Rattle.task_table.specs.model.Start.{begun}
 use Rattle.task_table.specs.model.Sane.{Sane}
-use Rattle.task_table.proofs.model.Outside.{devices-ticked, aside-interrupted}
+use Rattle.task_table.proofs.model.Outside.{devices-ticked, aside-interrupted, aside-driven}
 use Rattle.task_table.proofs.model.Reaching.{chain_reaches}
 use Rattle.board_model.specs.declared.outcomes.Level.{Level}
 use Rattle.board_model.specs.Script.{Scenario}
@@ -27,7 +27,7 @@ event_devices : (g : Setup) (t : Turn) (e : Event) → (happened g t e).state.de
 unfolding fed with_devices noted
 event_devices g t Tick = devices-ticked t
 event_devices g t (Irq line) = (aside-interrupted g line t).devices
-event_devices g t (Feed device byte) = refl
+event_devices g t (Feed device byte) = (aside-driven g (fed device (byte % 256) t)).devices
 
 events_devices : (g : Setup) (events : List Event) (t : Turn) → (fold (happened g) t events).state.devices ≡ fold devices_after t.state.devices events
 events_devices g [] t = refl

@@ -29,7 +29,7 @@ use Rattle.mem_banks.specs.Memory.{Memory, IsWithinRam, number_at, number_of, by
 use Rattle.task_table.specs.model.State.{Setup, State, Ground, Own, Turn}
 use Rattle.task_table.specs.model.Reading.{setup_at, task_at, register, call_of, listen_of, chosen, qualifies, around, is_ready}
 use Rattle.task_table.specs.model.Effects.{noted, stored, with_devices, given_out, device_stored, device_taken}
-use Rattle.task_table.specs.model.Events.{ticked, interrupted, fed}
+use Rattle.task_table.specs.model.Events.{ticked, interrupted, fed, driven}
 use Rattle.task_table.specs.model.Rows.{syscall_noted}
 use Rattle.task_table.specs.model.Syscalls.{syscall_made}
 use Rattle.task_table.specs.model.Start.{begun}
@@ -40,7 +40,7 @@ use Rattle.task_table.proofs.model.Posting.{keeps-noted}
 use Rattle.task_table.proofs.model.Equipped.{sane-reached, sane-fed}
 use Rattle.task_table.proofs.model.Sanity.{take_in, drop_in, sane-stored, sane-current, sane-turn}
 use Rattle.task_table.proofs.model.StepKeeps.{chain_sane}
-use Rattle.task_table.proofs.model.Timing.{sane-ticked, sane-interrupted}
+use Rattle.task_table.proofs.model.Timing.{sane-ticked, sane-interrupted, sane-driven}
 use Rattle.task_table.specs.model.Chain.{Chain, Here}
 use Rattle.task_table.specs.model.Step.{Step, Notes, Runs, Stores, Halts, Reaches}
 use Rattle.task_table.proofs.model.Chains.{one, ◌▷◌, joined}
@@ -353,7 +353,9 @@ pub sane-events : (g : Setup) (events : List Event) (t : Turn) → Sane g t.stat
 sane-events g [] t h = h
 sane-events g (Tick ∷ events) t h = sane-events g events (ticked t) (sane-ticked t h)
 sane-events g (Irq line ∷ events) t h = sane-events g events (interrupted g line t) (sane-interrupted line t h)
-sane-events g (Feed device byte ∷ events) t h = sane-events g events (fed device (byte % 256) t) (sane-fed device (byte % 256) t (omega arith) h)
+sane-events g (Feed device byte ∷ events) t h =
+    let u = fed device (byte % 256) t in
+    sane-events g events (driven g u) (sane-driven u (sane-fed device (byte % 256) t (omega arith) h))
 
 pub begun_sane : (g : Setup) (s : State) → Sane g s → Sane g (begun s).state
 unfolding begun

@@ -12,3 +12,4 @@ pub mod LonerTurns
 pub mod Cut
 pub mod Laid
 pub mod SameScripts
+pub mod Asked

@@ -1,6 +1,6 @@
 //! Laws of the board. Each is the contract of a function that does nothing.
 
-ghost use Rattle.std.specs.Prelude.{◌≡◌, ◌≢◌, ◌+◌, ◌<◌, ◌≤◌, ℕ, true, List, [], Option, Some, None, length, fold};
+ghost use Rattle.std.specs.Prelude.{◌≡◌, ◌≢◌, ◌+◌, ◌%◌, ◌<◌, ◌≤◌, ℕ, true, List, [], Option, Some, None, length, fold};
 ghost use Rattle.kernel_abi.specs.declared.Fault.{Fault};
 ghost use Rattle.kernel_abi.specs.declared.Ending.{Ending};
 ghost use Rattle.kernel_abi.specs.declared.Note.{Note};
@@ -13,6 +13,7 @@ ghost use Rattle.thumb_insn.specs.Range.{IsCoded};
 ghost use Rattle.thumb_exec.specs.Effect.{Move, Trap};
 ghost use Rattle.task_table.specs.model.State.{Setup, State, Turn};
 ghost use Rattle.task_table.specs.model.Reading.{chosen, is_ready};
+ghost use Rattle.task_table.specs.model.Events.{fed};
 ghost use Rattle.task_table.specs.model.Start.{begun};
 ghost use Rattle.task_table.specs.model.Sane.{Sane, IsCounted};
 ghost use Rattle.task_table.specs.model.Chain.{Chain};
@@ -21,6 +22,7 @@ ghost use Rattle.task_table.specs.model.Lives.{IsClosed};
 ghost use Rattle.task_table.specs.model.Step.{Step};
 ghost use Rattle.board_model.specs.declared.outcomes.Level.{Level as NoteLevel};
 ghost use Rattle.board_model.specs.Script.{Scenario, start_of};
+ghost use Rattle.board_model.specs.Asked.{AreAnswered};
 ghost use Rattle.board_model.specs.Turn.{effect_of, moved, noted_at, stepped, happened, after_events, with_current, turn_of, turn};
 ghost use Rattle.board_model.specs.Faults.{IsFaulting, IsSameButForFault, AreEntries};
 ghost use Rattle.board_model.specs.LonerTurns.{IsOwnTurn};
@@ -93,15 +95,19 @@ pub fn turns_without_notes_keep_the_choice()
         is_down (turn level x s).state ≡ is_down (after_events x s).state }
 {}
 
-/// A byte that comes for a device does not change the choice. Each task is as ready as before, the
-/// chosen task is the same, and the supervisor is faulted exactly if it was faulted before.
+/// A byte that is put into a device does not change the choice. Each task is as ready as before,
+/// the chosen task is the same, and the supervisor is faulted exactly if it was faulted before. If
+/// no enabled line is asked for then, nothing more happens as the byte comes.
 pub fn bytes_for_devices_keep_the_choice()
-    ensures ready { (g : Setup) (device byte i : ℕ) (t : Turn) →
-        is_ready (happened g t (Feed device byte)).state i ≡ is_ready t.state i }
+    ensures ready { (device byte i : ℕ) (t : Turn) →
+        is_ready (fed device byte t).state i ≡ is_ready t.state i }
     ensures next { (g : Setup) (device byte : ℕ) (t : Turn) →
-        chosen g (happened g t (Feed device byte)).state ≡ chosen g t.state }
-    ensures down { (g : Setup) (device byte : ℕ) (t : Turn) →
-        is_down (happened g t (Feed device byte)).state ≡ is_down t.state }
+        chosen g (fed device byte t).state ≡ chosen g t.state }
+    ensures down { (device byte : ℕ) (t : Turn) →
+        is_down (fed device byte t).state ≡ is_down t.state }
+    ensures unasked { (g : Setup) (device byte : ℕ) (t : Turn) →
+        AreAnswered g (fed device (byte % 256) t).state →
+        happened g t (Feed device byte) ≡ fed device (byte % 256) t }
 {}
 
 /// A turn writes only on its grounds. It touches only calls that are open or that it offers, and no

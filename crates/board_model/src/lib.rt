@@ -4,6 +4,7 @@
 
 mod cuts;
 mod laws;
+mod lines;
 mod loners;
 mod outcomes;
 mod scripts;
@@ -21,6 +22,7 @@ pub use laws::{
     turns_without_events_begin_at_once, turns_without_notes_keep_the_choice,
     who_is_chosen_is_ready,
 };
+pub use lines::{a_byte_for_a_device_posts_at_once, enabled_lines_ask_for_nothing};
 pub use loners::{
     births_begin_alike, loners_decide_their_own_turns, loners_go_their_own_way,
     others_leave_loners_alone, who_is_alone_is_a_loner,
