@@ -13,8 +13,8 @@ use Rattle.task_table.specs.kept.Holds.{id_at, wait_of}
 use Rattle.task_table.specs.model.State.{Birth, LineSetup, Setup, State, Task}
 use Rattle.task_table.specs.model.Asking.{asks_at, is_asked}
 use Rattle.task_table.specs.model.Reading.{call_of, line_at, listen_of, no_line as no_line_there, task_at}
-use Rattle.board_model.specs.Alike.{but_memory, reduced, seen, seen_birth}
-use Rattle.board_model.proofs.Alike.{call_alike, count_alike, line_alike, listen_alike, shown, task_alike}
+use Rattle.board_model.specs.Alike.{but_memory, reduced, seen_birth}
+use Rattle.board_model.proofs.Alike.{call_alike, count_alike, devices_alike, line_alike, listen_alike, shown, task_alike}
 use Rattle.board_model.specs.Script.{Scenario}
 use Rattle.board_core.specs.declared.board.Board.{Board}
 use Rattle.board_core.specs.declared.device_view.DeviceView.{DeviceView}
@@ -140,10 +140,6 @@ pub its_line : (g : Setup) (s : State) (number : ℕ) (lines : List LineSetup) (
 its_line g s number lines owner line asks same e h k =
     irq_is s number (owner_of g number) owner line asks (e ∙ ap (find (λ (l : LineSetup). eqb l.line number)) same) (line_is s number line h) k
 
-devices_same : (u s : State) → reduced u ≡ reduced s → u.devices ≡ s.devices
-unfolding seen
-devices_same u s e = ap (λ (v : State). v.devices) e
-
 pub irq_same : (g : Setup) (u s : State) (number : ℕ) → reduced u ≡ reduced s → irq_of g u number ≡ irq_of g s number
 irq_same g u s number e = by (owner_of g number)
   where
@@ -151,7 +147,7 @@ irq_same g u s number e = by (owner_of g number)
     by None = refl
     by (Some l) =
         let line = line_alike births u s number (same_shown u s e) in
-        let asks : is_asked u l ≡ is_asked s l = ap (λ (ds : List DeviceData). asks_at ds l.device) (devices_same u s e) in
+        let asks : is_asked u l ≡ is_asked s l = ap (λ (ds : List DeviceData). asks_at ds l.device) (devices_alike births u s (same_shown u s e)) in
         λ j. answered.Irq number l.owner l.bits (line j).enabled ((line j).pending || asks j)
 
 -- ---- a device
@@ -172,4 +168,4 @@ its_device s k v sane e =
     ap (λ (bytes : List ℕ). answered.Device k v.kind v.base v.count (record { items = bytes })) (sym (take_all 64 v.queue.items few)) ∙ ap (device_by k) e
 
 pub device_same : (u s : State) (k : ℕ) → reduced u ≡ reduced s → device_of u k ≡ device_of s k
-device_same u s k e = ap (λ (ds : List DeviceData). device_by k (slice_get ds k)) (devices_same u s e)
+device_same u s k e = ap (λ (ds : List DeviceData). device_by k (slice_get ds k)) (devices_alike births u s (same_shown u s e))
