@@ -88,9 +88,9 @@ fn queued_in(device: &Box<dyn Device>, k: usize) -> Option<u8>
 fn asks(device: &Box<dyn Device>) -> bool
     ensures { result ≡ asks (shown device.now).kind (shown device.now).queue }
 {
-    match device.kind() {
+    match kind_of(device) {
         Kind::Console => true,
-        Kind::Port => device.queued(0).is_some(),
+        Kind::Port => queued_in(device, 0).is_some(),
     }
 }
 

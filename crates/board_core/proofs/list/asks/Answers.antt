@@ -16,4 +16,4 @@ port_asks : (d : DeviceData) (k : Kind) (first : Option ℕ) (there : Bool) → 
 port_asks d k first there is port at some = some ∙ ap is_some at ∙ some_waits d.queue ∙ ap (λ (x : Kind). asks x d.queue) (sym port ∙ is)
 
 pub returns-in-Port : goal.returns-in-Port
-returns-in-Port boxes c = port_asks _ c.kind.result c.queued.result c.is_some.result c.kind.ensures c.in-Port.is c.queued.ensures c.is_some.ensures
+returns-in-Port boxes c = port_asks _ c.kind_of.result c.queued_in.result c.is_some.result c.kind_of.ensures c.in-Port.is c.queued_in.ensures c.is_some.ensures

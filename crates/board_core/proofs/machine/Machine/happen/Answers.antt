@@ -39,18 +39,21 @@ returns-in-Feed-clause-stands boxes c =
     let h = c.save_context.ensures.holds g t st.holds in
     let byte : ℕ = c.in-Feed.byte in
     let u : Turn = fed c.in-Feed.device (byte % 256) t in
-    let are : AreFed g c.note.new.self (data_of shown c.feed-fed.new.self) u = are_fed g _ _ _ _ t _ c.in-Feed.device byte _ h.kernel h.devices st.sane c.from.ensures (omega arith) c.feed-fed.ensures.after c.feed-fed.ensures.told (c.note.ensures.holds g) in
-    let asked : AreAsked g u c.deref.result.now = subst (AreAsked g u) (sym c.deref.ensures.value) (c.asked-asked.ensures g u are.stands.holds are.devices) in
+    let are : AreFed g c.note.new.self (data_of shown c.feed-fed.new.self) u = are_fed g c.save_context.new.self.space.kernel c.note.new.self _ _ t _ c.in-Feed.device byte _ h.kernel h.devices st.sane c.from.ensures (omega arith) c.feed-fed.ensures.after c.feed-fed.ensures.told (c.note.ensures.holds g) in
+    let asked : AreAsked g u c.deref.result.now = subst (AreAsked g u) (sym c.deref.ensures.0) (c.asked-asked.ensures g u are.stands.holds are.devices) in
     subst P (sym c.in-Feed.is) (unloaded_stands _ g m (driven g u) c.save_context.ensures.unloaded (c.drive.ensures.stands g u are.stands asked) (are.devices ∙ sym (aside-driven g u).devices))
 
 pub drive-requires-clause-stood : goal.drive-requires-clause-stood
 drive-requires-clause-stood boxes c =
+    let shown = boxed (λ p. (goal.Device-dyn boxes p).shown p.1) in
     let g = c.requires.stands.0 in
     let t = c.requires.stands.1 in
     let st = c.requires.stands.2 in
     let h = c.save_context.ensures.holds g t st.holds in
-    let are = are_fed g _ _ _ _ t _ c.in-Feed.device c.in-Feed.byte _ h.kernel h.devices st.sane c.from.ensures (omega arith) c.feed-fed.ensures.after c.feed-fed.ensures.told (c.note.ensures.holds g) in
-    (g, _, are.stands)
+    let byte : ℕ = c.in-Feed.byte in
+    let u : Turn = fed c.in-Feed.device (byte % 256) t in
+    let are : AreFed g c.note.new.self (data_of shown c.feed-fed.new.self) u = are_fed g c.save_context.new.self.space.kernel c.note.new.self _ _ t _ c.in-Feed.device byte _ h.kernel h.devices st.sane c.from.ensures (omega arith) c.feed-fed.ensures.after c.feed-fed.ensures.told (c.note.ensures.holds g) in
+    (g, u, are.stands)
 
 pub tick-requires-clause-small : goal.tick-requires-clause-small
 tick-requires-clause-small boxes c =
