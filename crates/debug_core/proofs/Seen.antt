@@ -127,18 +127,19 @@ line_is s number line e = by s.lines number e
     by (l ∷ ls) zero e = cc
     by (l ∷ ls) (suc k) e = by ls k e
 
-irq_is : (s : State) (number : ℕ) (o : Option LineSetup) (owner : LineSetup) (line : Bool × Bool) (asks : Bool) → Some owner ≡ o → line ≡ told_line (line_at s number) → asks ≡ is_asked s owner →
-    answered.Irq number owner.owner owner.bits line.0 (line.1 || asks) ≡ irq_by s number o
-irq_is s number None owner line asks e h k = absurd (no_pair owner (sym e))
-irq_is s number (Some l) owner line asks e h k =
+irq_is : (s : State) (number : ℕ) (o : Option LineSetup) (owner : LineSetup) (line : Bool × Bool) (pending : Bool) → Some owner ≡ o → line ≡ told_line (line_at s number) → pending ≡ (line.1 || is_asked s owner) →
+    answered.Irq number owner.owner owner.bits line.0 pending ≡ irq_by s number o
+irq_is s number None owner line pending e h k = absurd (no_pair owner (sym e))
+irq_is s number (Some l) owner line pending e h k =
     let same : owner ≡ l = cc in
-    let asked : asks ≡ is_asked s l = k ∙ ap (is_asked s) same in
-    λ j. answered.Irq number (same j).owner (same j).bits (h j).0 ((h j).1 || asked j)
+    let is : pending ≡ ((line_at s number).pending || is_asked s l) = k ∙ ap (λ (held : Bool). held || is_asked s owner) (λ j. (h j).1) ∙ ap (λ (o : LineSetup). (line_at s number).pending || is_asked s o) same in
+    λ j. answered.Irq number (same j).owner (same j).bits (h j).0 (is j)
 
-pub its_line : (g : Setup) (s : State) (number : ℕ) (lines : List LineSetup) (owner : LineSetup) (line : Bool × Bool) (asks : Bool) → lines ≡ g.lines → Some owner ≡ find (λ (l : LineSetup). eqb l.line number) lines →
-    Some line ≡ option_map told_line (slice_get s.lines number) → asks ≡ is_asked s owner → answered.Irq number owner.owner owner.bits line.0 (line.1 || asks) ≡ irq_of g s number
-its_line g s number lines owner line asks same e h k =
-    irq_is s number (owner_of g number) owner line asks (e ∙ ap (find (λ (l : LineSetup). eqb l.line number)) same) (line_is s number line h) k
+-- the line of this owner: an interrupt is pending where one is held or the device asks
+pub its_line : (g : Setup) (s : State) (number : ℕ) (lines : List LineSetup) (owner : LineSetup) (line : Bool × Bool) (asks pending : Bool) → lines ≡ g.lines → Some owner ≡ find (λ (l : LineSetup). eqb l.line number) lines →
+    Some line ≡ option_map told_line (slice_get s.lines number) → asks ≡ is_asked s owner → pending ≡ (line.1 || asks) → answered.Irq number owner.owner owner.bits line.0 pending ≡ irq_of g s number
+its_line g s number lines owner line asks pending same e h k is =
+    irq_is s number (owner_of g number) owner line pending (e ∙ ap (find (λ (l : LineSetup). eqb l.line number)) same) (line_is s number line h) (is ∙ ap (λ (b : Bool). line.1 || b) k)
 
 pub irq_same : (g : Setup) (u s : State) (number : ℕ) → reduced u ≡ reduced s → irq_of g u number ≡ irq_of g s number
 irq_same g u s number e = by (owner_of g number)
