@@ -21,7 +21,7 @@ use Rattle.board_core.specs.Opened.{setup_of_image, setup_of_task, setup_of_line
 
 -- the setup that the parts spell is the image's
 pub parts_are : (p : ImageData) (m : Memory) (bits : ℕ) (ts : List TaskStart) (ls : List LineStart) → m ≡ record { flash = p.flash; ram = replicate p.ram 0 } → bits ≡ p.fault_bits →
-    map task_setup ts ≡ map setup_of_task p.tasks → map line_setup ls ≡ map setup_of_line p.lines → setup_of_parts m bits ts ls ≡ setup_of_image p
+    map task_setup ts ≡ map setup_of_task p.tasks → map line_setup ls ≡ map (setup_of_line p) p.lines → setup_of_parts m bits ts ls ≡ setup_of_image p
 parts_are p m bits ts ls memory faults tasks lines =
     let of : Memory → ℕ → List TaskSetup → List LineSetup → Setup = λ m b t l. record { tasks = t; lines = l; fault_bits = b; flash = m.flash; ram = length m.ram; line_count = board_lines } in
     let zeros : Memory = record { flash = p.flash; ram = replicate p.ram 0 } in
@@ -29,7 +29,7 @@ parts_are p m bits ts ls memory faults tasks lines =
     ∙ ap (λ (x : ℕ). of zeros x (map task_setup ts) (map line_setup ls)) faults
     ∙ ap (λ (x : List TaskSetup). of zeros p.fault_bits x (map line_setup ls)) tasks
     ∙ ap (λ (x : List LineSetup). of zeros p.fault_bits (map setup_of_task p.tasks) x) lines
-    ∙ ap (λ (x : ℕ). record { tasks = map setup_of_task p.tasks; lines = map setup_of_line p.lines; fault_bits = p.fault_bits; flash = p.flash; ram = x; line_count = board_lines }) (length-replicate p.ram 0)
+    ∙ ap (λ (x : ℕ). record { tasks = map setup_of_task p.tasks; lines = map (setup_of_line p) p.lines; fault_bits = p.fault_bits; flash = p.flash; ram = x; line_count = board_lines }) (length-replicate p.ram 0)
 
 -- a task of the setup is that of the image
 map_at : (f : ImageTask → TaskSetup) (xs : List ImageTask) (i : ℕ) (d : ImageTask) → get_or (map f xs) i (f d) ≡ f (get_or xs i d)
@@ -41,14 +41,14 @@ pub setup_is : (p : ImageData) (i : ℕ) → setup_at (setup_of_image p) i ≡ s
 setup_is p i = map_at setup_of_task p.tasks i no_task
 
 -- each line of the setup has an owner
-owned : (xs : List ImageLine) (n : ℕ) → ((k : ℕ) → k < length xs → (get_or xs k no_line).task < n) → (o : LineSetup) → Contains (map setup_of_line xs) o → o.owner < n
-owned [] n all o h = absurd (omega (arith, h.1))
-owned (x ∷ xs) n all o (zero, lt, same) =
-    let e : setup_of_line x ≡ o = same in
+owned : (p : ImageData) (xs : List ImageLine) (n : ℕ) → ((k : ℕ) → k < length xs → (get_or xs k no_line).task < n) → (o : LineSetup) → Contains (map (setup_of_line p) xs) o → o.owner < n
+owned p [] n all o h = absurd (omega (arith, h.1))
+owned p (x ∷ xs) n all o (zero, lt, same) =
+    let e : setup_of_line p x ≡ o = same in
     let first = all zero (omega arith) in
     let is : x.task ≡ o.owner = ap (λ (l : LineSetup). l.owner) e in
     omega arith
-owned (x ∷ xs) n all o (suc i, lt, same) = owned xs n (λ k below. all (suc k) (omega arith)) o (i, omega arith, same)
+owned p (x ∷ xs) n all o (suc i, lt, same) = owned p xs n (λ k below. all (suc k) (omega arith)) o (i, omega arith, same)
 
 regions_here : (p : ImageData) (i : ℕ) (r : Region) → Contains (setup_at (setup_of_image p) i).regions r → Contains (regions_in p i) r
 regions_here p i r h = rw (setup_is p i) at h
@@ -61,9 +61,9 @@ only_one a x (zero, lt, same) = same
 only_one a x (suc i, lt, same) = absurd (omega (arith, lt))
 
 -- as many lines are started as the image has
-pub few_lines : (p : ImageData) (ls : List LineStart) → Facts p → map line_setup ls ≡ map setup_of_line p.lines → length ls ≤ board_lines
+pub few_lines : (p : ImageData) (ls : List LineStart) → Facts p → map line_setup ls ≡ map (setup_of_line p) p.lines → length ls ≤ board_lines
 few_lines p ls f e =
-    let same : length ls ≡ length p.lines = sym (length-map ls line_setup) ∙ ap length e ∙ length-map p.lines setup_of_line in
+    let same : length ls ≡ length p.lines = sym (length-map ls line_setup) ∙ ap length e ∙ length-map p.lines (setup_of_line p) in
     let most = f.sizes.most_lines in
     omega arith
 
@@ -179,7 +179,7 @@ sound_setup p f bytes =
         flash = f.sizes.most_flash;
         devices = λ i r here device. (f.regions.devices i r (regions_here p i r here) device).0;
         below = rw ram (omega (arith, ram_small));
-        owners = λ o here. rw count (owned p.lines (length p.tasks) (λ k below. f.lines.owners k below) o here);
+        owners = λ o here. rw count (owned p p.lines (length p.tasks) (λ k below. f.lines.owners k below) o here);
         stack = λ i. rw (setup_is p i) (f.tasks.stacks i);
       };
       flash_bytes = bytes;

@@ -12,8 +12,10 @@ use Rattle.task_table.specs.model.State.{Setup, Own, Turn}
 use Rattle.task_table.specs.model.Reading.{task_at, call_of, listen_of}
 use Rattle.task_table.specs.model.Effects.{noted, stored, with_devices, given_out, device_stored, device_taken}
 use Rattle.task_table.specs.model.Events.{fed}
-use Rattle.task_table.specs.kept.Holds.{Holds, Kept, Shows as ShowsTurn, kept_of, memory_of}
+use Rattle.task_table.specs.model.Sane.{Sane}
+use Rattle.task_table.specs.kept.Holds.{Holds, Stands, Kept, Shows as ShowsTurn, kept_of, memory_of}
 use Rattle.task_table.proofs.kept.Steps.{kept_same}
+use Rattle.task_table.proofs.model.Equipped.{sane-fed}
 use Rattle.board_model.specs.Turn.{put, took, is_device, or_zero}
 use Rattle.board_core.specs.declared.space.AddressSpace.{AddressSpace}
 use Rattle.board_core.specs.Data.{Shows, data_of}
@@ -52,18 +54,36 @@ noted_devices n t = refl
 pub both_noted : (n m : Note) (t : Turn) → t.state.devices ≡ (noted n (noted m t)).state.devices
 both_noted n m t = noted_devices m t ∙ noted_devices n (noted m t)
 
-pub fed_devices : (n : Note) (t : Turn) (ds : List DeviceData) → ds ≡ (noted n (with_devices ds t)).state.devices
-unfolding noted with_devices
-fed_devices n t ds = refl
-
 -- a byte of 8 bits that came from outside: the device has it, and it is noted
-pub fed_noted : (device byte : ℕ) (answer : Option Fed) (t : Turn) → byte < 256 → answer ≡ feed_answer t.state.devices device →
+fed_noted : (device byte : ℕ) (answer : Option Fed) (t : Turn) → byte < 256 → answer ≡ feed_answer t.state.devices device →
     noted (note.In device byte answer) (with_devices (devices_fed t.state.devices device byte) t) ≡ fed device (byte % 256) t
 unfolding fed
 fed_noted device byte answer t small told =
     let same : byte ≡ byte % 256 = omega (arith, small) in
     ap (λ (o : Option Fed). noted (note.In device byte o) (with_devices (devices_fed t.state.devices device byte) t)) told
     ∙ ap (λ (b : ℕ). noted (note.In device b (feed_answer t.state.devices device)) (with_devices (devices_fed t.state.devices device b) t)) same
+
+devices-fed : (device byte : ℕ) (t : Turn) → (fed device byte t).state.devices ≡ devices_fed t.state.devices device byte
+unfolding fed noted with_devices
+devices-fed device byte t = refl
+
+-- so the kernel, which keeps none, and the devices stand for the turn with it
+pub record AreFed (g : Setup) (k : Kernel) (ds : List DeviceData) (t : Turn) : Type 0 where
+  pub stands : Stands g k t
+  pub devices : ds ≡ t.state.devices
+
+pub are_fed : (g : Setup) (k k' : Kernel) (ds ds' : List DeviceData) (t : Turn) (place device byte : ℕ) (answer : Option Fed) → Holds g k t → ds ≡ t.state.devices → Sane g t.state → place ≡ device → byte < 256 →
+    ds' ≡ devices_fed ds place byte → answer ≡ feed_answer ds place → ((u : Turn) → Holds g k u → Holds g k' (noted (note.In device byte answer) u)) → AreFed g k' ds' (fed device (byte % 256) t)
+are_fed g k k' ds ds' t place device byte answer h same sane at small after told holds =
+    let here : answer ≡ feed_answer t.state.devices device = told ∙ ap (feed_answer ds) at ∙ ap (λ (xs : List DeviceData). feed_answer xs device) same in
+    let low : byte ≡ byte % 256 = omega (arith, small) in
+    record {
+      stands = record {
+        holds = subst (Holds g k') (fed_noted device byte answer t small here) (holds _ (holds_devices g (kept_of k) t (devices_fed t.state.devices device byte) h));
+        sane = sane-fed device (byte % 256) t (omega arith) sane;
+      };
+      devices = after ∙ ap (λ (i : ℕ). devices_fed ds i byte) at ∙ ap (λ (xs : List DeviceData). devices_fed xs device byte) same ∙ ap (devices_fed t.state.devices device) low ∙ sym (devices-fed device (byte % 256) t);
+    }
 
 -- ## what the machine reaches
 

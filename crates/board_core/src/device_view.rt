@@ -3,6 +3,7 @@ ghost use Rattle.std.specs.Prelude.{◌≡◌, ◌<◌, length, slice_get, take}
 ghost use Rattle.std.specs.Option.{option_map};
 ghost use Rattle.kernel_abi.specs.Devices.{device_at};
 ghost use Rattle.task_table.specs.model.State.{State};
+ghost use Rattle.task_table.specs.model.Asking.{asks_at};
 ghost use Rattle.board_model.specs.Script.{Scenario};
 ghost use Rattle.board_core.specs.Data.{data_of};
 ghost use Rattle.board_core.specs.DeviceViews.{device_told};
@@ -71,5 +72,14 @@ impl Board {
             return None;
         }
         Some(view(devices, k))
+    }
+
+    /// Whether the device behind an address asks for an interrupt. Where no device is, nothing
+    /// does.
+    pub fn asks_at(&self, addr: u32) -> bool
+        ensures { (x : Scenario) (s : State) → Stands shown x self.now s →
+            result ≡ asks_at s.devices addr }
+    {
+        self.machine.space.devices.asks_at(addr)
     }
 }

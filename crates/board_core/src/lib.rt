@@ -1,6 +1,7 @@
 //! The board: one turn at a time.
 #![tactic(auto)]
 
+mod asking;
 mod board;
 mod changes;
 mod choice;

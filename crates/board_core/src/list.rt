@@ -1,6 +1,7 @@
 //! The boxes of devices that a board was handed.
 ghost use Rattle.std.specs.Prelude.{◌≡◌, ◌≢◌, ◌<◌, ◌+◌, ◌-◌, ◌*◌, ◌%◌, ◌^◌, ◌⊎◌, [], true, false, length, map, slice_get, None, MatchOption};
 ghost use Rattle.kernel_abi.specs.Devices.{looked, after_load, after_store, given_out, after_input, fed_by, IsSettable, is_behind, behind, device_at, with_device, device_number, devices_loaded, devices_stored, device_out, devices_fed, feed_answer};
+ghost use Rattle.task_table.specs.model.Asking.{asks, asks_at};
 ghost use Rattle.board_core.specs.Data.{data_of, IsPlace, IsOffset};
 
 use devices::Device;
@@ -81,6 +82,16 @@ fn queued_in(device: &Box<dyn Device>, k: usize) -> Option<u8>
     ensures { result ≡ slice_get (shown device.now).queue k }
 {
     device.queued(k)
+}
+
+/// Whether a device asks for an interrupt: a port while a byte waits, a console always.
+fn asks(device: &Box<dyn Device>) -> bool
+    ensures { result ≡ asks (shown device.now).kind (shown device.now).queue }
+{
+    match kind_of(device) {
+        Kind::Console => true,
+        Kind::Port => queued_in(device, 0).is_some(),
+    }
 }
 
 fn set_to(device: &mut Box<dyn Device>, count: u32, queue: &[u8])
@@ -185,6 +196,25 @@ impl Devices {
             k += 1;
         }
         None
+    }
+
+    /// Whether the k-th device asks for an interrupt.
+    fn asks(&self, k: usize) -> bool
+        requires { k < length (data_of shown self.now) }
+        ensures { let d = device_at (data_of shown self.now) k in result ≡ asks d.kind d.queue }
+    {
+        asks(&self.list[k])
+    }
+
+    /// Whether the device behind an address asks for an interrupt. Where no device is, nothing
+    /// does.
+    pub fn asks_at(&self, addr: u32) -> bool
+        ensures { result ≡ asks_at (data_of shown self.now) addr }
+    {
+        match self.place(addr) {
+            Some((k, _)) => self.asks(k),
+            None => false,
+        }
     }
 
     /// What n bytes from an address on show, if a device is behind it.

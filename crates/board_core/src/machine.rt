@@ -16,6 +16,7 @@ ghost use Rattle.board_model.specs.Turn.{with_current, noted_at, happened, stepp
 ghost use Rattle.board_core.specs.Machine.{IsReady, IsNext, SpaceHolds, MachineHolds, MachineStands, IsLoaded, MayAct, HasActed, MayTurn};
 ghost use Rattle.board_core.specs.fast.Windowed.{IsCalling};
 
+use crate::asking::asked;
 use crate::fast_path::glider::Glider;
 use crate::fast_path::poller::Poller;
 use crate::list::Devices;
@@ -31,7 +32,7 @@ use thumb_exec::lazy_flags::LazyFlags;
 use thumb_exec::step::exec;
 use thumb_insn::Insn;
 use thumb_step::fetch;
-use timer_irq::{interrupt, tick};
+use timer_irq::{drive, interrupt, tick};
 use words_core::{Flags, PROGRAM_COUNTER, Regs};
 
 /// A kernel and a processor, which is the glider's. While the context of the current task is
@@ -157,6 +158,8 @@ impl Machine {
             Event::Feed { device, byte } => {
                 let fed = self.space.devices.feed(usize::from(device), byte);
                 self.space.kernel.note(Note::In { device, byte, fed });
+                let asked = asked(&self.space.kernel, &self.space.devices);
+                drive(&mut self.space.kernel, &asked);
             }
         }
     }
@@ -328,7 +331,7 @@ impl Machine {
         self.save_context();
         let task = self.space.kernel.current();
         self.space.kernel.note_syscall(task);
-        syscall(&mut self.space.kernel, task);
+        syscall(&mut self.space.kernel, &self.space.devices, task);
     }
 
     /// The current task faults.

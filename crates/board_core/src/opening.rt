@@ -1,13 +1,13 @@
 //! The kernel at the start of a run of an image.
 ghost use Rattle.std.specs.Prelude.{◌≡◌, ◌<◌, ◌+◌, ◌-◌, length, map, filter, vec_items, IfOk};
 ghost use Rattle.image_format.specs.Images.{image_data};
-ghost use Rattle.image_format.specs.ImageData.{task_in, line_in};
+ghost use Rattle.image_format.specs.ImageData.{device_region, task_in, line_in};
 ghost use Rattle.mem_banks.specs.Memory.{Memory};
 ghost use Rattle.task_table.specs.model.Start.{start};
 ghost use Rattle.task_table.specs.kept.Parts.{task_setup, line_setup};
 ghost use Rattle.task_table.specs.kept.Holds.{task_count, setup_of};
 ghost use Rattle.board_core.specs.Regions.{ArePlaces, HavePlaces};
-ghost use Rattle.board_core.specs.Opened.{setup_of_image, setup_of_task, setup_of_line};
+ghost use Rattle.board_core.specs.Opened.{base_of, setup_of_image, setup_of_task, setup_of_line};
 ghost use Rattle.board_core.specs.Machine.{IsStarted};
 ghost use Rattle.board_core.specs.fast.Sights.{is_port};
 ghost use Rattle.board_core.specs.fast.IoRegions.{AreIoRegions};
@@ -43,22 +43,35 @@ fn task_starts(alloc: Global, image: &Image) -> Result<Vec<TaskStart>, AllocErro
     Ok(tasks)
 }
 
+/// The first address of the device that drives an interrupt line; 0 if none does.
+fn line_device(image: &Image, k: usize) -> u32
+    requires { k < length (image_data image.now).lines }
+    ensures { result ≡ base_of (device_region (image_data image.now) k) }
+{
+    match image.line_device_region(k) {
+        Some(region) => region.base,
+        None => 0,
+    }
+}
+
 /// What the image says of an interrupt line.
 fn line_start(image: &Image, k: usize) -> LineStart
     requires { k < length (image_data image.now).lines }
-    ensures { line_setup result ≡ setup_of_line (line_in (image_data image.now) k) }
+    ensures { let p = image_data image.now in
+        line_setup result ≡ setup_of_line p (line_in p k) }
 {
     LineStart {
         line: image.line(k),
         task: image.line_task(k),
         bits: image.line_bits(k),
+        device: line_device(image, k),
     }
 }
 
 /// What the image says of each interrupt line.
 fn line_starts(alloc: Global, image: &Image) -> Result<Vec<LineStart>, AllocError>
-    ensures { IfOk result (λ v. map line_setup v.items ≡ map setup_of_line
-        (image_data image.now).lines) }
+    ensures { let p = image_data image.now in
+        IfOk result (λ v. map line_setup v.items ≡ map (setup_of_line p) p.lines) }
 {
     let mut lines = Vec::new(alloc);
     for k in 0..image.line_count() {

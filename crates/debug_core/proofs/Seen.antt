@@ -1,5 +1,5 @@
 -- The views of tasks, lines and devices of two states that are equal with births modulo 64.
-use Rattle.std.proofs.Common.{◌≡◌, ◌∙◌, ℕ, zero, suc, ◌+◌, ◌*◌, ◌%◌, ◌≤◌, ◌<◌, eqb, Bool, cond, List, [], ◌∷◌, length, get_or, Option, Some, None, refl, sym, ap, arith}
+use Rattle.std.proofs.Common.{◌≡◌, ◌∙◌, ℕ, zero, suc, ◌+◌, ◌*◌, ◌%◌, ◌≤◌, ◌<◌, eqb, Bool, cond, ◌||◌, List, [], ◌∷◌, length, get_or, Option, Some, None, refl, sym, ap, arith}
 use Rattle.std.specs.Prelude.{find, slice_get, slice_index_or}
 use Rattle.std.specs.Option.{option_map}
 use Rattle.std.proofs.Math.Nat.{mod-mod}
@@ -11,9 +11,10 @@ use Rattle.kernel_abi.specs.declared.TaskId.{TaskId}
 use Rattle.task_table.specs.declared.Line.{Line}
 use Rattle.task_table.specs.kept.Holds.{id_at, wait_of}
 use Rattle.task_table.specs.model.State.{Birth, LineSetup, Setup, State, Task}
+use Rattle.task_table.specs.model.Asking.{asks_at, is_asked}
 use Rattle.task_table.specs.model.Reading.{call_of, line_at, listen_of, no_line as no_line_there, task_at}
-use Rattle.board_model.specs.Alike.{but_memory, reduced, seen, seen_birth}
-use Rattle.board_model.proofs.Alike.{call_alike, count_alike, line_alike, listen_alike, shown, task_alike}
+use Rattle.board_model.specs.Alike.{but_memory, reduced, seen_birth}
+use Rattle.board_model.proofs.Alike.{call_alike, count_alike, devices_alike, line_alike, listen_alike, shown, task_alike}
 use Rattle.board_model.specs.Script.{Scenario}
 use Rattle.board_core.specs.declared.board.Board.{Board}
 use Rattle.board_core.specs.declared.device_view.DeviceView.{DeviceView}
@@ -97,9 +98,6 @@ its_task u s i v e k =
 
 -- ---- an interrupt line
 
-abbrev pub told_owner : LineSetup → ℕ × ℕ
-told_owner l = (l.owner, l.bits)
-
 abbrev pub told_line : Line → Bool × Bool
 told_line l = (l.enabled, l.pending)
 
@@ -129,23 +127,29 @@ line_is s number line e = by s.lines number e
     by (l ∷ ls) zero e = cc
     by (l ∷ ls) (suc k) e = by ls k e
 
-irq_is : (s : State) (number : ℕ) (o : Option LineSetup) (owner : ℕ × ℕ) (line : Bool × Bool) → Some owner ≡ option_map told_owner o → line ≡ told_line (line_at s number) → answered.Irq number owner.0 owner.1 line.0 line.1 ≡ irq_by s number o
-irq_is s number None owner line e h = absurd (no_pair owner (sym e))
-irq_is s number (Some l) owner line e h =
-    let same : owner ≡ told_owner l = cc in
-    λ j. answered.Irq number (same j).0 (same j).1 (h j).0 (h j).1
+irq_is : (s : State) (number : ℕ) (o : Option LineSetup) (owner : LineSetup) (line : Bool × Bool) (pending : Bool) → Some owner ≡ o → line ≡ told_line (line_at s number) → pending ≡ (line.1 || is_asked s owner) →
+    answered.Irq number owner.owner owner.bits line.0 pending ≡ irq_by s number o
+irq_is s number None owner line pending e h k = absurd (no_pair owner (sym e))
+irq_is s number (Some l) owner line pending e h k =
+    let same : owner ≡ l = cc in
+    let is : pending ≡ ((line_at s number).pending || is_asked s l) = k ∙ ap (λ (held : Bool). held || is_asked s owner) (λ j. (h j).1) ∙ ap (λ (o : LineSetup). (line_at s number).pending || is_asked s o) same in
+    λ j. answered.Irq number (same j).owner (same j).bits (h j).0 (is j)
 
-pub its_line : (g : Setup) (s : State) (number : ℕ) (lines : List LineSetup) (owner : ℕ × ℕ) (line : Bool × Bool) → lines ≡ g.lines → Some owner ≡ option_map told_owner (find (λ (l : LineSetup). eqb l.line number) lines) →
-    Some line ≡ option_map told_line (slice_get s.lines number) → answered.Irq number owner.0 owner.1 line.0 line.1 ≡ irq_of g s number
-its_line g s number lines owner line same e h =
-    irq_is s number (owner_of g number) owner line (e ∙ ap (λ (ls : List LineSetup). option_map told_owner (find (λ (l : LineSetup). eqb l.line number) ls)) same) (line_is s number line h)
+-- the line of this owner: an interrupt is pending where one is held or the device asks
+pub its_line : (g : Setup) (s : State) (number : ℕ) (lines : List LineSetup) (owner : LineSetup) (line : Bool × Bool) (asks pending : Bool) → lines ≡ g.lines → Some owner ≡ find (λ (l : LineSetup). eqb l.line number) lines →
+    Some line ≡ option_map told_line (slice_get s.lines number) → asks ≡ is_asked s owner → pending ≡ (line.1 || asks) → answered.Irq number owner.owner owner.bits line.0 pending ≡ irq_of g s number
+its_line g s number lines owner line asks pending same e h k is =
+    irq_is s number (owner_of g number) owner line pending (e ∙ ap (find (λ (l : LineSetup). eqb l.line number)) same) (line_is s number line h) (is ∙ ap (λ (b : Bool). line.1 || b) k)
 
 pub irq_same : (g : Setup) (u s : State) (number : ℕ) → reduced u ≡ reduced s → irq_of g u number ≡ irq_of g s number
 irq_same g u s number e = by (owner_of g number)
   where
     by : (o : Option LineSetup) → irq_by u number o ≡ irq_by s number o
     by None = refl
-    by (Some l) = ap (λ (k : Line). answered.Irq number l.owner l.bits k.enabled k.pending) (line_alike births u s number (same_shown u s e))
+    by (Some l) =
+        let line = line_alike births u s number (same_shown u s e) in
+        let asks : is_asked u l ≡ is_asked s l = ap (λ (ds : List DeviceData). asks_at ds l.device) (devices_alike births u s (same_shown u s e)) in
+        λ j. answered.Irq number l.owner l.bits (line j).enabled ((line j).pending || asks j)
 
 -- ---- a device
 
@@ -165,5 +169,4 @@ its_device s k v sane e =
     ap (λ (bytes : List ℕ). answered.Device k v.kind v.base v.count (record { items = bytes })) (sym (take_all 64 v.queue.items few)) ∙ ap (device_by k) e
 
 pub device_same : (u s : State) (k : ℕ) → reduced u ≡ reduced s → device_of u k ≡ device_of s k
-unfolding seen
-device_same u s k e = ap (λ (v : State). device_by k (slice_get v.devices k)) e
+device_same u s k e = ap (λ (ds : List DeviceData). device_by k (slice_get ds k)) (devices_alike births u s (same_shown u s e))

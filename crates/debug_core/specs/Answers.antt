@@ -1,5 +1,5 @@
 -- The answer to a command, and its text (docs/FORMATS.md, Commands).
-use Rattle.std.specs.Prelude.{ℕ, zero, suc, ◌+◌, ◌-◌, ◌%◌, ◌==◌, Bool, List, [], ◌∷◌, ◌++◌, length, map, take, find, slice_get, codes, decimal, Option, Some, None, if◌then◌else◌, nat_lt}
+use Rattle.std.specs.Prelude.{ℕ, zero, suc, ◌+◌, ◌-◌, ◌%◌, ◌==◌, ◌||◌, Bool, List, [], ◌∷◌, ◌++◌, length, map, take, find, slice_get, codes, decimal, Option, Some, None, if◌then◌else◌, nat_lt}
 use Rattle.std.specs.List.{range_with_len, list_all, flat_map}
 use Rattle.std.specs.Option.{option_map, unwrap_or}
 use Rattle.kernel_abi.specs.declared.Kind.{Kind}
@@ -7,6 +7,7 @@ use Rattle.kernel_abi.specs.declared.Kind.TheVariants.{Console, Port}
 use Rattle.kernel_abi.specs.Devices.{DeviceData}
 use Rattle.mem_banks.specs.Memory.{Memory, is_held}
 use Rattle.task_table.specs.model.State.{LineSetup, Setup, State}
+use Rattle.task_table.specs.model.Asking.{is_asked}
 use Rattle.task_table.specs.model.Reading.{call_of, line_at, listen_of, task_at}
 use Rattle.task_table.specs.kept.Holds.{wait_of}
 use Rattle.trace_text.specs.Text.{bit, byte_hex, hex, line_of, spaced_hex}
@@ -86,9 +87,12 @@ task_of s i = if nat_lt i (length s.tasks) then answered.Task i (task_view s i) 
 abbrev pub owner_of : Setup → ℕ → Option LineSetup
 owner_of g number = find (λ l. l.line == number) g.lines
 
+-- an interrupt is pending where one is held, and where the line's device asks for one
 abbrev pub irq_by : State → ℕ → Option LineSetup → Answer
 irq_by s number None = Absent
-irq_by s number (Some l) = answered.Irq number l.owner l.bits (line_at s number).enabled (line_at s number).pending
+irq_by s number (Some l) =
+    let line = line_at s number in
+    answered.Irq number l.owner l.bits line.enabled (line.pending || is_asked s l)
 
 abbrev pub irq_of : Setup → State → ℕ → Answer
 irq_of g s number = irq_by s number (owner_of g number)

@@ -94,36 +94,38 @@ fn task(replay: &Replay, task: u16) -> Answer
     }
 }
 
-/// The index of the task that owns an interrupt line, and the bits that it gets.
-fn owner_of(owners: &[LineStart], line: u8) -> Option<(u16, u32)>
-    ensures { result ≡ option_map (λ l. (l.owner, l.bits))
-        (find (λ l. l.line == line) (map line_setup owners.now)) }
+/// The owner of an interrupt line, as the image says.
+fn owner_of(owners: &[LineStart], line: u8) -> Option<LineStart>
+    ensures { option_map line_setup result
+        ≡ find (λ l. l.line == line) (map line_setup owners.now) }
 {
     for start in owners {
         if start.line == line {
-            return Some((start.task, start.bits));
+            return Some(*start);
         }
     }
     None
 }
 
+/// An interrupt is pending on the line where one is held, and where the line's device asks for one.
 fn irq(board: &Board, line: u8) -> Answer
     requires { line < 64 }
     ensures { (x : Scenario) (s : State) → Stands (boxed shown) x board.now s →
         result ≡ irq_of x.setup s line }
 {
-    let Some((owner, bits)) = owner_of(board.owners(), line) else {
+    let Some(owner) = owner_of(board.owners(), line) else {
         return Answer::Absent;
     };
-    let Some((enabled, pending)) = board.irq_line(usize::from(line)) else {
+    let asks = board.asks_at(owner.device);
+    let Some((enabled, held)) = board.irq_line(usize::from(line)) else {
         return Answer::Absent;
     };
     Answer::Irq {
         line,
-        owner,
-        bits,
+        owner: owner.task,
+        bits: owner.bits,
         enabled,
-        pending,
+        pending: held || asks,
     }
 }
 

@@ -1,6 +1,6 @@
 -- A turn notes the instruction at an address once if it executes it, and otherwise not at all. So the notes
 -- of a run count its turns.
-use Rattle.std.proofs.Common.{◌≡◌, ◌+◌, ◌-◌, ◌≤◌, ℕ, zero, suc, Bool, true, false, cond, ◌&&◌, eqb, List, [], ◌∷◌, ◌++◌, length, Option, Some, None, refl, sym, ◌∙◌, ap, subst, true≢false, arith}
+use Rattle.std.proofs.Common.{◌≡◌, ◌+◌, ◌-◌, ◌%◌, ◌≤◌, ℕ, zero, suc, Bool, true, false, cond, ◌&&◌, eqb, List, [], ◌∷◌, ◌++◌, length, Option, Some, None, refl, sym, ◌∙◌, ap, subst, true≢false, arith}
 use Rattle.std.specs.Prelude.{count_by, is_ok, Result, Ok, Err}
 use Rattle.std.specs.List.{range_with_len}
 use Rattle.std.proofs.lemmas.List.Sums.{count_by-le-length, sum_by-append, sum_by-cons, sum_by_push}
@@ -17,7 +17,7 @@ use Rattle.thumb_exec.specs.declared.fetch.Fetched.{Fetched}
 use Rattle.task_table.specs.model.State.{Setup, LineSetup, State, Turn}
 use Rattle.task_table.specs.model.Reading.{task_at, register, chosen}
 use Rattle.task_table.specs.model.Effects.{noted, clocked}
-use Rattle.task_table.specs.model.Events.{expired_by, expired, ticked, fed, owner_of, interrupted_by, interrupted}
+use Rattle.task_table.specs.model.Events.{expired_by, expired, ticked, fed, owner_of, interrupted_by, interrupted, driven_by, driven}
 use Rattle.task_table.specs.model.Sane.{Sane}
 use Rattle.task_table.specs.model.Start.{begun}
 use Rattle.board_model.specs.declared.outcomes.Level.TheVariants.{All}
@@ -59,11 +59,15 @@ quiet_interrupted t u k (Some o) h =
     quiet_if _ (quiet_posted true t _ _ _ (quiet_line true t k _ _ (quiet_noted true t _ u refl h)))
     (quiet_line true t k _ _ (quiet_noted true t _ u refl h))
 
+quiet_driven : (g : Setup) (t u : Turn) → IsQuiet true t u → IsQuiet true t (driven g u)
+unfolding driven
+quiet_driven g t u h = quiet_fold true t (driven_by u.state.devices) (λ v o k. quiet_if _ (quiet_interrupted t v o.line (Some o) k) k) g.lines u h
+
 quiet_happened : (g : Setup) (t u : Turn) (e : Event) → IsQuiet true t u → IsQuiet true t (happened g u e)
 unfolding ticked interrupted fed
 quiet_happened g t u Tick h = quiet_fold true t expired (λ v i k. quiet_expired t v i (task_at v.state i).timer k) (range_with_len 0 (length u.state.tasks)) (clocked u) (quiet_clocked true t u h)
 quiet_happened g t u (Irq line) h = quiet_interrupted t u line (owner_of g line) h
-quiet_happened g t u (Feed device byte) h = quiet_noted true t _ _ refl (quiet_devices true t _ u h)
+quiet_happened g t u (Feed device byte) h = quiet_driven g t (fed device (byte % 256) u) (quiet_noted true t _ _ refl (quiet_devices true t _ u h))
 
 from_nothing : (t u : Turn) → t.notes ≡ [] → IsQuiet true t u → AreQuiet true u.notes
 from_nothing t u none h = subst (AreQuiet true) (sym (h.is ∙ ap (λ ns. ns ++ h.more) none)) h.quiet

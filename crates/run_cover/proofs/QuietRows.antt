@@ -15,6 +15,7 @@ use Rattle.kernel_abi.specs.declared.arguments.ReplyArgs.{ReplyArgs}
 use Rattle.kernel_abi.specs.declared.arguments.SendArgs.{SendArgs}
 use Rattle.task_table.specs.declared.slot.Slice.{Slice}
 use Rattle.task_table.specs.model.State.{Setup, LineSetup, Call, From, Turn}
+use Rattle.task_table.specs.model.Asking.{is_asked}
 use Rattle.task_table.specs.model.Reading.{task_at, arguments}
 use Rattle.task_table.specs.model.Effects.{past_syscall, faulted}
 use Rattle.task_table.specs.model.Rows.{goes_on, goes_on_with, panicked, timer_set, timer_answered, owns_with, line_controlled, irq_controlled, irq_answered, listens, receives_or_listens, takes_bits, message_received, received, syscall_noted}
@@ -49,15 +50,15 @@ module _ (t : Turn) (g : Setup) (c : ℕ) where
   unfolding timer_answered
   quiet_timer_answered u h = goes_with _ u h
 
-  controls : (bits : ℕ) (enable : Bool) (u : Turn) (o : LineSetup) → IsQuiet false t u → IsQuiet false t (line_controlled c bits enable o.line u)
-  controls bits enable u o h = search (quiet_if, quiet_line, quiet_posted) depth 12
+  controls : (bits : ℕ) (enable asks : Bool) (u : Turn) (o : LineSetup) → IsQuiet false t u → IsQuiet false t (line_controlled c bits enable asks o.line u)
+  controls bits enable asks u o h = search (quiet_if, quiet_line, quiet_posted) depth 12
 
   quiet_irq_controlled : (u : Turn) → IsQuiet false t u → IsQuiet false t (irq_controlled g c u)
   unfolding irq_controlled
   quiet_irq_controlled u h =
       let x = irq_args (arguments u.state c) in
       quiet_if _ (fails _ u h)
-      (goes _ (quiet_fold false t (λ v o. line_controlled c x.bits x.enable o.line v) (λ v o k. controls x.bits x.enable v o k) (filter (owns_with c x.bits) g.lines) u h))
+      (goes _ (quiet_fold false t (λ v o. line_controlled c x.bits x.enable (is_asked u.state o) o.line v) (λ v o k. controls x.bits x.enable (is_asked u.state o) v o k) (filter (owns_with c x.bits) g.lines) u h))
 
   quiet_irq_answered : (u : Turn) → IsQuiet false t u → IsQuiet false t (irq_answered g c u)
   unfolding irq_answered

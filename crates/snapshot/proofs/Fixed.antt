@@ -1,5 +1,5 @@
 -- A run changes neither the number of interrupt lines nor the kinds and bases of the devices.
-use Rattle.std.proofs.Common.{◌≡◌, ◌∙◌, ℕ, zero, suc, ◌%◌, inl, inr, Bool, true, false, cond, eqb, leb, bit_and, List, [], ◌∷◌, length, set, length-set, Option, Some, None, refl, ap}
+use Rattle.std.proofs.Common.{◌≡◌, ◌∙◌, ℕ, zero, suc, ◌%◌, inl, inr, Bool, true, false, cond, ◌&&◌, eqb, leb, bit_and, List, [], ◌∷◌, length, set, length-set, Option, Some, None, refl, ap}
 use Rattle.std.specs.Prelude.{fold, nat_lt}
 use Rattle.std.specs.List.{range_with_len}
 use Rattle.kernel_abi.specs.Ids.{dead_code_of}
@@ -17,9 +17,10 @@ use Rattle.run_script.specs.declared.events.Event.TheVariants.{Tick, Irq, Feed}
 use Rattle.run_script.specs.Scripts.{events_of}
 use Rattle.task_table.specs.declared.slot.Slice.{Slice}
 use Rattle.task_table.specs.model.State.{Setup, LineSetup, State, Call, Listen, Ground, Own, Message, Turn}
+use Rattle.task_table.specs.model.Asking.{asks_at}
 use Rattle.task_table.specs.model.Reading.{task_at, line_at, call_of, listen_of, admits, chosen, line_off}
 use Rattle.task_table.specs.model.Effects.{with_task, with_listen, with_call, with_taken, without_call, without_listen, changed, noted, with_processor, with_health, stored, copied, looked, given, returned, past_syscall, bits_added, bits_cleared, woken_by, woken, posted, with_timer, clocked, with_line, with_devices, closed, faulted_as, offered, handed, reborn, is_to, awaits, dead_answered, restarted}
-use Rattle.task_table.specs.model.Events.{expired_by, expired, ticked, owner_of, interrupted_by, interrupted, fed}
+use Rattle.task_table.specs.model.Events.{expired_by, expired, ticked, owner_of, interrupted_by, interrupted, fed, driven_by, driven}
 use Rattle.task_table.specs.model.Sends.{taken_at_once, offers_call}
 use Rattle.task_table.specs.model.Start.{begun}
 use Rattle.task_table.specs.model.Sane.{Sane}
@@ -149,26 +150,41 @@ many_ticked : (t : Turn) → AsMany t (ticked t)
 unfolding ticked clocked noted
 many_ticked t = many_fold expired (range_with_len 0 (length t.state.tasks)) (clocked t) (λ i u. many_expired i u)
 
-many_interrupted : (g : Setup) (k : ℕ) (t : Turn) → AsMany t (interrupted g k t)
-unfolding interrupted with_line noted
-many_interrupted g k t = by_owner (owner_of g k)
+many_interrupted_by : (k : ℕ) (o : Option LineSetup) (t : Turn) → AsMany t (interrupted_by k o t)
+unfolding with_line noted
+many_interrupted_by k None t = refl
+many_interrupted_by k (Some o) t = by_line (line_at t.state k).enabled
   where
-    by_owner : (o : Option LineSetup) → AsMany t (interrupted_by k o t)
-    by_owner None = refl
-    by_owner (Some o) = by_line (line_at t.state k).enabled
-      where
-        off : Turn
-        off = with_line k (line_off false) (noted (note.Irq k Posted) t)
+    off : Turn
+    off = with_line k (line_off false) (noted (note.Irq k Posted) t)
 
-        by_line : (b : Bool) → AsMany t (cond b (posted o.owner o.bits off) (with_line k (line_off true) (noted (note.Irq k Held) t)))
-        by_line true = many_posted o.owner o.bits off ∙ length-set t.state.lines k (line_off false)
-        by_line false = length-set t.state.lines k (line_off true)
+    by_line : (b : Bool) → AsMany t (cond b (posted o.owner o.bits off) (with_line k (line_off true) (noted (note.Irq k Held) t)))
+    by_line true = many_posted o.owner o.bits off ∙ length-set t.state.lines k (line_off false)
+    by_line false = length-set t.state.lines k (line_off true)
+
+many_interrupted : (g : Setup) (k : ℕ) (t : Turn) → AsMany t (interrupted g k t)
+unfolding interrupted
+many_interrupted g k t = many_interrupted_by k (owner_of g k) t
+
+many_driven_by : (ds : List DeviceData) (t : Turn) (o : LineSetup) → AsMany t (driven_by ds t o)
+many_driven_by ds t o = by_test ((line_at t.state o.line).enabled && asks_at ds o.device)
+  where
+    by_test : (b : Bool) → AsMany t (cond b (interrupted_by o.line (Some o) t) t)
+    by_test true = many_interrupted_by o.line (Some o) t
+    by_test false = refl
+
+many_driven : (g : Setup) (t : Turn) → AsMany t (driven g t)
+unfolding driven
+many_driven g t = many_fold (driven_by t.state.devices) g.lines t (λ o u. many_driven_by t.state.devices u o)
+
+many_fed : (device byte : ℕ) (t : Turn) → AsMany t (fed device byte t)
+unfolding fed with_devices noted
+many_fed device byte t = refl
 
 many_happened : (g : Setup) (e : Event) (t : Turn) → AsMany t (happened g t e)
-unfolding fed with_devices noted
 many_happened g Tick t = many_ticked t
 many_happened g (Irq line) t = many_interrupted g line t
-many_happened g (Feed device byte) t = refl
+many_happened g (Feed device byte) t = many_driven g (fed device (byte % 256) t) ∙ many_fed device (byte % 256) t
 
 many_after_events : (x : Scenario) (s : State) → length (after_events x s).state.lines ≡ length s.lines
 unfolding after_events begun

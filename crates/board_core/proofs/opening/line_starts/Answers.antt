@@ -14,6 +14,6 @@ one_more f g front a all k d within before same =
 
 pub loop-k-preserved : goal.loop-k-preserved
 loop-k-preserved c =
-    let lines = (image_data c.args.image.now).lines in
+    let p = image_data c.args.image.now in
     ap (map line_setup) c.in_ok-push.ensures.items
-    ∙ one_more line_setup setup_of_line c.loop-k.lines.items c.line_start.result lines c.loop-k.k no_line (omega (arith, c.line_count-k-end.ensures, c.loop-k-test.true)) c.loop-k.invariant c.line_start.ensures
+    ∙ one_more line_setup (setup_of_line p) c.loop-k.lines.items c.line_start.result p.lines c.loop-k.k no_line (omega (arith, c.line_count-k-end.ensures, c.loop-k-test.true)) c.loop-k.invariant c.line_start.ensures

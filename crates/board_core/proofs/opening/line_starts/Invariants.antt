@@ -6,4 +6,4 @@ use Rattle.board_core.proofs.opening.line_starts.Given as goal
 
 -- the lines so far
 abbrev pub invariant-loop-k : goal.invariant-loop-k
-invariant-loop-k l = map line_setup l.lines.items ≡ map setup_of_line (take l.k (image_data l.image).lines)
+invariant-loop-k l = let p = image_data l.image in map line_setup l.lines.items ≡ map (setup_of_line p) (take l.k p.lines)

@@ -18,7 +18,7 @@ expected_is : (p : ImageData) (ds : List DeviceData) (regions : List (List Regio
     record { regions = regions; ram = ram; owned = owned; kinds = kinds } ≡ expected_of (setup_of_image p) ds
 expected_is p ds regions ram owned kinds a b c d =
     let rs = a ∙ sym (map-map (λ (t : TaskSetup). t.regions) setup_of_task p.tasks) in
-    let ls = c ∙ sym (map-map (λ (l : LineSetup). l.line) setup_of_line p.lines) in
+    let ls = c ∙ sym (map-map (λ (l : LineSetup). l.line) (setup_of_line p) p.lines) in
     λ j. record { regions = rs j; ram = b j; owned = ls j; kinds = d j }
 
 pub returns : goal.returns

@@ -1,4 +1,4 @@
-use Rattle.std.proofs.Common.{ℕ, subst, arith}
+use Rattle.std.proofs.Common.{ℕ, sym, subst, arith}
 use Rattle.task_table.specs.model.Rows.{syscall_noted}
 use Rattle.task_table.specs.model.Syscalls.{syscall_made}
 use Rattle.board_core.specs.Machine.{SpaceHolds}
@@ -43,6 +43,6 @@ returns boxes c =
           let by = calling _ g c.save_context.new.self.space c.note_syscall.new.self c.args.self.now c.current-task.result t r task h (c.note_syscall.ensures.holds g t) in
           let after : AddressSpace _ _ = record c.save_context.new.self.space { kernel = c.syscall.new.k } in
           let P : ℕ → Type 0 = λ i. SpaceHolds shown g after (syscall_made g i (syscall_noted i t)) in
-          unloaded_by _ _ g _ _ _ c.save_context.ensures.unloaded (subst P task (called _ g after c.note_syscall.new.self c.current-task.result t by (c.syscall.ensures.stands g _ by.stands by.ready).holds));
+          unloaded_by _ _ g _ _ _ c.save_context.ensures.unloaded (subst P task (called _ g after c.note_syscall.new.self c.current-task.result t by (c.syscall.ensures.stands g _ by.stands (sym by.devices) by.ready).holds));
       count = omega (arith, c.syscall.ensures.frame.notes, c.save_context.ensures.frame.notes, c.note_syscall.ensures.frame.notes);
     }
