@@ -1,6 +1,6 @@
 //! `Debugger`: carries out commands one after the other.
 
-ghost use Rattle.std.specs.Prelude.{ℕ, ◌≡◌, ◌≤◌, ◌<◌, ◌+◌, ◌-◌, ◌==◌, find, map, min, IfOk};
+ghost use Rattle.std.specs.Prelude.{ℕ, ◌≡◌, ◌≤◌, ◌<◌, ◌+◌, ◌-◌, ◌==◌, ◌||◌, find, map, min, IfOk};
 ghost use Rattle.std.specs.Option.{option_map};
 ghost use Rattle.task_table.specs.kept.Parts.{line_setup};
 ghost use Rattle.task_table.specs.model.State.{State};
@@ -107,7 +107,13 @@ fn owner_of(owners: &[LineStart], line: u8) -> Option<LineStart>
     None
 }
 
-/// An interrupt is pending on the line where one is held, and where the line's device asks for one.
+/// Whether an interrupt is pending on a line: one is held there, or the line's device asks for one.
+fn is_pending(held: bool, asks: bool) -> bool
+    ensures { result ≡ (held || asks) }
+{
+    held || asks
+}
+
 fn irq(board: &Board, line: u8) -> Answer
     requires { line < 64 }
     ensures { (x : Scenario) (s : State) → Stands (boxed shown) x board.now s →
@@ -125,7 +131,7 @@ fn irq(board: &Board, line: u8) -> Answer
         owner: owner.task,
         bits: owner.bits,
         enabled,
-        pending: held || asks,
+        pending: is_pending(held, asks),
     }
 }
 
