@@ -2,12 +2,15 @@
 //! Exploration).
 #![tactic(auto)]
 
+mod judging;
 mod laws;
 mod looking;
+mod playing;
 mod seen;
 mod shown;
 mod standing;
 mod verdict;
+mod watch;
 mod watching;
 
 pub use laws::{
