@@ -3,7 +3,7 @@ use Rattle.std.proofs.Common.{◌≡◌, ◌∙◌, ℕ, zero, suc, ◌+◌, ◌
 use Rattle.std.specs.Prelude.{Contains, find, is_some, option_map, slice_get, slice_index, unwrap_or}
 use Rattle.std.specs.Option.{option_or}
 use Rattle.std.specs.List.{All, AllZip}
-use Rattle.std.proofs.lemmas.List.Elements.{All-contains, All-nil, Contains-append_right, Contains-get_or}
+use Rattle.std.proofs.lemmas.List.Elements.{All-contains, All-nil, All-set, All-weaker, Contains-append_right, Contains-get_or}
 use Rattle.std.proofs.lemmas.Option.{none-some, slice_get-map}
 use Rattle.run_script.specs.Scripts.{ScriptData}
 use Rattle.task_table.specs.model.State.{State}
@@ -18,9 +18,12 @@ use Rattle.run_question.specs.declared.asked.Property.{Property}
 use Rattle.explore_core.specs.declared.verdict.Verdict.{Verdict}
 use Rattle.explore_core.specs.declared.verdict.Verdict.TheVariants.{Open, Broken}
 use Rattle.explore_core.specs.Answers.{Asking}
-use Rattle.explore_core.specs.Clean.{IsClean}
-use Rattle.explore_core.specs.Exploring.{Ascends, Fork, GoesOnTo, IsAsBefore, IsAsGood, IsFork, IsOverBefore, decided, first_onward, onward, pending, ways_in, with_onward}
+use Rattle.explore_core.specs.Clean.{AreClean, IsClean}
+use Rattle.explore_core.specs.Exploring.{Ascends, Fork, GoesOnTo, IsAsBefore, IsAsGood, IsCleanSlot, IsFork, IsOverBefore, IsSeen, decided, first_onward, onward, pending, ways_in, with_onward}
 use Rattle.explore_core.specs.Playing.{IsKept, after_turns, stepped_after}
+use Rattle.explore_core.specs.declared.seen.Seen.{Seen}
+use Rattle.explore_core.specs.declared.seen.Slot.{Slot}
+use Rattle.explore_core.specs.Seen.{HasSame, IsWithSlot}
 use Rattle.explore_core.specs.Schedules.{Coming, Schedule, scheduled}
 use Rattle.explore_core.specs.Verdicts.{ended, stepped}
 use Rattle.explore_core.specs.Walked.{Course, Placed, begun_by, comings_in, courses, courses_in, end_of, may_come_in, placed, schedule_of}
@@ -209,3 +212,34 @@ module _ (a : Asking) where
       nothing : (o : Option ℕ) → is_some o ≡ false → o ≡ None
       nothing None e = refl
       nothing (Some k) e = absurd (let no : ⊥ = cc in no)
+
+-- ## the table
+
+module _ (a : Asking) (pending_of : ℕ → List Placed) where
+  -- where fewer are looked for, it stays as clean
+  fewer_clean : (live less : List (ℕ × Property)) (ps : List Placed) (numbers bytes : List ℕ) → ((q : ℕ × Property) → Contains less q → Contains live q) → AreClean a live ps numbers bytes → AreClean a less ps numbers bytes
+  fewer_clean live less ps numbers bytes among clean = λ s spelled more from q looked. clean s spelled more from q (among q looked)
+
+  pub seen_fewer : (live less : List (ℕ × Property)) (seen : Seen) → ((q : ℕ × Property) → Contains less q → Contains live q) → IsSeen a pending_of live seen → IsSeen a pending_of less seen
+  seen_fewer live less seen among h =
+      All-weaker (IsCleanSlot a pending_of live) (IsCleanSlot a pending_of less) (λ slot clean used. fewer_clean live less (pending_of slot.pending) slot.kept slot.state.items among (clean used)) seen.slots.items h
+
+  -- what is found there is clean
+  pub seen_here : (live : List (ℕ × Property)) (coming : ℕ) (numbers bytes : List ℕ) (seen : Seen) → IsSeen a pending_of live seen → HasSame coming numbers bytes seen → AreClean a live (pending_of coming) numbers bytes
+  seen_here live coming numbers bytes seen h has =
+      let clean = subst (λ (slot : Slot). IsCleanSlot a pending_of live slot) (has.at has.slot) (h has.place has.slot has.inside) in
+      let same = has.same in
+      subst (λ (b : List ℕ). AreClean a live (pending_of coming) numbers b) same.state
+      (subst (λ (k : List ℕ). AreClean a live (pending_of coming) k has.slot.state.items) same.kept
+      (subst (λ (n : ℕ). AreClean a live (pending_of n) has.slot.kept has.slot.state.items) same.pending (clean same.used)))
+
+  -- and one more is kept that is
+  pub seen_more : (live : List (ℕ × Property)) (coming : ℕ) (numbers bytes : List ℕ) (old new : Seen) → IsSeen a pending_of live old → AreClean a live (pending_of coming) numbers bytes → IsWithSlot coming numbers bytes old new →
+      IsSeen a pending_of live new
+  seen_more live coming numbers bytes old new h clean one =
+      let same = one.same in
+      let here : IsCleanSlot a pending_of live one.slot = λ used.
+      subst (λ (n : ℕ). AreClean a live (pending_of n) one.slot.kept one.slot.state.items) (sym same.pending)
+      (subst (λ (k : List ℕ). AreClean a live (pending_of coming) k one.slot.state.items) (sym same.kept)
+      (subst (λ (b : List ℕ). AreClean a live (pending_of coming) numbers b) (sym same.state) clean)) in
+      subst (λ (l : List Slot). All (IsCleanSlot a pending_of live) l) (sym one.slots) (All-set (IsCleanSlot a pending_of live) old.slots.items one.place one.slot here h)

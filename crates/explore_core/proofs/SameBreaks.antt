@@ -1,5 +1,5 @@
 -- A run breaks a property in the same turn with each script in which the same happens from there on.
-use Rattle.std.proofs.Common.{◌≡◌, ◌∙◌, ℕ, zero, suc, ◌+◌, Bool, true, false, Option, Some, None, refl, sym, ap, arith}
+use Rattle.std.proofs.Common.{◌≡◌, ◌∙◌, ℕ, zero, suc, ◌+◌, ◌≤◌, Bool, true, false, Option, Some, None, refl, sym, ap, arith}
 use Rattle.std.specs.Prelude.{◌&&◌, not, is_none}
 use Rattle.run_script.specs.Scripts.{ScriptData, events_of, lasts}
 use Rattle.task_table.specs.model.State.{State, Turn}
@@ -17,6 +17,9 @@ use Rattle.board_model.proofs.SameScripts.{same_turn}
 use Rattle.board_model.proofs.TurnChains.{sane-after}
 use Rattle.run_question.specs.declared.asked.Property.{Property}
 use Rattle.explore_core.specs.Kept.{broken_from, by_turn, from_standing, on_state, unless_ended}
+use Rattle.explore_core.specs.Over.{AreSameFrom}
+use Rattle.explore_core.specs.Schedules.{Schedule, scheduled}
+use Rattle.explore_core.proofs.Over.{agree_from}
 use Rattle.explore_core.proofs.Played.{same_by_turn}
 
 pub same_end : (x : Scenario) (other : ScriptData) (left : ℕ) (s : State) → lasts other s.turn ≡ lasts x.script s.turn → ending (with_script x other) left s ≡ ending x left s
@@ -50,3 +53,7 @@ same_broken p x other (suc n) kept s h agree =
     let rest = λ (now : ℕ). same_broken p x other n now u (sane-after Calls x s h) fewer in
     (λ i. unless_ended p kept s (end i) (from_standing s.turn (by i) (λ later. from_standing (here i).state.turn (on_state p later (here i).state) (λ now. broken_from p y n now (here i).state))))
     ∙ (λ i. unless_ended p kept s (ending x (suc n) s) (from_standing s.turn (by_turn p kept x s) (λ later. from_standing u.turn (on_state p later u) (λ now. rest now i))))
+
+-- where what came is over, it does not matter that it came
+pub over_breaks : (p : Property) (x : Scenario) (one other : Schedule) (turn n kept : ℕ) (s : State) → Sane x.setup s → turn ≤ s.turn → AreSameFrom turn one other → broken_from p (scheduled x one) n kept s ≡ broken_from p (scheduled x other) n kept s
+over_breaks p x one other turn n kept s h le same = same_broken p (scheduled x other) (scheduled x one).script n kept s h (agree_from x one other turn s.turn n le same)
