@@ -5,3 +5,9 @@ pub mod Enough
 pub mod Ahead
 pub mod Generations
 pub mod OneTurn
+pub mod Watched
+pub mod Played
+pub mod Over
+pub mod SameBreaks
+pub mod Onward
+pub mod Exploring

@@ -6,7 +6,11 @@ pub mod Seen
 pub mod Answers
 pub mod Views
 pub mod Ahead
+pub mod Over
 pub mod Clean
 pub mod There
 pub mod Made
 pub mod Verdicts
+pub mod Watching
+pub mod Playing
+pub mod Exploring

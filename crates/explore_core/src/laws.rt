@@ -15,6 +15,7 @@ ghost use Rattle.run_question.specs.declared.asked.Property.{Property as Asked};
 ghost use Rattle.explore_core.specs.Asked.{broken_in};
 ghost use Rattle.explore_core.specs.Clean.{AreClean, IsClean};
 ghost use Rattle.explore_core.specs.Kept.{broken_from, broken_kept};
+ghost use Rattle.explore_core.specs.Over.{AreSameFrom};
 ghost use Rattle.explore_core.specs.Schedules.{Arrival, Schedule, how_many, scheduled, schedules};
 ghost use Rattle.explore_core.specs.Walked.{Placed};
 
@@ -52,6 +53,16 @@ pub fn what_is_to_come_decides_nothing_yet()
     ensures { (level : NoteLevel) (x : Scenario) (one other : Schedule) (turn n : ℕ) (s : State) →
         Sane x.setup s → s.turn + n ≤ turn → AreSameBefore turn one other →
         run level (scheduled x other) n s ≡ run level (scheduled x one) n s }
+{}
+
+/// What is over decides nothing more. Take two schedules in which each arrival comes in the same
+/// way, or is over before a turn in one and does not come in the other. From there on they break
+/// each property in the same turn.
+#[tactic(auto, using(crate::proofs::SameBreaks::over_breaks))]
+pub fn what_is_over_decides_nothing_more()
+    ensures { (p : Asked) (x : Scenario) (one other : Schedule) (turn n kept : ℕ) (s : State) →
+        Sane x.setup s → turn ≤ s.turn → AreSameFrom turn one other →
+        broken_from p (scheduled x one) n kept s ≡ broken_from p (scheduled x other) n kept s }
 {}
 
 /// In which turn a run breaks a property depends on births only modulo 64. So a state is clean

@@ -1,0 +1,18 @@
+use Rattle.std.proofs.Common.{◌∙◌, ◌≡◌, List, length, map, ap, subst, sym, arith}
+use Rattle.std.specs.List.{All}
+use Rattle.std.proofs.lemmas.List.{with_items_is}
+use Rattle.explore_core.specs.declared.watch.Watched.{Watched}
+use Rattle.explore_core.specs.There.{AreThere}
+use Rattle.explore_core.specs.Watching.{begun_in, judged}
+use Rattle.explore_core.proofs.Watched.{begun_as, there_in}
+use Rattle.explore_core.proofs.watch.Watch.begin.Goals as goal
+
+pub returns : goal.returns
+returns g c = λ x s st all.
+    let items = c.args.self.now.properties.items in
+    let value = c.as_mut_slice.ensures.value in
+    let new = c.judge_start.new.watched in
+    let there = subst (λ (l : List Watched). All (λ (w : Watched). AreThere w.property s) l) (sym value) (there_in s items all) in
+    let is : new ≡ map (begun_in s) items = c.judge_start.ensures x s st there ∙ ap (λ (l : List Watched). map (begun_in s) l) value in
+    let long : length new ≡ c.args.self.now.properties.len = omega (arith, c.judge_start.auto.watched, c.as_mut_slice.ensures.len) in
+    ap (λ (l : List Watched). map judged l) (with_items_is c.args.self.now.properties new long ∙ is) ∙ begun_as s items
