@@ -1,5 +1,5 @@
 -- Idle turns on end: they note only that they are idle, which counts nothing, and the run goes on.
-use Rattle.std.proofs.Common.{◌≡◌, ℕ, zero, suc, ◌+◌, ◌-◌, ◌*◌, ◌<◌, ◌≤◌, Bool, true, false, not, ◌||◌, leb, eqb, cond, List, [], ◌∷◌, ◌++◌, length, map, Option, Some, None, refl, sym, ap, subst, ◌∙◌, append_assoc, length-append, arith}
+use Rattle.std.proofs.Common.{◌≡◌, ℕ, zero, suc, ◌+◌, ◌-◌, ◌<◌, ◌≤◌, Bool, true, false, not, ◌||◌, leb, eqb, cond, List, [], ◌∷◌, ◌++◌, length, map, Option, Some, None, refl, sym, ap, ◌∙◌, length-append, arith}
 use Rattle.std.specs.Prelude.{filter, is_some}
 use Rattle.std.specs.List.{list_any, range_with_len}
 use Rattle.std.proofs.lemmas.Bool.{eq-eqb, leb-true, leb-false}
@@ -30,8 +30,10 @@ use Rattle.board_core.proofs.fast.Skipping.{goes_then, none_then, turn_then}
 use Rattle.board_run.specs.Midway.{Midway}
 use Rattle.board_run.proofs.Going.{goes_on, run_goes}
 use Rattle.run_cover.specs.declared.counts.Begun.{Begun}
+use Rattle.run_cover.specs.declared.counts.Count.{Count}
 use Rattle.run_cover.specs.declared.counts.PlaceCounts.{PlaceCounts}
-use Rattle.run_cover.specs.Counted.{Heard, HeardNote, begun_after}
+use Rattle.run_cover.specs.Counted.{Heard, HeardNote, begun_after, counted_in, item_at}
+use Rattle.run_cover.specs.Places.{address_of}
 use Rattle.run_cover.proofs.Growing.{heard_more, heard_none, heard_note}
 
 -- ## what is to come stays to come while nothing happens
@@ -112,25 +114,32 @@ idle_turn x s none nothing =
     let e : after_events x s ≡ begun s = sym (no_event x s nothing) in
     rw (e, none) (refl, refl)
 
-abbrev idle_notes : ℕ → ℕ → List (ℕ × Note)
-idle_notes turn n = map (λ k. (k, note.Idle)) (range_with_len turn n)
+abbrev idle_at : ℕ → ℕ × Note
+idle_at turn = (turn, note.Idle)
 
-idle_more : (turn n : ℕ) → idle_notes turn (suc n) ≡ idle_notes turn n ++ ((turn + n, note.Idle) ∷ [])
-idle_more turn zero = let e : turn ≡ turn + 0 = omega arith in ap (λ (k : ℕ). (k, note.Idle) ∷ []) e
+abbrev idle_notes : ℕ → ℕ → List (ℕ × Note)
+idle_notes turn n = map idle_at (range_with_len turn n)
+
+idle_more : (turn n : ℕ) → idle_notes turn (suc n) ≡ idle_notes turn n ++ (idle_at (turn + n) ∷ [])
+idle_more turn zero = let e : turn ≡ turn + 0 = omega arith in ap (λ (k : ℕ). idle_at k ∷ []) e
 idle_more turn (suc n) =
     let e : turn + 1 + n ≡ turn + suc n = omega arith in
-    ap (λ (l : List (ℕ × Note)). (turn, note.Idle) ∷ l) (idle_more (turn + 1) n ∙ ap (λ (k : ℕ). idle_notes (turn + 1) n ++ ((k, note.Idle) ∷ [])) e)
+    ap (λ (l : List (ℕ × Note)). idle_at turn ∷ l) (idle_more (turn + 1) n ∙ ap (λ (k : ℕ). idle_notes (turn + 1) n ++ (idle_at k ∷ [])) e)
 
 begun_still : (o : Option Begun) → begun_after o note.Idle ≡ o
 begun_still None = refl
 begun_still (Some b) = refl
 
+same_count : (o : Option Begun) (a : ℕ) (c : Count) → c ≡ counted_in o note.Idle a c
+same_count None a c = refl
+same_count (Some b) a c = refl
+
 heard_one : (t : PlaceCounts) → HeardNote t note.Idle t
-heard_one t = record { begun = sym (begun_still t.begun); as_many = refl; counts = λ k lt few. refl }
+heard_one t = record { begun = sym (begun_still t.begun); as_many = refl; counts = λ k lt few. same_count t.begun (address_of k) (item_at t k) }
 
 heard_idle : (t : PlaceCounts) (turn n : ℕ) → Heard t (idle_notes turn n) t
 heard_idle t turn zero = heard_none t
-heard_idle t turn (suc n) = heard_more t t t ((turn, note.Idle) ∷ []) (idle_notes (turn + 1) n) (heard_note t t turn note.Idle (heard_one t)) (heard_idle t (turn + 1) n)
+heard_idle t turn (suc n) = heard_more t t t (idle_at turn ∷ []) (idle_notes (turn + 1) n) (heard_note t t turn note.Idle (heard_one t)) (heard_idle t (turn + 1) n)
 
 module _ (x : Scenario) (s : State) (to : ℕ) (idle : IsIdleUntil x s to) where
   goes_there : (k : ℕ) → s.turn + k < to → ending x 1 s ≡ None → ending x 1 (state_after Calls x k s) ≡ None
@@ -150,9 +159,9 @@ module _ (x : Scenario) (s : State) (to : ℕ) (idle : IsIdleUntil x s to) where
       ap (λ (n : ℕ). run All x n s) e ∙ run_then k (omega (arith, le)) goes (suc left)
       ∙ ap (with_front front) (run_goes All x left u (goes_on x u 1 left (goes_there k (omega (arith, le)) goes))
       ∙ ap (λ (ns : List Note). with_front (at_turn u.turn ns) (run All x left (turn All x u).state)) one.1
-      ∙ ap (λ (n : ℕ). with_front ((n, note.Idle) ∷ []) (run All x left (turn All x u).state)) here
-      ∙ ap (λ (v : State). with_front ((s.turn + k, note.Idle) ∷ []) (run All x left v)) next)
-      ∙ fronts front ((s.turn + k, note.Idle) ∷ []) (run All x left (state_after Calls x (suc k) s))
+      ∙ ap (λ (n : ℕ). with_front (idle_at n ∷ []) (run All x left (turn All x u).state)) here
+      ∙ ap (λ (v : State). with_front (idle_at (s.turn + k) ∷ []) (run All x left v)) next)
+      ∙ fronts front (idle_at (s.turn + k) ∷ []) (run All x left (state_after Calls x (suc k) s))
       ∙ ap (λ (l : List (ℕ × Note)). with_front l (run All x left (state_after Calls x (suc k) s))) (sym (idle_more s.turn k))
 
 -- ## midway
@@ -166,7 +175,7 @@ midway_idle shown x t now s b b' to m idle goes from st =
     let next = state_after Calls x n here in
     let them = idle_notes here.turn n in
     let there = turn_then x here to idle n within in
-    let many = length-map-range_with_len (λ k. (k, note.Idle)) here.turn n in
+    let many = length-map-range_with_len idle_at here.turn n in
     record {
       front = m.front ++ them;
       here = next;

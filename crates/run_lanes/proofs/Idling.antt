@@ -1,5 +1,5 @@
 -- Idle turns on end, as they are seen.
-use Rattle.std.proofs.Common.{◌≡◌, ℕ, zero, suc, ◌+◌, ◌-◌, ◌<◌, ◌≤◌, Bool, true, false, not, ◌||◌, leb, eqb, cond, List, [], ◌∷◌, ◌++◌, length, map, Option, Some, None, refl, sym, ap, subst, ◌∙◌, append_assoc, arith}
+use Rattle.std.proofs.Common.{◌≡◌, ℕ, zero, suc, ◌+◌, ◌<◌, ◌≤◌, Bool, true, false, not, ◌||◌, leb, eqb, cond, List, [], ◌∷◌, ◌++◌, length, map, Option, Some, None, refl, sym, ap, ◌∙◌, append_assoc, arith}
 use Rattle.std.specs.Prelude.{filter, is_some}
 use Rattle.std.specs.List.{list_any, range_with_len}
 use Rattle.std.proofs.lemmas.Bool.{eq-eqb, leb-true, leb-false}
@@ -22,7 +22,7 @@ use Rattle.board_run.proofs.Going.{goes_on, run_goes}
 use Rattle.run_lanes.specs.declared.activity.Activity.{Activity}
 use Rattle.run_lanes.specs.declared.activity.Activity.TheVariants as activity
 use Rattle.run_lanes.specs.Seen.{EndsAlike}
-use Rattle.run_lanes.specs.Activities.{TurnSight, activities_in, idle_turns, is_of, sight, sights, unless, waiting}
+use Rattle.run_lanes.specs.Activities.{TurnSight, activities_in, idle_turns, is_of, sight, sights, waiting}
 use Rattle.run_lanes.proofs.Sights.{idle_parts, same_sight, seen_turn, sights_go}
 
 -- ## what is to come stays to come while nothing happens
@@ -148,13 +148,14 @@ module _ (x : Scenario) (s : State) (to : ℕ) (idle : IsIdleUntil x s to) where
       let one : TurnSight = seen_turn (s.turn + k) (between s) [] in
       let front = idle_turns s.turn k (between s) in
       let e : suc k + left ≡ k + suc left = omega arith in
+      let one_more : k + 1 ≡ suc k = omega arith in
       let here = goes_there k (omega (arith, le)) goes in
       ap (λ (n : ℕ). sights x n s) e ∙ seen_then k (omega (arith, le)) goes (suc left)
       ∙ ap (λ (l : List TurnSight). front ++ l) (sights_go x left u (goes_on x u 1 left here))
       ∙ ap (λ (t : TurnSight). front ++ (t ∷ sights x left (turn Calls x u).state)) (sym (sight_then k (omega (arith, le))))
       ∙ ap (λ (t : Turn). front ++ (one ∷ sights x left t.state)) (sym (last_turn Calls x k s))
       ∙ sym (append_assoc front (one ∷ []) (sights x left (state_after Calls x (suc k) s)))
-      ∙ ap (λ (l : List TurnSight). l ++ sights x left (state_after Calls x (suc k) s)) (sym (idle_parts s.turn k 1 (between s)) ∙ ap (λ (n : ℕ). idle_turns s.turn n (between s)) (omega arith))
+      ∙ ap (λ (l : List TurnSight). l ++ sights x left (state_after Calls x (suc k) s)) (sym (idle_parts s.turn k 1 (between s)) ∙ ap (λ (n : ℕ). idle_turns s.turn n (between s)) one_more)
 
   pub ends_then : (k : ℕ) → s.turn + k ≤ to → ending x 1 s ≡ None → (left : ℕ) → EndsAlike (run Calls x (k + left) s) (run Calls x left (state_after Calls x k s))
   unfolding state_after

@@ -43,13 +43,18 @@ returns-in-Some-clause-last g c =
     λ x s st.
     (end_is shown Heard All x c.args.limit _ _ s c.turns.board c.in-Some.end c.turns.invariant.turns (λ t u. sym (c.in-Some.ensures.end x t u)) (c.turns.invariant.midway x s st)).1
 
-pub turns-preserved-then-from-lt-to : goal.turns-preserved-then-from-lt-to
-turns-preserved-then-from-lt-to g c =
+pub skip-requires-clause-idle : goal.skip-requires-clause-idle
+skip-requires-clause-idle g c =
+    let idle_now = c.turns.invariant.none (c.idle_until-to.ensures.idle (omega (arith, c.if-from-to.true, c.turns-from.ensures))) in
+    λ x s st. idle_until x s c.idle_until-to.result (sym st.holds.choice.next ∙ idle_now) (c.in-None.ensures.goes refl x s st) (c.idle_until-to.ensures.nothing x s st)
+
+pub turns-preserved-then-from-to : goal.turns-preserved-then-from-to
+turns-preserved-then-from-to g c =
     let shown = boxed (λ p. (goal.Device-dyn g p).shown p.1) in
     let b = c.turns.board in
     let b' = c.skip.new.self in
     let to = c.idle_until-to.result in
-    let less = c.if-from-lt-to.true in
+    let less = c.if-from-to.true in
     let stood = c.turns.invariant.stood in
     let idle_now = c.turns.invariant.none (c.idle_until-to.ensures.idle (omega (arith, less, c.turns-from.ensures))) in
     let idle = λ (x : Scenario) (s : State) (st : Stands shown x b s). idle_until x s to (sym st.holds.choice.next ∙ idle_now) (c.in-None.ensures.goes refl x s st) (c.idle_until-to.ensures.nothing x s st) in
@@ -66,8 +71,8 @@ turns-preserved-then-from-lt-to g c =
       none = λ yes. sym (sym (none_then stood.0 stood.1 to (idle stood.0 stood.1 stood.2) (to - stood.1.turn) (omega (arith, at, less, c.turns-from.ensures))) ∙ sym after.holds.choice.next);
     }
 
-pub turns-preserved-else-from-lt-to : goal.turns-preserved-else-from-lt-to
-turns-preserved-else-from-lt-to g c =
+pub turns-preserved-else-from-to : goal.turns-preserved-else-from-to
+turns-preserved-else-from-to g c =
     let shown = boxed (λ p. (goal.Device-dyn g p).shown p.1) in
     let b = c.turns.board in
     let b' = c.turn_at-turned.new.self in

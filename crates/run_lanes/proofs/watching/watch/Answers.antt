@@ -60,12 +60,17 @@ returns-in-Some-clause-last g c =
     let within : m.here.turn ≤ c.args.limit = omega (arith, turns_seen shown x c.turns.board m.here m.stands, c.turns.invariant.turns) in
     (whole_end shown (Paired g.W.Watcher.saw) x _ _ s c.turns.board c.args.limit c.in-Some.end m within (sym (c.in-Some.ensures.end x m.here m.stands))).1
 
-pub turns-preserved-then-from-lt-to : goal.turns-preserved-then-from-lt-to
-turns-preserved-then-from-lt-to g c =
+pub skip-requires-clause-idle : goal.skip-requires-clause-idle
+skip-requires-clause-idle g c =
+    let idle_now = c.turns.invariant.none (c.idle_until-to.ensures.idle (omega (arith, c.if-from-to.true, c.turns-from.ensures))) in
+    λ x s st. idle_until x s c.idle_until-to.result (sym st.holds.choice.next ∙ idle_now) (c.in-None.ensures.goes refl x s st) (c.idle_until-to.ensures.nothing x s st)
+
+pub turns-preserved-then-from-to : goal.turns-preserved-then-from-to
+turns-preserved-then-from-to g c =
     let shown = boxed (λ p. (goal.Device-dyn g p).shown p.1) in
     let b = c.turns.board in
     let b' = c.skip.new.self in
-    let less = c.if-from-lt-to.true in
+    let less = c.if-from-to.true in
     let stood = c.turns.invariant.stood in
     let idle_now = c.turns.invariant.none (c.idle_until-to.ensures.idle (omega (arith, less, c.turns-from.ensures))) in
     let idle = λ (x : Scenario) (s : State) (st : Stands shown x b s). idle_until x s c.idle_until-to.result (sym st.holds.choice.next ∙ idle_now) (c.in-None.ensures.goes refl x s st) (c.idle_until-to.ensures.nothing x s st) in
@@ -78,7 +83,7 @@ turns-preserved-then-from-lt-to g c =
           let each = c.turns.invariant.one_each x s st in
           let many : length c.turns.activities ≡ length here.tasks = omega (arith, each, m.stands.sane.steady.as_many) in
           let from : c.turns-from.result ≡ here.turn = omega (arith, turns_seen shown x b here m.stands, c.turns-from.ensures) in
-          seen_idle shown (Paired g.W.Watcher.saw) x _ _ _ s b b' _ c.idle_until-to.result _ _ (λ u v z a d. c.sees_in_parts.ensures.parts u.0 v.0 z.0 u.1 v.1 z.1 a d) m
+          seen_idle shown (Paired g.W.Watcher.saw) x _ _ _ s b b' c.turns-from.result c.idle_until-to.result (c.idle_until-to.result - c.turns-from.result) c.look.new.activities (λ u v z a d. c.sees_in_parts.ensures.parts u.0 v.0 z.0 u.1 v.1 z.1 a d) m
           (idle x here m.stands) (c.in-None.ensures.goes refl x here m.stands) (omega (arith, from, less)) from (c.look.ensures.activities x here m.stands many ∙ between_is here) (c.skip.ensures.model x here m.stands) c.in_ok-see_idle.ensures;
       stood = (stood.0, state_after Calls stood.0 (c.idle_until-to.result - stood.1.turn) stood.1, after);
       turns = omega (arith, c.skip.ensures.turns, c.idle_until-to.ensures.within);
@@ -86,8 +91,8 @@ turns-preserved-then-from-lt-to g c =
       none = λ yes. after.holds.choice.next ∙ none_then stood.0 stood.1 c.idle_until-to.result (idle stood.0 stood.1 stood.2) (c.idle_until-to.result - stood.1.turn) (omega (arith, at, less, c.turns-from.ensures));
     }
 
-pub turns-preserved-else-from-lt-to : goal.turns-preserved-else-from-lt-to
-turns-preserved-else-from-lt-to g c =
+pub turns-preserved-else-from-to : goal.turns-preserved-else-from-to
+turns-preserved-else-from-to g c =
     let shown = boxed (λ p. (goal.Device-dyn g p).shown p.1) in
     let b = c.turns.board in
     let b' = c.turn_at-turned.new.self in
@@ -132,13 +137,13 @@ returns-in_err-see-clause-broken g c =
     rw (p.1) (seen_breaks shown (Paired g.W.Watcher.saw) (Paired g.W.Watcher.broke) x _ _ _ s b c.args.limit _ _ _
     (λ u v z a d. c.sees_in_parts.ensures.fails u.0 v.0 z.0 u.1 v.1 z.1 a d) m (c.in-None.ensures.goes refl x here m.stands) under at activities noted c.in_err-see.ensures)
 
-pub returns-then-from-lt-to-in_err-see_idle-clause-broken : goal.returns-then-from-lt-to-in_err-see_idle-clause-broken
-returns-then-from-lt-to-in_err-see_idle-clause-broken g c =
+pub returns-then-from-to-in_err-see_idle-clause-broken : goal.returns-then-from-to-in_err-see_idle-clause-broken
+returns-then-from-to-in_err-see_idle-clause-broken g c =
     let shown = boxed (λ p. (goal.Device-dyn g p).shown p.1) in
     λ x s st.
     let p = err_from_is_err_and c.from_residual.result c.from_residual.ensures.1 in
     let b = c.turns.board in
-    let less = c.if-from-lt-to.true in
+    let less = c.if-from-to.true in
     let m = c.turns.invariant.seen x s st in
     let here = m.here in
     let each = c.turns.invariant.one_each x s st in
@@ -147,5 +152,5 @@ returns-then-from-lt-to-in_err-see_idle-clause-broken g c =
     let idle_now = c.turns.invariant.none (c.idle_until-to.ensures.idle (omega (arith, less, c.turns-from.ensures))) in
     let goes = c.in-None.ensures.goes refl x here m.stands in
     let idle = idle_until x here c.idle_until-to.result (sym m.stands.holds.choice.next ∙ idle_now) goes (c.idle_until-to.ensures.nothing x here m.stands) in
-    rw (p.1) (idle_breaks shown (Paired g.W.Watcher.saw) (Paired g.W.Watcher.broke) x _ _ _ s b c.args.limit _ c.idle_until-to.result _ _
+    rw (p.1) (idle_breaks shown (Paired g.W.Watcher.saw) (Paired g.W.Watcher.broke) x _ _ _ s b c.args.limit c.turns-from.result c.idle_until-to.result (c.idle_until-to.result - c.turns-from.result) c.look.new.activities
     (λ u v z a d. c.sees_in_parts.ensures.fails u.0 v.0 z.0 u.1 v.1 z.1 a d) m idle goes (omega (arith, from, less)) c.idle_until-to.ensures.within from (c.look.ensures.activities x here m.stands many ∙ between_is here) c.in_err-see_idle.ensures)
