@@ -50,8 +50,8 @@ tail_of true e es is = absurd (cc)
 tail_of false e es is = is
 
 head_of : (b : Bool) (e : Listed) (es : List Listed) → b ≡ true → happens (cond b (e ∷ es) es) ≡ [] → ⊥
-head_of true e es yes is = cc
-head_of false e es yes is = cc
+head_of true e es so is = cc
+head_of false e es so is = cc
 
 any_on : (events : List Listed) (from to : ℕ) → ((turn : ℕ) → from ≤ turn → turn < to → listed_of turn events ≡ []) → list_any (λ listed. leb from listed.0) events ≡ true → list_any (λ listed. leb to listed.0) events ≡ true
 any_on [] from to none more = more

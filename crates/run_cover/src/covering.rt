@@ -62,6 +62,7 @@ fn is_idle(turned: Turned) -> bool
 fn idle_until(board: &Board, idle: bool, limit: u32) -> u32
     requires stood { StandsForSome (boxed shown) board.now }
     requires from { turns_of board.now ≤ limit }
+    requires few { limit ≤ 1000000000 }
     ensures later { turns_of board.now ≤ result }
     ensures within { result ≤ limit }
     ensures idle { turns_of board.now < result → idle ≡ true }

@@ -21,7 +21,7 @@ turns-init g c =
       midway = λ x s st. midway_start shown Heard All x _ s _ (heard_none _) st;
       stood = c.requires.stood;
       turns = omega arith;
-      none = λ yes. absurd (cc);
+      none = λ so. absurd (cc);
     }
 
 pub returns-in-Some-clause-counted : goal.returns-in-Some-clause-counted
@@ -68,11 +68,11 @@ turns-preserved-then-from-to g c =
           midway_idle shown x _ _ s b b' to m (idle x here m.stands) (c.in-None.ensures.goes refl x here m.stands) (omega (arith, from, c.idle_until-to.ensures.later)) (c.skip.ensures.model x here m.stands);
       stood = (stood.0, state_after Calls stood.0 (to - stood.1.turn) stood.1, after);
       turns = omega (arith, c.skip.ensures.turns, c.idle_until-to.ensures.within);
-      none = λ yes. sym (sym (none_then stood.0 stood.1 to (idle stood.0 stood.1 stood.2) (to - stood.1.turn) (omega (arith, at, less, c.turns-from.ensures))) ∙ sym after.holds.choice.next);
+      none = λ so. sym (sym (none_then stood.0 stood.1 to (idle stood.0 stood.1 stood.2) (to - stood.1.turn) (omega (arith, at, less, c.turns-from.ensures))) ∙ sym after.holds.choice.next);
     }
 
-pub turns-preserved-else-from-to : goal.turns-preserved-else-from-to
-turns-preserved-else-from-to g c =
+pub turns-preserved : goal.turns-preserved
+turns-preserved g c =
     let shown = boxed (λ p. (goal.Device-dyn g p).shown p.1) in
     let b = c.turns.board in
     let b' = c.turn_at-turned.new.self in
@@ -92,5 +92,5 @@ turns-preserved-else-from-to g c =
           midway_turn shown Heard All x heard_more 0 _ _ _ _ s b b' _ h (omega (arith, turned.turns, c.turns-from.ensures)) c.hear_all.ensures m;
       stood = (stood.0, (turn All stood.0 stood.1).state, after);
       turns = omega (arith, c.in-None.ensures.left refl, turned.turns);
-      none = λ yes. after.holds.choice.next ∙ none_after stood.0 stood.1 (sym (turned.turned stood.0 stood.1 stood.2) ∙ c.is_idle-idle.ensures yes);
+      none = λ so. after.holds.choice.next ∙ none_after stood.0 stood.1 (sym (turned.turned stood.0 stood.1 stood.2) ∙ c.is_idle-idle.ensures so);
     }

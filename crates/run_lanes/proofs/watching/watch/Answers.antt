@@ -24,7 +24,7 @@ turns-init g c =
       stood = c.requires.stood;
       turns = omega arith;
       one_each = c.requires.one_each;
-      none = λ yes. absurd (cc);
+      none = λ so. absurd (cc);
     }
 
 pub returns-in-Some-clause-told : goal.returns-in-Some-clause-told
@@ -88,11 +88,11 @@ turns-preserved-then-from-to g c =
       stood = (stood.0, state_after Calls stood.0 (c.idle_until-to.result - stood.1.turn) stood.1, after);
       turns = omega (arith, c.skip.ensures.turns, c.idle_until-to.ensures.within);
       one_each = λ x s st. omega (arith, c.turns.invariant.one_each x s st, c.look.ensures.len);
-      none = λ yes. after.holds.choice.next ∙ none_then stood.0 stood.1 c.idle_until-to.result (idle stood.0 stood.1 stood.2) (c.idle_until-to.result - stood.1.turn) (omega (arith, at, less, c.turns-from.ensures));
+      none = λ so. after.holds.choice.next ∙ none_then stood.0 stood.1 c.idle_until-to.result (idle stood.0 stood.1 stood.2) (c.idle_until-to.result - stood.1.turn) (omega (arith, at, less, c.turns-from.ensures));
     }
 
-pub turns-preserved-else-from-to : goal.turns-preserved-else-from-to
-turns-preserved-else-from-to g c =
+pub turns-preserved : goal.turns-preserved
+turns-preserved g c =
     let shown = boxed (λ p. (goal.Device-dyn g p).shown p.1) in
     let b = c.turns.board in
     let b' = c.turn_at-turned.new.self in
@@ -114,7 +114,7 @@ turns-preserved-else-from-to g c =
       stood = (stood.0, (turn Calls stood.0 stood.1).state, c.turn_at-turned.ensures.model stood.0 stood.1 stood.2);
       turns = omega (arith, c.in-None.ensures.left refl, c.turn_at-turned.ensures.turns);
       one_each = λ x s st. omega (arith, c.turns.invariant.one_each x s st, c.look.ensures.len, c.mark.ensures.len);
-      none = λ yes. (c.turn_at-turned.ensures.model stood.0 stood.1 stood.2).holds.choice.next ∙ none_after stood.0 stood.1 (sym (c.turn_at-turned.ensures.turned stood.0 stood.1 stood.2) ∙ c.is_idle-idle.ensures yes);
+      none = λ so. (c.turn_at-turned.ensures.model stood.0 stood.1 stood.2).holds.choice.next ∙ none_after stood.0 stood.1 (sym (c.turn_at-turned.ensures.turned stood.0 stood.1 stood.2) ∙ c.is_idle-idle.ensures so);
     }
 
 pub returns-in_err-see-clause-broken : goal.returns-in_err-see-clause-broken
@@ -137,8 +137,8 @@ returns-in_err-see-clause-broken g c =
     rw (p.1) (seen_breaks shown (Paired g.W.Watcher.saw) (Paired g.W.Watcher.broke) x _ _ _ s b c.args.limit _ _ _
     (λ u v z a d. c.sees_in_parts.ensures.fails u.0 v.0 z.0 u.1 v.1 z.1 a d) m (c.in-None.ensures.goes refl x here m.stands) under at activities noted c.in_err-see.ensures)
 
-pub returns-then-from-to-in_err-see_idle-clause-broken : goal.returns-then-from-to-in_err-see_idle-clause-broken
-returns-then-from-to-in_err-see_idle-clause-broken g c =
+pub returns-in_err-see_idle-clause-broken : goal.returns-in_err-see_idle-clause-broken
+returns-in_err-see_idle-clause-broken g c =
     let shown = boxed (λ p. (goal.Device-dyn g p).shown p.1) in
     λ x s st.
     let p = err_from_is_err_and c.from_residual.result c.from_residual.ensures.1 in
