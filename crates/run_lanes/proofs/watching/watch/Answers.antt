@@ -121,7 +121,7 @@ pub returns-in_err-see-clause-broken : goal.returns-in_err-see-clause-broken
 returns-in_err-see-clause-broken g c =
     let shown = boxed (λ p. (goal.Device-dyn g p).shown p.1) in
     λ x s st.
-    let p = err_from_is_err_and c.from_residual.result c.from_residual.ensures.1 in
+    let p = err_from_is_err_and c.from_residual-in_err-see.result c.from_residual-in_err-see.ensures.1 in
     let b = c.turns.board in
     let m = c.turns.invariant.seen x s st in
     let here = m.here in
