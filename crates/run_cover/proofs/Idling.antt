@@ -1,5 +1,5 @@
 -- Idle turns on end: they note only that they are idle, which counts nothing, and the run goes on.
-use Rattle.std.proofs.Common.{◌≡◌, ℕ, zero, suc, ◌+◌, ◌-◌, ◌<◌, ◌≤◌, Bool, true, false, not, ◌||◌, leb, eqb, cond, List, [], ◌∷◌, ◌++◌, length, map, Option, Some, None, refl, sym, ap, ◌∙◌, length-append, arith}
+use Rattle.std.proofs.Common.{◌≡◌, ℕ, zero, suc, ◌+◌, ◌-◌, ◌<◌, ◌≤◌, Bool, true, false, not, ◌||◌, leb, eqb, cond, List, [], ◌∷◌, ◌++◌, map, Option, Some, None, refl, sym, ap, ◌∙◌, length-append, arith}
 use Rattle.std.specs.Prelude.{filter, is_some}
 use Rattle.std.specs.List.{list_any, range_with_len}
 use Rattle.std.proofs.lemmas.Bool.{eq-eqb, leb-true, leb-false}
@@ -8,7 +8,6 @@ use Rattle.kernel_abi.specs.declared.Note.{Note}
 use Rattle.kernel_abi.specs.declared.Note.TheVariants as note
 use Rattle.run_script.specs.declared.events.Event.{Event}
 use Rattle.run_script.specs.Scripts.{Listed, ScriptData, events_of, is_of, lasts, listed_of, ticks_of}
-use Rattle.task_table.specs.kept.Limits.{turn_notes}
 use Rattle.task_table.specs.model.State.{State, Turn}
 use Rattle.task_table.specs.model.Start.{begun}
 use Rattle.task_table.specs.model.Effects.{noted}
@@ -17,7 +16,7 @@ use Rattle.board_model.specs.declared.outcomes.Level.TheVariants.{All, Calls}
 use Rattle.board_model.specs.declared.outcomes.Turned.TheVariants.{Idle}
 use Rattle.board_model.specs.Script.{Scenario}
 use Rattle.board_model.specs.Turn.{after_events, ended, turn, turn_of, turned, turned_of}
-use Rattle.board_model.specs.Run.{Run, at_turn, end_by, ending, is_down, is_still, run, state_after, turn_after, with_front}
+use Rattle.board_model.specs.Run.{at_turn, end_by, ending, is_down, is_still, run, state_after, turn_after, with_front}
 use Rattle.board_model.proofs.Further.{last_turn}
 use Rattle.board_model.proofs.Outside.{no_event}
 use Rattle.board_model.proofs.RunCuts.{fronts}

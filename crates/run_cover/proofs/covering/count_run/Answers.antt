@@ -1,4 +1,4 @@
-use Rattle.std.proofs.Common.{◌≡◌, ◌-◌, ◌∙◌, ℕ, ap, length, refl, sym, arith}
+use Rattle.std.proofs.Common.{◌≡◌, ◌-◌, ◌∙◌, ap, length, refl, sym, arith}
 use Rattle.task_table.specs.model.State.{State}
 use Rattle.board_model.specs.declared.outcomes.Level.TheVariants.{All, Calls}
 use Rattle.board_model.specs.Script.{Scenario}
