@@ -4,6 +4,7 @@ pub mod Adding
 pub mod Counting
 pub mod Executing
 pub mod Growing
+pub mod Idling
 pub mod Knowing
 pub mod Marking
 pub mod Numbered

@@ -7,11 +7,8 @@ ghost use Rattle.run_cover.specs.Counted.{Heard, HeardNote, IsCounted, IsNewlyCo
 
 use crate::places::{PLACES, place_of};
 use crate::ways::{decoded, is_conditional};
-use board_run::Observer;
 use kernel_abi::{Fault, Note};
-use outside_io::Failed;
 use std::alloc::{AllocError, Global};
-use trace_text::TurnLines;
 
 /// The counts of the instruction at a place. `executed` is the number of turns in which it was
 /// executed. `taken` is how many of these left the PC elsewhere than right after it, if it is a
@@ -185,30 +182,12 @@ impl PlaceCounts {
         }
     }
 
-    // Counts the notes of a turn.
-    fn hear_all(&mut self, turn: u32, notes: &[Note])
+    /// Counts the notes of a turn.
+    pub fn hear_all(&mut self, turn: u32, notes: &[Note])
         ensures { Heard self.old (at_turn turn notes.now) self.new }
     {
         for note in notes {
             self.hear(note);
         }
     }
-}
-
-/// Counting never fails.
-impl Observer for PlaceCounts {
-    ghost heard = { Heard };
-
-    ghost broke = { λ _ _ _. ⊥ };
-
-    fn tell(&mut self, turn: u32, notes: &[Note], _lines: &mut TurnLines) -> Result<(), Failed> {
-        self.hear_all(turn, notes);
-        Ok(())
-    }
-
-    fn pass_on(&mut self) -> Result<(), Failed> {
-        Ok(())
-    }
-
-    fn hears_in_parts() {}
 }

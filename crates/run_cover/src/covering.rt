@@ -1,9 +1,11 @@
 //! Makes a run and counts how often each instruction was executed in it.
-ghost use Rattle.std.specs.Prelude.{◌≡◌, ◌≤◌, ◌-◌, ℕ, Bool, IfOk};
+ghost use Rattle.std.specs.Prelude.{◌≡◌, ◌≤◌, ◌<◌, ◌-◌, ℕ, Bool, true, [], IfOk};
 ghost use Rattle.outside_io.specs.Outside.{Pushes, HasCause};
 ghost use Rattle.thumb_asm.specs.Listed.{labels_in};
 ghost use Rattle.task_table.specs.model.State.{State};
+ghost use Rattle.run_script.specs.Scripts.{events_of};
 ghost use Rattle.board_model.specs.declared.outcomes.Level.TheVariants.{All};
+ghost use Rattle.board_model.specs.declared.outcomes.Turned.TheVariants.{Idle};
 ghost use Rattle.board_model.specs.Script.{Scenario};
 ghost use Rattle.board_model.specs.Run.{run};
 ghost use Rattle.board_core.specs.Stands.{Stands, StandsForSome, turns_of};
@@ -15,8 +17,8 @@ ghost use Rattle.run_cover.specs.Text.{cover_text};
 use crate::counts::PlaceCounts;
 use crate::known::Marks;
 use crate::listing::push_listing;
-use board_core::{Board, End, Level};
-use board_run::play;
+use board_core::{Board, End, Level, Turned};
+use board_run::ending;
 use outside_io::{Failed, Sink};
 use std::alloc::{AllocError, Global};
 use thumb_asm::Label;
@@ -45,8 +47,41 @@ impl Cover {
     }
 }
 
+// Whether no task ran in a turn.
+fn is_idle(turned: Turned) -> bool
+    ensures { result ≡ true → turned ≡ Idle }
+{
+    match turned {
+        Turned::Idle => true,
+        Turned::Ran { .. } => false,
+    }
+}
+
+// If no task is ready, the turn before which nothing happens; at most the limit. Otherwise the next
+// turn.
+fn idle_until(board: &Board, idle: bool, limit: u32) -> u32
+    requires stood { StandsForSome (boxed shown) board.now }
+    requires from { turns_of board.now ≤ limit }
+    requires few { limit ≤ 1000000000 }
+    ensures later { turns_of board.now ≤ result }
+    ensures within { result ≤ limit }
+    ensures idle { turns_of board.now < result → idle ≡ true }
+    ensures nothing { (x : Scenario) (s : State) → Stands (boxed shown) x board.now s →
+        (turn : ℕ) → s.turn ≤ turn → turn < result → events_of x.script turn ≡ [] }
+{
+    let from = board.turns();
+    if !idle {
+        return from;
+    }
+    match board.next(from) {
+        Some(turn) => turn.min(limit),
+        None => limit,
+    }
+}
+
 /// Makes the turns up to the end of the run and counts what they execute. It takes no memory, and
-/// counting never fails.
+/// counting never fails. Turns in which no task is ready and nothing happens count nothing, and are
+/// made at once.
 pub fn count_run(board: &mut Board, limit: u32, counts: &mut PlaceCounts) -> End
     requires stood { StandsForSome (boxed shown) board.old }
     requires from { turns_of board.old ≤ limit }
@@ -61,9 +96,21 @@ pub fn count_run(board: &mut Board, limit: u32, counts: &mut PlaceCounts) -> End
         Stands (boxed shown) x board.new (run All x (limit - s.turn) s).last }
     ensures within { turns_of board.new ≤ limit }
 {
-    match play(board, limit, Level::All, counts) {
-        Ok(end) => end,
-        Err(_) => unreachable!(),
+    let mut idle = false;
+    'turns: loop {
+        match ending(board, limit) {
+            Some(end) => return end,
+            None => {}
+        }
+        let from = board.turns();
+        let to = idle_until(board, idle, limit);
+        if from < to {
+            board.skip(to);
+        } else {
+            let turned = board.turn_at(Level::All);
+            counts.hear_all(from, board.notes());
+            idle = is_idle(turned);
+        }
     }
 }
 

@@ -1,5 +1,5 @@
--- The cell of a task for some turns, for the turns of two columns, and for one more turn.
-use Rattle.std.proofs.Common.{◌≡◌, ◌<◌, ℕ, suc, ◌+◌, ◌-◌, ◌^◌, ◌||◌, Bool, true, false, List, [], ◌∷◌, ◌++◌, length, map, get_or, set, refl, ap, ◌∙◌, cond, if◌then◌else◌, arith}
+-- The cell of a task for some turns, for the turns of two columns, and for more turns.
+use Rattle.std.proofs.Common.{◌≡◌, ◌<◌, ℕ, zero, suc, ◌+◌, ◌-◌, ◌^◌, ◌||◌, Bool, true, false, List, [], ◌∷◌, ◌++◌, length, map, get_or, set, refl, ap, ◌∙◌, cond, if◌then◌else◌, arith}
 use Rattle.std.specs.Prelude.{count_by, sum}
 use Rattle.std.specs.List.{list_any}
 use Rattle.std.proofs.lemmas.List.Folds.{list_any-append}
@@ -11,8 +11,9 @@ use Rattle.run_lanes.specs.declared.activity.Activity.TheVariants as activity
 use Rattle.run_lanes.specs.Columns.{activities, cell_of, is_birth_of, is_fault_of, is_noted, turns_with}
 use Rattle.run_lanes.specs.Counted.{both, counted, joined, turned}
 use Rattle.run_lanes.specs.Timeline.{activity_at}
-use Rattle.run_lanes.specs.Activities.{TurnSight, activity_number, is_same}
+use Rattle.run_lanes.specs.Activities.{TurnSight, activity_number, idle_turns, is_same}
 use Rattle.run_lanes.proofs.Changes.{or_none}
+use Rattle.run_lanes.proofs.Sights.{seen_turn}
 
 map_same : {A B : Type 0} (f g : A → B) → ((x : A) → f x ≡ g x) → (xs : List A) → map f xs ≡ map g xs
 map_same f g same [] = refl
@@ -38,28 +39,27 @@ cell_joined xs ys i few =
 
 -- ## a turn more
 
-abbrev one_more : (Activity → ℕ) → Activity → Activity → ℕ
-one_more f w v = if is_same w v then both (f v) 1 else f v
+abbrev more_of : (Activity → ℕ) → Activity → ℕ → Activity → ℕ
+more_of f w n v = if is_same w v then both (f v) n else f v
 
 -- the one of seven counts
-counted_at : (f : Activity → ℕ) (w : Activity) → map (one_more f w) activities ≡ set (map f activities) (activity_number w) (both (get_or (map f activities) (activity_number w) 0) 1)
-counted_at f activity.Runs = refl
-counted_at f activity.Ready = refl
-counted_at f activity.Offers = refl
-counted_at f activity.Awaits = refl
-counted_at f activity.Listens = refl
-counted_at f activity.Faulted = refl
-counted_at f activity.Stopped = refl
+counted_at : (f : Activity → ℕ) (w : Activity) (n : ℕ) → map (more_of f w n) activities ≡ set (map f activities) (activity_number w) (both (get_or (map f activities) (activity_number w) 0) n)
+counted_at f activity.Runs n = refl
+counted_at f activity.Ready n = refl
+counted_at f activity.Offers n = refl
+counted_at f activity.Awaits n = refl
+counted_at f activity.Listens n = refl
+counted_at f activity.Faulted n = refl
+counted_at f activity.Stopped n = refl
 
-more_by : (n m : ℕ) (b : Bool) → n < 2 ^ 32 - 1 → m ≡ n + cond b 1 0 → m ≡ (if b then both n 1 else n)
-more_by n m true few is = omega arith
-more_by n m false few is = omega arith
+more_by : (k n m : ℕ) (b : Bool) → k + n < 2 ^ 32 → m ≡ k + cond b n 0 → m ≡ (if b then both k n else k)
+more_by k n m true few is = omega arith
+more_by k n m false few is = omega arith
 
 pub count_push : (p : TurnSight → Bool) (xs : List TurnSight) (t : TurnSight) → length xs < 2 ^ 32 - 1 → count_by p (xs ++ (t ∷ [])) ≡ (if p t then both (count_by p xs) 1 else count_by p xs)
 count_push p xs t few =
     let all : count_by p (xs ++ (t ∷ [])) ≡ count_by p xs + cond (p t) 1 0 = sum_by_push (λ x. cond (p x) 1 0) xs t in
-    let less : count_by p xs < 2 ^ 32 - 1 = omega (arith, count_by-le-length p xs) in
-    more_by (count_by p xs) (count_by p (xs ++ (t ∷ []))) (p t) less all
+    more_by (count_by p xs) 1 (count_by p (xs ++ (t ∷ []))) (p t) (omega (arith, count_by-le-length p xs)) all
 
 noted_push : (is : Note → Bool) (xs : List TurnSight) (t : TurnSight) → is_noted is (xs ++ (t ∷ [])) ≡ (is_noted is xs || list_any is t.notes)
 noted_push is xs t = list_any-append (λ u. list_any is u.notes) xs (t ∷ []) ∙ ap (λ (b : Bool). is_noted is xs || b) (or_none (list_any is t.notes))
@@ -67,11 +67,50 @@ noted_push is xs t = list_any-append (λ u. list_any is u.notes) xs (t ∷ []) �
 pub cell_turned : (xs : List TurnSight) (t : TurnSight) (i : ℕ) → length xs < 2 ^ 32 - 1 → cell_of (xs ++ (t ∷ [])) i ≡ turned t.activities t.notes i (cell_of xs i)
 cell_turned xs t i few =
     let w = activity_at t.activities i in
-    let counts : map (turns_with i (xs ++ (t ∷ []))) activities ≡ map (one_more (turns_with i xs) w) activities =
-    map_same (turns_with i (xs ++ (t ∷ []))) (one_more (turns_with i xs) w) (λ v. count_push (λ u. is_same (activity_at u.activities i) v) xs t few) activities in
-    ap (λ (l : List ℕ). cell l (is_noted (is_fault_of i) (xs ++ (t ∷ []))) (is_noted (is_birth_of i) (xs ++ (t ∷ [])))) (counts ∙ counted_at (turns_with i xs) w)
-    ∙ ap (λ (b : Bool). cell (counted (cell_of xs i) w).turns b (is_noted (is_birth_of i) (xs ++ (t ∷ [])))) (noted_push (is_fault_of i) xs t)
-    ∙ ap (λ (b : Bool). cell (counted (cell_of xs i) w).turns (is_noted (is_fault_of i) xs || list_any (is_fault_of i) t.notes) b) (noted_push (is_birth_of i) xs t)
+    let counts : map (turns_with i (xs ++ (t ∷ []))) activities ≡ map (more_of (turns_with i xs) w 1) activities =
+    map_same (turns_with i (xs ++ (t ∷ []))) (more_of (turns_with i xs) w 1) (λ v. count_push (λ u. is_same (activity_at u.activities i) v) xs t few) activities in
+    ap (λ (l : List ℕ). cell l (is_noted (is_fault_of i) (xs ++ (t ∷ []))) (is_noted (is_birth_of i) (xs ++ (t ∷ [])))) (counts ∙ counted_at (turns_with i xs) w 1)
+    ∙ ap (λ (b : Bool). cell (counted (cell_of xs i) w 1).turns b (is_noted (is_birth_of i) (xs ++ (t ∷ [])))) (noted_push (is_fault_of i) xs t)
+    ∙ ap (λ (b : Bool). cell (counted (cell_of xs i) w 1).turns (is_noted (is_fault_of i) xs || list_any (is_fault_of i) t.notes) b) (noted_push (is_birth_of i) xs t)
+
+-- ## idle turns on end
+
+pub times_idle : (p : TurnSight → Bool) (b : Bool) (turn n : ℕ) (ws : List Activity) → ((k : ℕ) → p (seen_turn k ws []) ≡ b) → count_by p (idle_turns turn n ws) ≡ cond b n 0
+times_idle p true turn zero ws is = refl
+times_idle p false turn zero ws is = refl
+times_idle p true turn (suc n) ws is =
+    let rest = idle_turns (turn + 1) n ws in
+    let more = times_idle p true (turn + 1) n ws is in
+    sum_by-cons (λ u. cond (p u) 1 0) (seen_turn turn ws []) rest ∙ ap (λ (b : Bool). cond b 1 0 + count_by p rest) (is turn) ∙ omega (arith, more)
+times_idle p false turn (suc n) ws is =
+    let rest = idle_turns (turn + 1) n ws in
+    let more = times_idle p false (turn + 1) n ws is in
+    sum_by-cons (λ u. cond (p u) 1 0) (seen_turn turn ws []) rest ∙ ap (λ (b : Bool). cond b 1 0 + count_by p rest) (is turn) ∙ omega (arith, more)
+
+any_idle : (is : Note → Bool) (turn n : ℕ) (ws : List Activity) → is_noted is (idle_turns turn n ws) ≡ false
+any_idle is turn zero ws = refl
+any_idle is turn (suc n) ws = any_idle is (turn + 1) n ws
+
+noted_idle : (is : Note → Bool) (xs : List TurnSight) (turn n : ℕ) (ws : List Activity) → is_noted is (xs ++ idle_turns turn n ws) ≡ is_noted is xs
+noted_idle is xs turn n ws =
+    list_any-append (λ u. list_any is u.notes) xs (idle_turns turn n ws) ∙ ap (λ (b : Bool). is_noted is xs || b) (any_idle is turn n ws) ∙ or_none (is_noted is xs)
+
+count_idle : (i : ℕ) (xs : List TurnSight) (turn n : ℕ) (ws : List Activity) (v : Activity) → length xs + n < 2 ^ 32 → turns_with i (xs ++ idle_turns turn n ws) v ≡ more_of (turns_with i xs) (activity_at ws i) n v
+count_idle i xs turn n ws v few =
+    let p : TurnSight → Bool = λ u. is_same (activity_at u.activities i) v in
+    let b : Bool = is_same (activity_at ws i) v in
+    let all : turns_with i (xs ++ idle_turns turn n ws) v ≡ turns_with i xs v + cond b n 0 =
+    sum_by-append (λ u. cond (p u) 1 0) xs (idle_turns turn n ws) ∙ ap (λ (m : ℕ). turns_with i xs v + m) (times_idle p b turn n ws (λ k. refl)) in
+    more_by (turns_with i xs v) n (turns_with i (xs ++ idle_turns turn n ws) v) b (omega (arith, few, count_by-le-length p xs)) all
+
+pub cell_idle : (xs : List TurnSight) (turn n : ℕ) (ws : List Activity) (i : ℕ) → length xs + n < 2 ^ 32 → cell_of (xs ++ idle_turns turn n ws) i ≡ counted (cell_of xs i) (activity_at ws i) n
+cell_idle xs turn n ws i few =
+    let w = activity_at ws i in
+    let all = xs ++ idle_turns turn n ws in
+    let counts : map (turns_with i all) activities ≡ map (more_of (turns_with i xs) w n) activities = map_same (turns_with i all) (more_of (turns_with i xs) w n) (λ v. count_idle i xs turn n ws v few) activities in
+    ap (λ (l : List ℕ). cell l (is_noted (is_fault_of i) all) (is_noted (is_birth_of i) all)) (counts ∙ counted_at (turns_with i xs) w n)
+    ∙ ap (λ (b : Bool). cell (counted (cell_of xs i) w n).turns b (is_noted (is_birth_of i) all)) (noted_idle (is_fault_of i) xs turn n ws)
+    ∙ ap (λ (b : Bool). cell (counted (cell_of xs i) w n).turns (is_noted (is_fault_of i) xs) b) (noted_idle (is_birth_of i) xs turn n ws)
 
 -- ## the turns of all activities of a task are all turns
 

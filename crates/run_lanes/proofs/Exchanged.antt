@@ -8,7 +8,8 @@ use Rattle.lane_picture.specs.declared.parts.Arrow.{Arrow}
 use Rattle.lane_picture.specs.declared.parts.TaskCalls.{TaskCalls}
 use Rattle.run_lanes.specs.First.{IsFirst}
 use Rattle.run_lanes.specs.Told.{TurnNote, all_arrows, all_events, arrows_of, arrows_of_notes, calls_after, calls_at_end, calls_at_end_of, events_of, is_event}
-use Rattle.run_lanes.specs.Activities.{TurnSight}
+use Rattle.run_lanes.specs.declared.activity.Activity.{Activity}
+use Rattle.run_lanes.specs.Activities.{TurnSight, idle_turns}
 
 -- ## one note more
 
@@ -86,3 +87,33 @@ unfolding all_arrows calls_at_end
 arrows_turn cs [] t = append-nil (arrows_of_notes t.turn t.notes cs t.notes)
 arrows_turn cs (u ∷ turns) t =
     ap (λ (l : List Arrow). arrows_of_notes u.turn u.notes cs u.notes ++ l) (arrows_turn (calls_at_end_of u.turn cs u.notes) turns t) ∙ sym (append_assoc (arrows_of_notes u.turn u.notes cs u.notes) _ _)
+
+-- ## idle turns on end, which note nothing
+
+calls_rest : (cs : List TaskCalls) (turn n : ℕ) (ws : List Activity) → calls_at_end cs (idle_turns turn n ws) ≡ cs
+unfolding calls_at_end calls_at_end_of
+calls_rest cs turn zero ws = refl
+calls_rest cs turn (suc n) ws = calls_rest cs (turn + 1) n ws
+
+pub calls_idle : (cs : List TaskCalls) (turns : List TurnSight) (turn n : ℕ) (ws : List Activity) → calls_at_end cs (turns ++ idle_turns turn n ws) ≡ calls_at_end cs turns
+unfolding calls_at_end
+calls_idle cs [] turn n ws = calls_rest cs turn n ws
+calls_idle cs (u ∷ turns) turn n ws = calls_idle (calls_at_end_of u.turn cs u.notes) turns turn n ws
+
+arrows_rest : (cs : List TaskCalls) (turn n : ℕ) (ws : List Activity) → all_arrows cs (idle_turns turn n ws) ≡ []
+unfolding all_arrows arrows_of_notes calls_at_end_of
+arrows_rest cs turn zero ws = refl
+arrows_rest cs turn (suc n) ws = arrows_rest cs (turn + 1) n ws
+
+pub arrows_idle : (cs : List TaskCalls) (turns : List TurnSight) (turn n : ℕ) (ws : List Activity) → all_arrows cs (turns ++ idle_turns turn n ws) ≡ all_arrows cs turns
+unfolding all_arrows
+arrows_idle cs [] turn n ws = arrows_rest cs turn n ws
+arrows_idle cs (u ∷ turns) turn n ws = ap (λ (l : List Arrow). arrows_of_notes u.turn u.notes cs u.notes ++ l) (arrows_idle (calls_at_end_of u.turn cs u.notes) turns turn n ws)
+
+events_rest : (turn n : ℕ) (ws : List Activity) → all_events (idle_turns turn n ws) ≡ []
+events_rest turn zero ws = refl
+events_rest turn (suc n) ws = events_rest (turn + 1) n ws
+
+pub events_idle : (turns : List TurnSight) (turn n : ℕ) (ws : List Activity) → all_events (turns ++ idle_turns turn n ws) ≡ all_events turns
+events_idle turns turn n ws =
+    flat_map-append events_of turns (idle_turns turn n ws) ∙ ap (λ (l : List TurnNote). all_events turns ++ l) (events_rest turn n ws) ∙ append-nil (all_events turns)

@@ -1,19 +1,22 @@
 -- The columns keep all turns: when a turn is added, and when two neighbouring columns become one.
-use Rattle.std.proofs.Common.{◌≡◌, ◌<◌, ◌≤◌, ◌⊎◌, inl, inr, ℕ, zero, suc, ◌+◌, ◌-◌, ◌*◌, ◌^◌, Bool, true, false, List, [], ◌∷◌, ◌++◌, length, map, get_or, set, take, drop, refl, sym, ap, subst, ◌∙◌, if◌then◌else◌, length-append, length-drop, arith}
+use Rattle.std.proofs.Common.{◌≡◌, ◌<◌, ◌≤◌, ◌⊎◌, inl, inr, ℕ, zero, suc, ◌+◌, ◌-◌, ◌*◌, ◌^◌, Bool, true, false, List, [], ◌∷◌, ◌++◌, length, map, get_or, set, take, drop, refl, sym, ap, subst, ◌∙◌, cond, if◌then◌else◌, length-append, length-drop, arith}
 use Rattle.std.specs.Prelude.{count_by, min, replicate}
 use Rattle.std.specs.List.{flat_map, list_any, range_with_len}
 use Rattle.std.proofs.lemmas.Bool.{cases_lt, cases_order}
 use Rattle.std.proofs.lemmas.List.{drop_all, get_or-drop, get_or-replicate, get_or-set_other, get_or-set_same, get_or-take, length-take, take_all}
 use Rattle.std.proofs.lemmas.List.FromFn.{fill_by_all}
+use Rattle.std.proofs.lemmas.List.Sums.{sum_by-append}
 use Rattle.std.proofs.lemmas.Nat.{mul-add-lt}
 use Rattle.kernel_abi.specs.declared.Note.{Note}
 use Rattle.lane_picture.specs.declared.parts.Cell.{Cell}
 use Rattle.lane_picture.specs.Sizes.{no_cell}
 use Rattle.run_lanes.specs.declared.activity.Activity.{Activity}
 use Rattle.run_lanes.specs.Columns.{cell_of, column_turns, is_outside}
-use Rattle.run_lanes.specs.Counted.{CellsOf, Changed, OutsideOf, both, column_by, comes_from_outside, joined, turned}
-use Rattle.run_lanes.specs.Activities.{TurnSight}
-use Rattle.run_lanes.proofs.Celled.{cell_joined, cell_turned, count_both, count_push}
+use Rattle.run_lanes.specs.Counted.{CellsOf, Changed, OutsideOf, both, column_by, comes_from_outside, counted, joined, turned}
+use Rattle.run_lanes.specs.Timeline.{activity_at}
+use Rattle.run_lanes.specs.Activities.{TurnSight, idle_turns}
+use Rattle.run_lanes.proofs.Celled.{cell_idle, cell_joined, cell_turned, count_both, count_push, times_idle}
+use Rattle.run_lanes.proofs.Sights.{many_idle}
 use Rattle.run_lanes.proofs.Tiled.{column_before, column_halves, column_here, column_none, flat_more, next_row, rows_below, take_plus}
 use Rattle.run_lanes.proofs.Widths.{width_doubles, width_stays}
 
@@ -23,32 +26,60 @@ few_in_column w turns k = omega (arith, length-take w (drop (k * w) turns), leng
 abbrev sight_of : ℕ → List Activity → List Note → TurnSight
 sight_of turn activities notes = record { turn = turn; activities = activities; notes = notes }
 
--- ## a turn more
+-- ## turns more, for which the column has room
 
-one_longer : (turns : List TurnSight) (t : TurnSight) → length (turns ++ (t ∷ [])) ≡ length turns + 1
-one_longer turns t = length-append turns (t ∷ [])
+none_behind : (w : ℕ) (turns more : List TurnSight) (k c inside : ℕ) → length turns ≡ c * w + inside → inside + length more ≤ w → c < k → column_by w turns k ≡ column_by w (turns ++ more) k
+none_behind w turns more k c inside at fits past =
+    column_none w turns k c past (omega arith) ∙ sym (column_none w (turns ++ more) k c past (omega (arith, length-append turns more)))
 
-none_behind : (w : ℕ) (turns : List TurnSight) (t : TurnSight) (k c inside : ℕ) → length turns ≡ c * w + inside → inside < w → c < k → column_by w turns k ≡ column_by w (turns ++ (t ∷ [])) k
-none_behind w turns t k c inside at less past =
-    column_none w turns k c past (omega arith) ∙ sym (column_none w (turns ++ (t ∷ [])) k c past (omega (arith, one_longer turns t)))
+-- the cells of the column are made from what they were
+module _ (w c inside tasks : ℕ) (turns more : List TurnSight) (f : ℕ → Cell → Cell) (old new : List Cell) (at : length turns ≡ c * w + inside) (fits : inside + length more ≤ w) (was : CellsOf w tasks turns old) (h : Changed old new (c * tasks) tasks f)
+    (is : (i : ℕ) → cell_of (column_by w turns c ++ more) i ≡ f i (cell_of (column_by w turns c) i)) where
+  cell_by : (k i : ℕ) (d : Cell) → k < 1200 → i < tasks → (k ≡ c) ⊎ ((k < c) ⊎ (c < k)) → get_or new (k * tasks + i) d ≡ cell_of (column_by w (turns ++ more) k) i
+  cell_by k i d within lt (inl here) =
+      let P : ℕ → Type 0 = λ j. get_or new (j * tasks + i) d ≡ cell_of (column_by w (turns ++ more) j) i in
+      let there : get_or old (c * tasks + i) d ≡ cell_of (column_by w turns c) i = was c i d (omega arith) lt in
+      let at_c : P c = h.made i d lt ∙ ap (λ (x : Cell). f i x) there ∙ sym (is i) ∙ ap (λ (l : List TurnSight). cell_of l i) (sym (column_here w turns more c inside at fits)) in
+      subst P (sym here) at_c
+  cell_by k i d within lt (inr (inl before)) =
+      h.before (k * tasks + i) d (omega (arith, mul-add-lt k tasks i c before lt)) ∙ was k i d within lt
+      ∙ ap (λ (l : List TurnSight). cell_of l i) (sym (column_before w turns more k c before (omega arith)))
+  cell_by k i d within lt (inr (inr past)) =
+      h.behind (k * tasks + i) d (omega (arith, rows_below c k tasks past)) ∙ was k i d within lt ∙ ap (λ (l : List TurnSight). cell_of l i) (none_behind w turns more k c inside at fits past)
 
-cell_by : (w c inside tasks : ℕ) (turns : List TurnSight) (t : TurnSight) (old new : List Cell) → length turns ≡ c * w + inside → inside < w → length turns < 1000000000 →
-    CellsOf w tasks turns old → Changed old new (c * tasks) tasks (turned t.activities t.notes) → (k i : ℕ) (d : Cell) → k < 1200 → i < tasks → (k ≡ c) ⊎ ((k < c) ⊎ (c < k)) → get_or new (k * tasks + i) d ≡ cell_of (column_by w (turns ++ (t ∷ [])) k) i
-cell_by w c inside tasks turns t old new at less few was h k i d within lt (inl here) =
-    let P : ℕ → Type 0 = λ j. get_or new (j * tasks + i) d ≡ cell_of (column_by w (turns ++ (t ∷ [])) j) i in
-    let there : get_or old (c * tasks + i) d ≡ cell_of (column_by w turns c) i = was c i d (omega arith) lt in
-    let is : P c = h.made i d lt ∙ ap (λ (x : Cell). turned t.activities t.notes i x) there
-    ∙ sym (cell_turned (column_by w turns c) t i (omega (arith, few_in_column w turns c))) ∙ ap (λ (l : List TurnSight). cell_of l i) (sym (column_here w turns t c inside at less)) in
-    subst P (sym here) is
-cell_by w c inside tasks turns t old new at less few was h k i d within lt (inr (inl before)) =
-    h.before (k * tasks + i) d (omega (arith, mul-add-lt k tasks i c before lt)) ∙ was k i d within lt
-    ∙ ap (λ (l : List TurnSight). cell_of l i) (sym (column_before w turns (t ∷ []) k c before (omega arith)))
-cell_by w c inside tasks turns t old new at less few was h k i d within lt (inr (inr past)) =
-    h.behind (k * tasks + i) d (omega (arith, rows_below c k tasks past)) ∙ was k i d within lt ∙ ap (λ (l : List TurnSight). cell_of l i) (none_behind w turns t k c inside at less past)
+  cells_by : CellsOf w tasks (turns ++ more) new
+  cells_by = λ k i d within lt. cell_by k i d within lt (cases_order k c)
 
 pub cells_more : (w c inside tasks : ℕ) (turns : List TurnSight) (t : TurnSight) (old new : List Cell) → length turns ≡ c * w + inside → inside < w → length turns < 1000000000 →
     CellsOf w tasks turns old → Changed old new (c * tasks) tasks (turned t.activities t.notes) → CellsOf w tasks (turns ++ (t ∷ [])) new
-cells_more w c inside tasks turns t old new at less few was h = λ k i d within lt. cell_by w c inside tasks turns t old new at less few was h k i d within lt (cases_order k c)
+cells_more w c inside tasks turns t old new at less few was h =
+    cells_by w c inside tasks turns (t ∷ []) (turned t.activities t.notes) old new at (omega arith) was h (λ i. cell_turned (column_by w turns c) t i (omega (arith, few_in_column w turns c)))
+
+pub cells_idle : (w c inside tasks : ℕ) (turns : List TurnSight) (turn n : ℕ) (ws : List Activity) (old new : List Cell) → length turns ≡ c * w + inside → inside + n ≤ w → length turns + n ≤ 1000000000 →
+    CellsOf w tasks turns old → Changed old new (c * tasks) tasks (λ i x. counted x (activity_at ws i) n) → CellsOf w tasks (turns ++ idle_turns turn n ws) new
+cells_idle w c inside tasks turns turn n ws old new at fits few was h =
+    cells_by w c inside tasks turns (idle_turns turn n ws) (λ i x. counted x (activity_at ws i) n) old new at (omega (arith, fits, many_idle turn n ws)) was h
+    (λ i. cell_idle (column_by w turns c) turn n ws i (omega (arith, few, few_in_column w turns c)))
+
+-- nothing comes from outside
+outside_same : (w c inside : ℕ) (turns : List TurnSight) (turn n : ℕ) (ws : List Activity) (outside : List ℕ) → length turns ≡ c * w + inside → inside + length (idle_turns turn n ws) ≤ w → OutsideOf w turns outside →
+    (k d : ℕ) → k < 1200 → (k ≡ c) ⊎ ((k < c) ⊎ (c < k)) → get_or outside k d ≡ count_by comes_from_outside (column_by w (turns ++ idle_turns turn n ws) k)
+outside_same w c inside turns turn n ws outside at fits was k d within (inl here) =
+    let them = idle_turns turn n ws in
+    let P : ℕ → Type 0 = λ j. get_or outside j d ≡ count_by comes_from_outside (column_by w (turns ++ them) j) in
+    let none = times_idle comes_from_outside false turn n ws (λ j. refl) in
+    let all : count_by comes_from_outside (column_by w turns c ++ them) ≡ count_by comes_from_outside (column_by w turns c) =
+    sum_by-append (λ x. cond (comes_from_outside x) 1 0) (column_by w turns c) them ∙ omega (arith, none) in
+    let at_c : P c = was c d (omega arith) ∙ sym all ∙ ap (λ (l : List TurnSight). count_by comes_from_outside l) (sym (column_here w turns them c inside at fits)) in
+    subst P (sym here) at_c
+outside_same w c inside turns turn n ws outside at fits was k d within (inr (inl before)) =
+    was k d within ∙ ap (λ (l : List TurnSight). count_by comes_from_outside l) (sym (column_before w turns (idle_turns turn n ws) k c before (omega arith)))
+outside_same w c inside turns turn n ws outside at fits was k d within (inr (inr past)) =
+    was k d within ∙ ap (λ (l : List TurnSight). count_by comes_from_outside l) (none_behind w turns (idle_turns turn n ws) k c inside at fits past)
+
+pub outside_idle : (w c inside : ℕ) (turns : List TurnSight) (turn n : ℕ) (ws : List Activity) (outside : List ℕ) → length turns ≡ c * w + inside → inside + n ≤ w → OutsideOf w turns outside → OutsideOf w (turns ++ idle_turns turn n ws) outside
+outside_idle w c inside turns turn n ws outside at fits was =
+    λ k d within. outside_same w c inside turns turn n ws outside at (omega (arith, fits, many_idle turn n ws)) was k d within (cases_order k c)
 
 -- the count of the column, where it rises and where not
 rises : (xs : List ℕ) (c v : ℕ) (b : Bool) (d : ℕ) → c < length xs → get_or (if b then set xs c v else xs) c d ≡ (if b then v else get_or xs c d)
@@ -68,14 +99,14 @@ outside_by w c inside turns t old new at less few all was is k d within (inl her
     let at_c : P c = ap (λ (l : List ℕ). get_or l c d) is ∙ rises old c (both (get_or old c 0) 1) b d (omega arith)
     ∙ ap (λ (n : ℕ). if b then both n 1 else get_or old c d) (was c 0 inside_c) ∙ ap (λ (n : ℕ). if b then both (count_by comes_from_outside (column_by w turns c)) 1 else n) (was c d inside_c)
     ∙ sym (count_push comes_from_outside (column_by w turns c) t (omega (arith, few_in_column w turns c)))
-    ∙ ap (λ (l : List TurnSight). count_by comes_from_outside l) (sym (column_here w turns t c inside at less)) in
+    ∙ ap (λ (l : List TurnSight). count_by comes_from_outside l) (sym (column_here w turns (t ∷ []) c inside at (omega arith))) in
     subst P (sym here) at_c
 outside_by w c inside turns t old new at less few all was is k d within (inr (inl before)) =
     ap (λ (l : List ℕ). get_or l k d) is ∙ stays old c k (both (get_or old c 0) 1) (list_any is_outside t.notes) d (λ e. absurd (omega arith)) ∙ was k d within
     ∙ ap (λ (l : List TurnSight). count_by comes_from_outside l) (sym (column_before w turns (t ∷ []) k c before (omega arith)))
 outside_by w c inside turns t old new at less few all was is k d within (inr (inr past)) =
     ap (λ (l : List ℕ). get_or l k d) is ∙ stays old c k (both (get_or old c 0) 1) (list_any is_outside t.notes) d (λ e. absurd (omega arith)) ∙ was k d within
-    ∙ ap (λ (l : List TurnSight). count_by comes_from_outside l) (none_behind w turns t k c inside at less past)
+    ∙ ap (λ (l : List TurnSight). count_by comes_from_outside l) (none_behind w turns (t ∷ []) k c inside at (omega arith) past)
 
 pub outside_more : (w c inside : ℕ) (turns : List TurnSight) (t : TurnSight) (old new : List ℕ) → length turns ≡ c * w + inside → inside < w → length turns < 1000000000 → length old ≡ 1200 → OutsideOf w turns old →
     new ≡ (if list_any is_outside t.notes then set old c (both (get_or old c 0) 1) else old) → OutsideOf w (turns ++ (t ∷ [])) new
@@ -156,6 +187,16 @@ pub same_width : (n w c inside : ℕ) → w ≡ column_turns n → n ≡ c * w +
 same_width n w c inside wide at less free =
     let more : n + 1 ≤ 1200 * column_turns n = omega (arith, rows_below c 1200 w free) in
     wide ∙ sym (width_stays 20 1 n more)
+
+-- as long as there is room
+pub same_widths : (w n some : ℕ) → w ≡ column_turns (n + 1) → 0 < some → n + some ≤ 1200 * w → w ≡ column_turns (n + some)
+same_widths w n zero wide more room = absurd (omega arith)
+same_widths w n (suc zero) wide more room = wide ∙ ap column_turns (omega arith)
+same_widths w n (suc (suc some)) wide more room =
+    let before = same_widths w n (suc some) wide (omega arith) (omega arith) in
+    let e : n + suc some + 1 ≡ n + suc (suc some) = omega arith in
+    let enough : n + suc some + 1 ≤ 1200 * column_turns (n + suc some) = omega (arith, before, room) in
+    before ∙ sym (width_stays 20 1 (n + suc some) enough) ∙ ap column_turns e
 
 -- ## what is in use
 

@@ -2,6 +2,7 @@ pub mod Asked
 pub mod Celled
 pub mod Changes
 pub mod Exchanged
+pub mod Idling
 pub mod Kept
 pub mod Marked
 pub mod Midway
@@ -9,6 +10,8 @@ pub mod Noted
 pub mod Offered
 pub mod Painting
 pub mod Pushed
+pub mod Resting
+pub mod Sights
 pub mod Stretched
 pub mod Tiled
 pub mod Told

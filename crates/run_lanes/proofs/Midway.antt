@@ -1,5 +1,5 @@
--- A run that is watched goes on by one turn, and ends.
-use Rattle.std.proofs.Common.{◌≡◌, ℕ, zero, suc, ◌+◌, ◌-◌, ◌<◌, ◌≤◌, List, [], ◌∷◌, ◌++◌, length, Option, Some, None, refl, sym, ap, subst, ◌∙◌, append_assoc, length-append, arith}
+-- A run that is watched goes on by one turn or by idle turns, and ends.
+use Rattle.std.proofs.Common.{◌≡◌, ℕ, suc, ◌+◌, ◌-◌, ◌<◌, ◌≤◌, List, [], ◌∷◌, ◌++◌, length, Some, None, sym, ap, subst, ◌∙◌, append_assoc, length-append, arith}
 use Rattle.std.proofs.lemmas.List.{append-nil}
 use Rattle.kernel_abi.specs.declared.Note.{Note}
 use Rattle.task_table.specs.model.State.{State}
@@ -10,23 +10,16 @@ use Rattle.board_model.specs.declared.outcomes.End.{End}
 use Rattle.board_model.specs.declared.outcomes.Level.TheVariants.{Calls}
 use Rattle.board_model.specs.Script.{Scenario}
 use Rattle.board_model.specs.Turn.{turn}
-use Rattle.board_model.specs.Run.{Run, run, ending}
+use Rattle.board_model.specs.Run.{Run, run, ending, state_after}
 use Rattle.board_model.proofs.Counts.{turn_more}
+use Rattle.board_core.specs.fast.Skipped.{IsIdleUntil}
+use Rattle.board_core.proofs.fast.Skipping.{turn_then}
 use Rattle.board_run.proofs.Going.{goes_on, run_ends, run_goes}
 use Rattle.run_lanes.specs.declared.activity.Activity.{Activity}
-use Rattle.run_lanes.specs.Activities.{TurnSight, activities_in, sight, sights, unless}
+use Rattle.run_lanes.specs.Activities.{TurnSight, activities_in, idle_turns, sight, sights}
 use Rattle.run_lanes.specs.Seen.{BreaksSeeing, HasWatched}
-
--- ## the turns by the first one
-
-sights_go : (x : Scenario) (left : ℕ) (s : State) → ending x (suc left) s ≡ None → sights x (suc left) s ≡ sight x s ∷ sights x left (turn Calls x s).state
-unfolding sights
-sights_go x left s is = ap (λ (o : Option End). unless o (sight x s) (sights x left (turn Calls x s).state)) is
-
-sights_end : (x : Scenario) (left : ℕ) (s : State) (e : End) → ending x left s ≡ Some e → sights x left s ≡ []
-unfolding sights
-sights_end x zero s e is = refl
-sights_end x (suc left) s e is = ap (λ (o : Option End). unless o (sight x s) (sights x left (turn Calls x s).state)) is
+use Rattle.run_lanes.proofs.Idling.{between, ends_then, seen_then}
+use Rattle.run_lanes.proofs.Sights.{many_idle, same_sight, seen_turn, sights_end, sights_go}
 
 -- ## midway
 
@@ -40,13 +33,6 @@ seen_start shown saw x w s b none st = record {
   rest = λ left. ap (λ (n : ℕ). sights x n s) (omega arith);
   ends = λ left. let e : 0 + left ≡ left = omega arith in record { last = ap (λ (n : ℕ). (run Calls x n s).last) e; end = ap (λ (n : ℕ). (run Calls x n s).end) e };
 }
-
-abbrev pub seen_turn : ℕ → List Activity → List Note → TurnSight
-seen_turn t ws ns = record { turn = t; activities = ws; notes = ns }
-
-same_sight : (x : Scenario) (s : State) (t : ℕ) (ws : List Activity) (ns : List Note) → t ≡ s.turn → ws ≡ activities_in x s → ns ≡ (turn Calls x s).notes → seen_turn t ws ns ≡ sight x s
-same_sight x s t ws ns t_is ws_is ns_is =
-    ap (λ (k : ℕ). seen_turn k ws ns) t_is ∙ ap (λ (l : List Activity). seen_turn s.turn l ns) ws_is ∙ ap (λ (l : List Note). seen_turn s.turn (activities_in x s) l) ns_is
 
 pub seen_more : {W : Type 0} {X : Type 0} {H : X → Type 0} (shown : Shows X H) (saw : W → List TurnSight → W → Type 0) (x : Scenario) (w w' w'' : W) (s : State) (b b' : Board X H) (t : ℕ) (ws : List Activity) (ns : List Note) →
     ((u v z : W) (a c : List TurnSight) → saw u a v → saw v c z → saw u (a ++ c) z) → (m : HasWatched shown saw x w w' s b) → Stands shown x b' (turn Calls x m.here).state → ending x 1 m.here ≡ None →
@@ -92,6 +78,58 @@ seen_breaks shown saw broke x w w' w'' s b limit t ws ns fails m goes under t_is
       whole = ap (λ (n : ℕ). sights x n s) all ∙ m.rest (suc left) ∙ ap (λ (l : List TurnSight). m.front ++ l) (sights_go x left here (goes_on x here 1 left goes))
           ∙ sym (append_assoc m.front (sight x here ∷ []) (sights x left (turn Calls x here).state));
       broken = fails w w' w'' m.front (sight x here ∷ []) m.told (subst P same broke_it);
+    }
+
+-- ## idle turns on end
+
+same_idle : (from turn n : ℕ) (ws vs : List Activity) → from ≡ turn → ws ≡ vs → idle_turns from n ws ≡ idle_turns turn n vs
+same_idle from turn n ws vs at is = ap (λ (t : ℕ). idle_turns t n ws) at ∙ ap (λ (l : List Activity). idle_turns turn n l) is
+
+pub seen_idle : {W : Type 0} {X : Type 0} {H : X → Type 0} (shown : Shows X H) (saw : W → List TurnSight → W → Type 0) (x : Scenario) (w w' w'' : W) (s : State) (b b' : Board X H) (from to n : ℕ) (ws : List Activity) →
+    ((u v z : W) (a c : List TurnSight) → saw u a v → saw v c z → saw u (a ++ c) z) → (m : HasWatched shown saw x w w' s b) → IsIdleUntil x m.here to → ending x 1 m.here ≡ None → m.here.turn + n ≡ to →
+    from ≡ m.here.turn → ws ≡ between m.here → Stands shown x b' (state_after Calls x (to - m.here.turn) m.here) → saw w' (idle_turns from n ws) w'' → HasWatched shown saw x w w'' s b'
+seen_idle shown saw x w w' w'' s b b' from to n ws parts m idle goes upto from_is ws_is st saw_them =
+    let here = m.here in
+    let next = state_after Calls x n here in
+    let them = idle_turns here.turn n (between here) in
+    let many = many_idle here.turn n (between here) in
+    let k : to - here.turn ≡ n = omega arith in
+    let within : here.turn + n ≤ to = omega arith in
+    let there = turn_then x here to idle n within in
+    let P : List TurnSight → Type 0 = λ l. saw w' l w'' in
+    let Q : ℕ → Type 0 = λ j. Stands shown x b' (state_after Calls x j here) in
+    record {
+      front = m.front ++ them;
+      here = next;
+      stands = subst Q k st;
+      at = omega (arith, there, m.at, many, length-append m.front them);
+      told = parts w w' w'' m.front them m.told (subst P (same_idle from here.turn n ws (between here) from_is ws_is) saw_them);
+      rest = λ left.
+          let e : length (m.front ++ them) + left ≡ length m.front + (n + left) = omega (arith, many, length-append m.front them) in
+          ap (λ (j : ℕ). sights x j s) e ∙ m.rest (n + left) ∙ ap (λ (l : List TurnSight). m.front ++ l) (seen_then x here to idle n within goes left) ∙ sym (append_assoc m.front them (sights x left next));
+      ends = λ left.
+          let e : length (m.front ++ them) + left ≡ length m.front + (n + left) = omega (arith, many, length-append m.front them) in
+          let one = m.ends (n + left) in
+          let two = ends_then x here to idle n within goes left in
+          record { last = ap (λ (j : ℕ). (run Calls x j s).last) e ∙ one.last ∙ two.last; end = ap (λ (j : ℕ). (run Calls x j s).end) e ∙ one.end ∙ two.end };
+    }
+
+pub idle_breaks : {W : Type 0} {X : Type 0} {H : X → Type 0} (shown : Shows X H) (saw broke : W → List TurnSight → W → Type 0) (x : Scenario) (w w' w'' : W) (s : State) (b : Board X H) (limit from to n : ℕ) (ws : List Activity) →
+    ((u v z : W) (a c : List TurnSight) → saw u a v → broke v c z → broke u (a ++ c) z) → (m : HasWatched shown saw x w w' s b) → IsIdleUntil x m.here to → ending x 1 m.here ≡ None → m.here.turn + n ≡ to → to ≤ limit →
+    from ≡ m.here.turn → ws ≡ between m.here → broke w' (idle_turns from n ws) w'' → BreaksSeeing broke x (limit - s.turn) s w w''
+idle_breaks shown saw broke x w w' w'' s b limit from to n ws fails m idle goes upto under from_is ws_is broke_them =
+    let here = m.here in
+    let left : ℕ = limit - to in
+    let next = state_after Calls x n here in
+    let them = idle_turns here.turn n (between here) in
+    let all : limit - s.turn ≡ length m.front + (n + left) = omega (arith, m.at, upto, under) in
+    let within : here.turn + n ≤ to = omega arith in
+    let P : List TurnSight → Type 0 = λ l. broke w' l w'' in
+    record {
+      front = m.front ++ them;
+      rest = sights x left next;
+      whole = ap (λ (j : ℕ). sights x j s) all ∙ m.rest (n + left) ∙ ap (λ (l : List TurnSight). m.front ++ l) (seen_then x here to idle n within goes left) ∙ sym (append_assoc m.front them (sights x left next));
+      broken = fails w w' w'' m.front them m.told (subst P (same_idle from here.turn n ws (between here) from_is ws_is) broke_them);
     }
 
 -- ## the end: with so many turns in all

@@ -1,5 +1,5 @@
 -- The turns of the columns, when a turn is added and when two neighbouring columns become one.
-use Rattle.std.proofs.Common.{◌≡◌, ◌<◌, ◌≤◌, ◌⊎◌, inl, inr, ℕ, zero, suc, ◌+◌, ◌-◌, ◌*◌, ◌/◌, List, [], ◌∷◌, ◌++◌, length, take, drop, sym, ap, ◌∙◌, length-append, length-drop, append_assoc, arith}
+use Rattle.std.proofs.Common.{◌≡◌, ◌<◌, ◌≤◌, ◌⊎◌, inl, inr, ℕ, zero, suc, ◌+◌, ◌-◌, ◌*◌, ◌/◌, List, [], ◌++◌, length, take, drop, sym, ap, ◌∙◌, length-append, length-drop, append_assoc, arith}
 use Rattle.std.specs.Prelude.{min}
 use Rattle.std.proofs.lemmas.Bool.{cases_lt}
 use Rattle.std.specs.List.{flat_map, range_with_len}
@@ -25,12 +25,12 @@ column_before w turns more k c lt within =
 pub column_none : (w : ℕ) (turns : List TurnSight) (k c : ℕ) → c < k → length turns ≤ c * w + w → column_by w turns k ≡ []
 column_none w turns k c lt within = ap (take w) (drop_all (k * w) turns (omega (arith, rows_below c k w lt))) ∙ take_all w [] (omega arith)
 
-pub column_here : (w : ℕ) (turns : List TurnSight) (t : TurnSight) (c inside : ℕ) → length turns ≡ c * w + inside → inside < w → column_by w (turns ++ (t ∷ [])) c ≡ column_by w turns c ++ (t ∷ [])
-column_here w turns t c inside at less =
+pub column_here : (w : ℕ) (turns more : List TurnSight) (c inside : ℕ) → length turns ≡ c * w + inside → inside + length more ≤ w → column_by w (turns ++ more) c ≡ column_by w turns c ++ more
+column_here w turns more c inside at fits =
     let le : c * w ≤ length turns = omega arith in
     let few : length (drop (c * w) turns) ≤ w = omega (arith, length-drop (c * w) turns) in
-    let all : length (drop (c * w) turns ++ (t ∷ [])) ≤ w = omega (arith, length-drop (c * w) turns, length-append (drop (c * w) turns) (t ∷ [])) in
-    ap (take w) (drop-append-le (c * w) turns (t ∷ []) le) ∙ take_all w (drop (c * w) turns ++ (t ∷ [])) all ∙ ap (λ (l : List TurnSight). l ++ (t ∷ [])) (sym (take_all w (drop (c * w) turns) few))
+    let all : length (drop (c * w) turns ++ more) ≤ w = omega (arith, length-drop (c * w) turns, length-append (drop (c * w) turns) more) in
+    ap (take w) (drop-append-le (c * w) turns more le) ∙ take_all w (drop (c * w) turns ++ more) all ∙ ap (λ (l : List TurnSight). l ++ more) (sym (take_all w (drop (c * w) turns) few))
 
 -- neighbours
 pub take_plus : {X : Type 0} (m n : ℕ) (xs : List X) → take (m + n) xs ≡ take m xs ++ take n (drop m xs)

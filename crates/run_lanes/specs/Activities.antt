@@ -73,6 +73,10 @@ pub record TurnSight : Type 0 where
 abbrev pub sight : Scenario → State → TurnSight
 sight x s = record { turn = s.turn; activities = activities_in x s; notes = (turn Calls x s).notes }
 
+-- this many turns from one on, in which the tasks do the same and nothing is noted
+abbrev pub idle_turns : ℕ → ℕ → List Activity → List TurnSight
+idle_turns turn turns activities = map (λ n. record { turn = n; activities = activities; notes = [] }) (range_with_len turn turns)
+
 -- a turn that is made, unless the run ends before it
 abbrev pub unless : Option End → TurnSight → List TurnSight → List TurnSight
 unless (Some e) first more = []

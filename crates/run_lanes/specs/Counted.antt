@@ -24,9 +24,9 @@ joined a b = record {
   born = a.born || b.born;
 }
 
--- the cell with one more turn, in which the task does this
-abbrev pub counted : Cell → Activity → Cell
-counted c w = record { turns = slice_set c.turns (activity_number w) (both (slice_index_or c.turns (activity_number w) 0) 1); faulted = c.faulted; born = c.born }
+-- the cell with n more turns, in which the task does this
+abbrev pub counted : Cell → Activity → ℕ → Cell
+counted c w n = record { turns = slice_set c.turns (activity_number w) (both (slice_index_or c.turns (activity_number w) 0) n); faulted = c.faulted; born = c.born }
 
 -- the cell with these notes
 abbrev pub marked : List Note → ℕ → Cell → Cell
@@ -34,7 +34,7 @@ marked notes i c = record { turns = c.turns; faulted = c.faulted || list_any (is
 
 -- the cell of the i-th task with one more turn
 abbrev pub turned : List Activity → List Note → ℕ → Cell → Cell
-turned activities notes i c = marked notes i (counted c (activity_at activities i))
+turned activities notes i c = marked notes i (counted c (activity_at activities i) 1)
 
 -- `many` cells, from `at` on, are made from what they were, and the others stay
 pub record Changed (old new : List Cell) (at many : ℕ) (f : ℕ → Cell → Cell) : Type 0 where

@@ -65,5 +65,16 @@ impl Watcher<()> for Canvas {
         Ok(())
     }
 
+    fn see_idle(
+        &mut self,
+        _turn: u32,
+        turns: u32,
+        activities: &[Activity],
+        _out: &mut (),
+    ) -> Result<(), Failed> {
+        self.columns.add_idle(turns, activities);
+        Ok(())
+    }
+
     fn sees_in_parts() {}
 }

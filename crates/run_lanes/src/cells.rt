@@ -47,22 +47,28 @@ fn joined(first: &Cell, second: &Cell) -> Cell
     }
 }
 
-// Counts one more turn, in which the task does this.
-fn count(cell: &mut Cell, activity: Activity)
-    ensures { cell.new ≡ counted cell.old activity }
+// Counts this many more turns, in which the task does this.
+fn count(cell: &mut Cell, activity: Activity, turns: u32)
+    ensures { cell.new ≡ counted cell.old activity turns }
 {
     let w = usize::from(activity.number());
-    cell.turns[w] = cell.turns[w].saturating_add(1);
+    cell.turns[w] = cell.turns[w].saturating_add(turns);
 }
 
-// Counts what each task does in one more turn of the column that begins at a cell.
-fn count_activities(cells: &mut [Cell], at: usize, tasks: usize, activities: &[Activity])
+/// Counts what each task does in this many more turns of the column that begins at a cell.
+pub fn count_activities(
+    cells: &mut [Cell],
+    at: usize,
+    tasks: usize,
+    activities: &[Activity],
+    turns: u32,
+)
     requires room { at + tasks ≤ length cells.old }
     ensures { Changed cells.old cells.new at tasks
-        (λ i c. counted c (activity_at activities.now i)) }
+        (λ i c. counted c (activity_at activities.now i) turns) }
 {
     for i in 0..tasks {
-        count(&mut cells[at + i], activity_at(activities, i));
+        count(&mut cells[at + i], activity_at(activities, i), turns);
     }
 }
 
@@ -109,7 +115,7 @@ pub fn add_turn(
     requires room { at + tasks ≤ length cells.old }
     ensures { Changed cells.old cells.new at tasks (turned activities.now notes.now) }
 {
-    count_activities(cells, at, tasks, activities);
+    count_activities(cells, at, tasks, activities, 1);
     mark_all(cells, at, tasks, notes);
 }
 

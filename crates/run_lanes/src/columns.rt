@@ -3,7 +3,9 @@
 ghost use Rattle.std.specs.Prelude.{◌≡◌, ◌≤◌, ◌<◌, ◌*◌, vec_len};
 
 use crate::activity::Activity;
-use crate::cells::{MOST_COLUMNS, NO_CELL, add_turn, comes_from_outside, halve, halve_outside};
+use crate::cells::{
+    MOST_COLUMNS, NO_CELL, add_turn, comes_from_outside, count_activities, halve, halve_outside,
+};
 use kernel_abi::Note;
 use lane_picture::Cell;
 use std::alloc::{AllocError, Global};
@@ -31,8 +33,9 @@ impl Columns {
     ghost use Rattle.std.specs.List.{list_any};
     ghost use Rattle.run_lanes.specs.Columned.{Columned};
     ghost use Rattle.run_lanes.specs.Columns.{cells, columns, is_outside, outside};
-    ghost use Rattle.run_lanes.specs.Counted.{Changed, both, turned};
-    ghost use Rattle.run_lanes.specs.Activities.{TurnSight};
+    ghost use Rattle.run_lanes.specs.Counted.{Changed, both, counted, turned};
+    ghost use Rattle.run_lanes.specs.Timeline.{activity_at};
+    ghost use Rattle.run_lanes.specs.Activities.{TurnSight, idle_turns};
 
     /// The columns before the first turn, for this many tasks.
     ///
@@ -112,21 +115,22 @@ impl Columns {
         }
     }
 
-    // Moves on to the place of the next turn.
-    fn advance(&mut self)
+    // Moves on by this many turns, for which the column has room.
+    fn advance(&mut self, turns: u32)
         requires free { self.old.column < 1200 }
+        requires room { self.old.inside + turns ≤ self.old.width }
         ensures tasks { self.new.tasks ≡ self.old.tasks }
         ensures width { self.new.width ≡ self.old.width }
         ensures cells { self.new.cells.items ≡ self.old.cells.items }
         ensures outside { self.new.outside.items ≡ self.old.outside.items }
         ensures at { self.new.column * self.new.width + self.new.inside ≡ self.old.column *
-            self.old.width + self.old.inside + 1 }
+            self.old.width + self.old.inside + turns }
     {
-        if self.inside + 1 == self.width {
+        if self.inside + turns == self.width {
             self.inside = 0;
             self.column += 1;
         } else {
-            self.inside += 1;
+            self.inside += turns;
         }
     }
 
@@ -144,7 +148,59 @@ impl Columns {
         self.make_room();
         self.add_cells(activities, notes);
         self.add_outside(notes);
-        self.advance();
+        self.advance(1);
+    }
+
+    // Counts what each task does in this many turns of the column of the next turn.
+    fn count_cells(&mut self, turns: u32, activities: &[Activity])
+        requires free { self.old.column < 1200 }
+        ensures tasks { self.new.tasks ≡ self.old.tasks }
+        ensures width { self.new.width ≡ self.old.width }
+        ensures column { self.new.column ≡ self.old.column }
+        ensures inside { self.new.inside ≡ self.old.inside }
+        ensures cells { Changed self.old.cells.items self.new.cells.items
+            (self.old.column * self.old.tasks) self.old.tasks
+            (λ i c. counted c (activity_at activities.now i) turns) }
+        ensures outside { self.new.outside.items ≡ self.old.outside.items }
+    {
+        count_activities(
+            &mut self.cells,
+            self.column * self.tasks,
+            self.tasks,
+            activities,
+            turns,
+        );
+    }
+
+    // Adds the first of this many turns without notes, as many as one column has room for. Returns
+    // how many it added.
+    fn add_some(&mut self, turns: u32, activities: &[Activity]) -> u32
+        requires { 0 < turns }
+        ensures some { 0 < result }
+        ensures within { result ≤ turns }
+        ensures tasks { self.new.tasks ≡ self.old.tasks }
+        ensures added { (turn : ℕ) (front : List TurnSight) → length front + result ≤ 1000000000 →
+            Columned self.old (length front) front → Columned self.new (length front + result)
+            (front ++ idle_turns turn result activities.now) }
+    {
+        self.make_room();
+        let some = turns.min(self.width - self.inside);
+        self.count_cells(some, activities);
+        self.advance(some);
+        some
+    }
+
+    /// Adds this many turns without notes, in each of which the tasks do the same.
+    pub fn add_idle(&mut self, turns: u32, activities: &[Activity])
+        ensures tasks { self.new.tasks ≡ self.old.tasks }
+        ensures added { (turn : ℕ) (front : List TurnSight) → length front + turns ≤ 1000000000 →
+            Columned self.old (length front) front → Columned self.new (length front + turns)
+            (front ++ idle_turns turn turns activities.now) }
+    {
+        let mut left = turns;
+        'columns: while left > 0 {
+            left -= self.add_some(left, activities);
+        }
     }
 
     /// How many columns are in use.

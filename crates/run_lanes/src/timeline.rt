@@ -1,5 +1,5 @@
 //! A run as a timeline (docs/FORMATS.md, Timeline).
-ghost use Rattle.std.specs.Prelude.{◌≡◌, ◌≤◌, ◌+◌, ◌-◌, ◌++◌, IfOk, IfErr, length, map, string_bytes};
+ghost use Rattle.std.specs.Prelude.{◌≡◌, ◌≤◌, ◌+◌, ◌-◌, ◌++◌, ◌∷◌, [], IfOk, IfErr, MatchResult, length, map, string_bytes};
 ghost use Rattle.std.specs.List.{flat_map};
 ghost use Rattle.outside_io.specs.Outside.{HasCause, Pushes, Rose};
 ghost use Rattle.task_table.specs.model.State.{State};
@@ -48,7 +48,34 @@ impl From<Failed> for TimelineFault {
     }
 }
 
-/// Pushes to a sink the stretches that end in a turn, and then the turn's notes.
+// Pushes the stretches that end in a turn, and then the turn's notes.
+fn push_turn<S: Sink>(
+    turn: u32,
+    activities: &[Activity],
+    notes: &[Note],
+    lanes: &mut Lanes,
+    out: &mut S,
+) -> Result<(), Failed>
+    ensures { MatchResult result
+        (λ _. SeesText (kept_of lanes.old) (S.seen out.old) (record {
+          turn = turn;
+          activities = activities.now;
+          notes = notes.now;
+        } ∷ []) (kept_of lanes.new) (S.seen out.new))
+        (λ _. BreaksText (kept_of lanes.old) (S.seen out.old) (record {
+          turn = turn;
+          activities = activities.now;
+          notes = notes.now;
+        } ∷ []) (S.seen out.new)) }
+{
+    push_overs(turn, &lanes.stretches, activities, out)?;
+    renew_all(turn, activities, &mut lanes.stretches);
+    push_notes(turn, notes, &mut lanes.offers, out)?;
+    Ok(())
+}
+
+/// Pushes to a sink the stretches that end in a turn, and then the turn's notes. Of idle turns only
+/// the first one may end a stretch.
 impl<S: Sink> Watcher<S> for Lanes {
     ghost saw = { λ l o turns k p. SeesText (kept_of l) (S.seen o) turns (kept_of k) (S.seen p) };
 
@@ -61,10 +88,17 @@ impl<S: Sink> Watcher<S> for Lanes {
         notes: &[Note],
         out: &mut S,
     ) -> Result<(), Failed> {
-        push_overs(turn, &self.stretches, activities, out)?;
-        renew_all(turn, activities, &mut self.stretches);
-        push_notes(turn, notes, &mut self.offers, out)?;
-        Ok(())
+        push_turn(turn, activities, notes, self, out)
+    }
+
+    fn see_idle(
+        &mut self,
+        turn: u32,
+        _turns: u32,
+        activities: &[Activity],
+        out: &mut S,
+    ) -> Result<(), Failed> {
+        push_turn(turn, activities, &[], self, out)
     }
 
     fn sees_in_parts() {}

@@ -1,8 +1,10 @@
 //! The loop over turns. Each turn is seen, with what every task does in it.
-ghost use Rattle.std.specs.Prelude.{◌≡◌, ◌≤◌, ◌<◌, ◌+◌, ◌-◌, ℕ, List, ◌++◌, ◌∷◌, [], map, length, slice_index_or, if◌then◌else◌, IfOk, OnOk, OnErr, MatchResult};
+ghost use Rattle.std.specs.Prelude.{◌≡◌, ◌≤◌, ◌<◌, ◌+◌, ◌-◌, ℕ, true, List, ◌++◌, ◌∷◌, [], map, length, slice_index_or, if◌then◌else◌, IfOk, OnOk, OnErr, MatchResult};
 ghost use Rattle.std.specs.List.{range_with_len};
 ghost use Rattle.task_table.specs.model.State.{State};
+ghost use Rattle.run_script.specs.Scripts.{events_of};
 ghost use Rattle.board_model.specs.declared.outcomes.Level.TheVariants.{Calls};
+ghost use Rattle.board_model.specs.declared.outcomes.Turned.TheVariants.{Idle};
 ghost use Rattle.board_model.specs.Script.{Scenario};
 ghost use Rattle.board_model.specs.Run.{run};
 ghost use Rattle.board_core.specs.Stands.{Stands, StandsForSome, turns_of};
@@ -11,7 +13,7 @@ ghost use Rattle.board_core.specs.Views.{IsTask};
 ghost use Rattle.run_lanes.specs.declared.activity.Activity.{Activity as Said};
 ghost use Rattle.run_lanes.specs.declared.activity.Activity.TheVariants as said;
 ghost use Rattle.run_lanes.specs.Seen.{BreaksSeeing, Paired};
-ghost use Rattle.run_lanes.specs.Activities.{TurnSight, is_of, sights, waiting};
+ghost use Rattle.run_lanes.specs.Activities.{TurnSight, idle_turns, is_of, sights, waiting};
 
 use crate::activity::{Activity, activity_of};
 use board_core::{Board, End, Level, TaskView, Turned};
@@ -52,6 +54,20 @@ pub trait Watcher<O> {
               activities = activities.now;
               notes = notes.now;
             } ∷ []) self.new out.new) };
+
+    /// Sees this many turns from one on, at least one. In each the tasks do the same, none of them
+    /// runs, and nothing is noted.
+    fn see_idle(
+        &mut self,
+        turn: u32,
+        turns: u32,
+        activities: &[Activity],
+        out: &mut O,
+    ) -> Result<(), Failed>
+        requires some { 0 < turns }
+        ensures { MatchResult result
+            (λ _. saw self.old out.old (idle_turns turn turns activities.now) self.new out.new)
+            (λ _. broke self.old out.old (idle_turns turn turns activities.now) self.new out.new) };
 
     /// A law; the function does nothing. If nothing is seen, nothing changes, and turns may be seen
     /// in parts. A failure after some turns is a failure of all of them.
@@ -111,8 +127,41 @@ fn mark(turned: Turned, activities: &mut [Activity])
     }
 }
 
-/// Makes the turns up to the end of the run, and shows each to the watcher. The list has an
-/// activity for each task. After the watcher fails, no further turn is made.
+// Whether no task ran in a turn.
+fn is_idle(turned: Turned) -> bool
+    ensures { result ≡ true → turned ≡ Idle }
+{
+    match turned {
+        Turned::Idle => true,
+        Turned::Ran { .. } => false,
+    }
+}
+
+// If no task is ready, the turn before which nothing happens; at most the limit. Otherwise the next
+// turn.
+fn idle_until(board: &Board, idle: bool, limit: u32) -> u32
+    requires stood { StandsForSome (boxed shown) board.now }
+    requires from { turns_of board.now ≤ limit }
+    requires few { limit ≤ 1000000000 }
+    ensures later { turns_of board.now ≤ result }
+    ensures within { result ≤ limit }
+    ensures idle { turns_of board.now < result → idle ≡ true }
+    ensures nothing { (x : Scenario) (s : State) → Stands (boxed shown) x board.now s →
+        (turn : ℕ) → s.turn ≤ turn → turn < result → events_of x.script turn ≡ [] }
+{
+    let from = board.turns();
+    if !idle {
+        return from;
+    }
+    match board.next(from) {
+        Some(turn) => turn.min(limit),
+        None => limit,
+    }
+}
+
+/// Makes the turns up to the end of the run, and shows each to the watcher: turns in which no task
+/// is ready and nothing happens, all at once. The list has an activity for each task. After the
+/// watcher fails, no further turn is made.
 ///
 /// # Errors
 ///
@@ -145,14 +194,23 @@ pub fn watch<O, W: Watcher<O>>(
     ensures within { turns_of board.new ≤ limit }
 {
     W::sees_in_parts();
+    let mut idle = false;
     'turns: loop {
         match ending(board, limit) {
             Some(end) => return Ok(end),
             None => {}
         }
         look(board, activities);
-        let turned = board.turn_at(Level::Calls);
-        mark(turned, activities);
-        watcher.see(board.turns() - 1, activities, board.notes(), out)?;
+        let from = board.turns();
+        let to = idle_until(board, idle, limit);
+        if from < to {
+            watcher.see_idle(from, to - from, activities, out)?;
+            board.skip(to);
+        } else {
+            let turned = board.turn_at(Level::Calls);
+            mark(turned, activities);
+            watcher.see(from, activities, board.notes(), out)?;
+            idle = is_idle(turned);
+        }
     }
 }

@@ -14,11 +14,11 @@ loop-i-preserved c =
     let at = c.args.at in
     let i = c.loop-i.i in
     let old = c.args.cells.now in
-    changed_here (λ x. counted x c.activity_at.result) (λ i x. counted x (activity_at c.args.activities.now i)) old c.loop-i.cells at i c.count.new.cell (omega arith) h c.count.ensures
-    (λ x. ap (λ (w : Activity). counted x w) c.activity_at.ensures)
+    changed_here (λ x. counted x c.activity_at.result c.args.turns) (λ i x. counted x (activity_at c.args.activities.now i) c.args.turns) old c.loop-i.cells at i c.count.new.cell (omega arith) h c.count.ensures
+    (λ x. ap (λ (w : Activity). counted x w c.args.turns) c.activity_at.ensures)
 
 pub returns : goal.returns
 returns c =
     let all : c.loop-i.i ≡ c.args.tasks = omega arith in
-    let P : ℕ → Type 0 = λ n. Changed c.args.cells.now c.loop-i.cells c.args.at n (λ i x. counted x (activity_at c.args.activities.now i)) in
+    let P : ℕ → Type 0 = λ n. Changed c.args.cells.now c.loop-i.cells c.args.at n (λ i x. counted x (activity_at c.args.activities.now i) c.args.turns) in
     subst P all c.loop-i.invariant

@@ -1,4 +1,4 @@
-use Rattle.std.proofs.Common.{◌≡◌, ◌-◌, ◌≤◌, length}
+use Rattle.std.proofs.Common.{◌≡◌, ◌-◌, ◌≤◌, length, None, true}
 use Rattle.task_table.specs.model.State.{State}
 use Rattle.board_model.specs.Script.{Scenario}
 use Rattle.board_core.specs.Data.{boxed}
@@ -14,6 +14,7 @@ invariant-turns g l =
       stood : StandsForSome shown l.board;
       turns : turns_of l.board ≤ l.limit;
       one_each : (x : Scenario) (s : State) → Stands shown x l.fn.board s → length l.activities ≡ length x.setup.tasks;
+      none : l.idle ≡ true → l.board.choice.next ≡ None;
     }
 
 abbrev pub decreases-turns : goal.decreases-turns
