@@ -27,7 +27,7 @@ use command_files::{
     FILE_LIMIT, FileFault, NamedFault, fault_named, read_contents, read_image, read_script,
     refused_at_number, tell_named_fault,
 };
-use command_line::Detail;
+use command_line::ResumeJob;
 use devices::Device;
 use image_format::Image;
 use outside_io::{Files, Sink};
@@ -130,66 +130,69 @@ fn set_state<F: Files>(
     }
 }
 
-// The board in the state from which the run of the image and the script under these names goes on,
-// with devices.
+// The board in the state from which the run of the job's image and script goes on, with devices.
 fn prepare_resume<F: Files>(
     alloc: Global,
     files: &mut F,
-    image: &str,
-    script: &str,
-    state: &str,
-    bound: u32,
+    job: &ResumeJob,
     devices: Vec<Box<dyn Device>>,
 ) -> Result<Board, NamedFault>
     requires fresh { AreFresh (map shown devices.items) }
-    ensures ready { IfOk result (IsResumable shown (map shown devices.items) image.now script.now
-        state.now (F.seen files.old).contents bound) }
+    ensures ready { IfOk result (IsResumable shown (map shown devices.items) job.now.image.now
+        job.now.script.now job.now.state.now (F.seen files.old).contents job.now.steps) }
     ensures named_fault { IfErr result (IsNamedFaultIn
-        (state_files (map shown devices.items) image.now script.now state.now bound)
+        (state_files (map shown devices.items) job.now.image.now job.now.script.now
+        job.now.state.now job.now.steps)
         (F.seen files.old) (F.seen files.new)) }
     ensures starts { IfOk result (λ b. StartsSeen (map shown devices.items)
-        (F.seen files.old).contents image.now script.now) }
+        (F.seen files.old).contents job.now.image.now job.now.script.now) }
     ensures unless { IfErr result (StartsUnless (map shown devices.items) (F.seen files.old)
-        (F.seen files.new) image.now script.now) }
+        (F.seen files.new) job.now.image.now job.now.script.now) }
     ensures only_reads { OnlyReads (F.seen files.old) (F.seen files.new) }
 {
-    let image_data = match read_image(alloc, files, image) {
+    let image_data = match read_image(alloc, files, job.image) {
         Ok(image_data) => image_data,
         Err(named_fault) => return Err(named_fault),
     };
-    let events = match read_script(alloc, files, script) {
+    let events = match read_script(alloc, files, job.script) {
         Ok(events) => events,
         Err(named_fault) => return Err(named_fault),
     };
-    set_state(alloc, files, &image_data, &events, state, bound, devices)
+    set_state(
+        alloc,
+        files,
+        &image_data,
+        &events,
+        job.state,
+        job.steps,
+        devices,
+    )
 }
 
 /// `resume IMAGE SCRIPT STATE --steps M [--all] [--mem]`.
 pub fn resume_files<F: Files, S: Sink>(
     alloc: Global,
-    image: &str,
-    script: &str,
-    state: &str,
-    steps: u32,
-    detail: Detail,
+    job: &ResumeJob,
     files: &mut F,
     out: &mut S,
     devices: Vec<Box<dyn Device>>,
 ) -> u8
     requires fresh { AreFresh (map shown devices.items) }
-    requires few { steps ≤ 1000000000 }
+    requires few { job.now.steps ≤ 1000000000 }
     ensures answer { AnswersBy
-        (state_files (map shown devices.items) image.now script.now state.now steps)
-        (Resumes steps detail (map shown devices.items)) (F.seen files.old) (F.seen files.new)
+        (state_files (map shown devices.items) job.now.image.now job.now.script.now
+        job.now.state.now job.now.steps)
+        (Resumes job.now.steps job.now.detail (map shown devices.items)) (F.seen files.old)
+        (F.seen files.new) (S.seen out.old) (S.seen out.new) result }
+    ensures each { TellsResumed (map shown devices.items) job.now.image.now job.now.script.now
+        job.now.state.now job.now.steps job.now.detail (F.seen files.old) (F.seen files.new)
         (S.seen out.old) (S.seen out.new) result }
-    ensures each { TellsResumed (map shown devices.items) image.now script.now state.now steps
-        detail (F.seen files.old) (F.seen files.new) (S.seen out.old) (S.seen out.new) result }
     ensures only_reads { OnlyReads (F.seen files.old) (F.seen files.new) }
 {
-    match prepare_resume(alloc, files, image, script, state, steps, devices) {
+    match prepare_resume(alloc, files, job, devices) {
         Ok(board) => {
             let mut board = board;
-            tell_run(&mut board, steps, detail, out)
+            tell_run(&mut board, job.steps, job.detail, out)
         }
         Err(named_fault) => tell_named_fault(alloc, &named_fault, out),
     }

@@ -17,7 +17,7 @@ ghost use Rattle.board_commands.specs.Answer.{AnswersRun};
 use board_core::{Board, End, Level};
 use board_run::{run, write_memory};
 use command_files::{prepare_go, prepare_run, status_by, tell_named_fault};
-use command_line::Detail;
+use command_line::{Detail, GoJob, RunJob};
 use devices::Device;
 use outside_io::{Failed, Files, Sink};
 use std::alloc::Global;
@@ -78,25 +78,22 @@ pub fn tell_run<S: Sink>(board: &mut Board, steps: u32, detail: Detail, out: &mu
 /// `run IMAGE SCRIPT --steps N [--all] [--mem]`.
 pub fn run_files<F: Files, S: Sink>(
     alloc: Global,
-    image: &str,
-    script: &str,
-    steps: u32,
-    detail: Detail,
+    job: &RunJob,
     files: &mut F,
     out: &mut S,
     devices: Vec<Box<dyn Device>>,
 ) -> u8
     requires fresh { AreFresh (map shown devices.items) }
-    requires few { steps ≤ 1000000000 }
-    ensures answer { AnswersRun (image_and_script image.now script.now)
-        (Runs steps detail (map shown devices.items)) steps detail (F.seen files.old)
-        (F.seen files.new) (S.seen out.old) (S.seen out.new) result }
+    requires few { job.now.steps ≤ 1000000000 }
+    ensures answer { AnswersRun (image_and_script job.now.image.now job.now.script.now)
+        (Runs job.now.steps job.now.detail (map shown devices.items)) job.now.steps job.now.detail
+        (F.seen files.old) (F.seen files.new) (S.seen out.old) (S.seen out.new) result }
     ensures only_reads { OnlyReads (F.seen files.old) (F.seen files.new) }
 {
-    match prepare_run(alloc, files, image, script, devices) {
+    match prepare_run(alloc, files, job.image, job.script, devices) {
         Ok(board) => {
             let mut board = board;
-            tell_run(&mut board, steps, detail, out)
+            tell_run(&mut board, job.steps, job.detail, out)
         }
         Err(named_fault) => tell_named_fault(alloc, &named_fault, out),
     }
@@ -105,25 +102,22 @@ pub fn run_files<F: Files, S: Sink>(
 /// `go APP SCRIPT --steps N [--all] [--mem]`.
 pub fn go_files<F: Files, S: Sink>(
     alloc: Global,
-    app: &str,
-    script: &str,
-    steps: u32,
-    detail: Detail,
+    job: &GoJob,
     files: &mut F,
     out: &mut S,
     devices: Vec<Box<dyn Device>>,
 ) -> u8
     requires fresh { AreFresh (map shown devices.items) }
-    requires few { steps ≤ 1000000000 }
-    ensures answer { AnswersRun (app_and_script app.now script.now)
-        (Goes steps detail (map shown devices.items)) steps detail (F.seen files.old)
-        (F.seen files.new) (S.seen out.old) (S.seen out.new) result }
+    requires few { job.now.steps ≤ 1000000000 }
+    ensures answer { AnswersRun (app_and_script job.now.app.now job.now.script.now)
+        (Goes job.now.steps job.now.detail (map shown devices.items)) job.now.steps job.now.detail
+        (F.seen files.old) (F.seen files.new) (S.seen out.old) (S.seen out.new) result }
     ensures only_reads { OnlyReads (F.seen files.old) (F.seen files.new) }
 {
-    match prepare_go(alloc, files, app, script, devices) {
+    match prepare_go(alloc, files, job.app, job.script, devices) {
         Ok(board) => {
             let mut board = board;
-            tell_run(&mut board, steps, detail, out)
+            tell_run(&mut board, job.steps, job.detail, out)
         }
         Err(named_fault) => tell_named_fault(alloc, &named_fault, out),
     }

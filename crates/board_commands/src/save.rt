@@ -11,6 +11,7 @@ ghost use Rattle.board_commands.specs.Verdict.{saved, saved_bytes, Saves};
 use board_core::{Board, Level};
 use board_run::{Nobody, play};
 use command_files::{line_of_saved, prepare_run, put_told, tell_named_fault};
+use command_line::SaveJob;
 use devices::Device;
 use outside_io::{Files, Sink};
 use snapshot::save;
@@ -55,22 +56,21 @@ fn put_state<F: Files, S: Sink>(
 fn save_board<F: Files, S: Sink>(
     alloc: Global,
     board: &mut Board,
-    name: &str,
-    steps: u32,
+    job: &SaveJob,
     files: &mut F,
     out: &mut S,
 ) -> u8
     requires stood { StandsForSome (boxed shown) board.old }
     requires fresh { turns_of board.old ≡ 0 }
-    requires few { steps ≤ 1000000000 }
+    requires few { job.now.steps ≤ 1000000000 }
     ensures tells { (x : Scenario) → Stands (boxed shown) x board.old (start_of x) →
         Tells (F.seen files.old) (F.seen files.new) (S.seen out.old) (S.seen out.new)
-        (saved name.now steps x) result }
+        (saved job.now.out.now job.now.steps x) result }
     ensures reads { (F.seen files.new).read_faults ≡ (F.seen files.old).read_faults }
     ensures puts { (F.seen files.old).put_faults ≤ (F.seen files.new).put_faults }
 {
-    match last_bytes(alloc, board, steps) {
-        Ok(bytes) => put_state(alloc, &bytes, name, files, out),
+    match last_bytes(alloc, board, job.steps) {
+        Ok(bytes) => put_state(alloc, &bytes, job.out, files, out),
         Err(_) => 5,
     }
 }
@@ -78,26 +78,23 @@ fn save_board<F: Files, S: Sink>(
 /// `save IMAGE SCRIPT OUT --steps N`.
 pub fn save_file<F: Files, S: Sink>(
     alloc: Global,
-    image: &str,
-    script: &str,
-    name: &str,
-    steps: u32,
+    job: &SaveJob,
     files: &mut F,
     out: &mut S,
     devices: Vec<Box<dyn Device>>,
 ) -> u8
     requires fresh { AreFresh (map shown devices.items) }
-    requires few { steps ≤ 1000000000 }
-    ensures answer { AnswersBy (image_and_script image.now script.now)
-        (Saves name.now steps (map shown devices.items)) (F.seen files.old) (F.seen files.new)
-        (S.seen out.old) (S.seen out.new) result }
+    requires few { job.now.steps ≤ 1000000000 }
+    ensures answer { AnswersBy (image_and_script job.now.image.now job.now.script.now)
+        (Saves job.now.out.now job.now.steps (map shown devices.items)) (F.seen files.old)
+        (F.seen files.new) (S.seen out.old) (S.seen out.new) result }
     ensures later { (F.seen files.old).read_faults ≤ (F.seen files.new).read_faults }
     ensures puts { (F.seen files.old).put_faults ≤ (F.seen files.new).put_faults }
 {
-    match prepare_run(alloc, files, image, script, devices) {
+    match prepare_run(alloc, files, job.image, job.script, devices) {
         Ok(board) => {
             let mut board = board;
-            save_board(alloc, &mut board, name, steps, files, out)
+            save_board(alloc, &mut board, job, files, out)
         }
         Err(named_fault) => tell_named_fault(alloc, &named_fault, out),
     }

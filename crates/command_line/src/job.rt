@@ -39,124 +39,142 @@ pub enum CommandName {
     Help,
 }
 
+/// Run IMAGE with SCRIPT for at most `steps` turns.
+#[derive(Clone, Copy)]
+pub struct RunJob<'a> {
+    pub image: &'a str,
+    pub script: &'a str,
+    pub steps: u32,
+    pub detail: Detail,
+}
+
+/// Build APP and run it as `Run` runs an image.
+#[derive(Clone, Copy)]
+pub struct GoJob<'a> {
+    pub app: &'a str,
+    pub script: &'a str,
+    pub steps: u32,
+    pub detail: Detail,
+}
+
+/// Save the state of the run of IMAGE with SCRIPT after at most `steps` turns to OUT.
+#[derive(Clone, Copy)]
+pub struct SaveJob<'a> {
+    pub image: &'a str,
+    pub script: &'a str,
+    pub out: &'a str,
+    pub steps: u32,
+}
+
+/// Go on from the state in STATE, with IMAGE and SCRIPT, up to turn `steps`.
+#[derive(Clone, Copy)]
+pub struct ResumeJob<'a> {
+    pub image: &'a str,
+    pub script: &'a str,
+    pub state: &'a str,
+    pub steps: u32,
+    pub detail: Detail,
+}
+
+/// Carry out COMMANDS over the run of IMAGE with SCRIPT.
+#[derive(Clone, Copy)]
+pub struct DebugJob<'a> {
+    pub image: &'a str,
+    pub script: &'a str,
+    pub commands: &'a str,
+}
+
+/// Count how often the run of IMAGE with SCRIPT executes each instruction, in at most `steps`
+/// turns. With labels, IMAGE is the name of an application, which is built as by `Go`, and the
+/// labels of its sources are shown.
+#[derive(Clone, Copy)]
+pub struct CoverJob<'a> {
+    pub image: &'a str,
+    pub script: &'a str,
+    pub steps: u32,
+    pub labels: bool,
+}
+
+/// Say how the run of IMAGE with SCRIPT ends in at most `steps` turns if the events of ARRIVAL come
+/// too, for each arrival time that is at least `from` and below `to`; `memory` says whether with
+/// its memory.
+#[derive(Clone, Copy)]
+pub struct SweepJob<'a> {
+    pub image: &'a str,
+    pub script: &'a str,
+    pub arrival: &'a str,
+    pub from: u32,
+    pub to: u32,
+    pub steps: u32,
+    pub memory: bool,
+}
+
+/// Write the run of IMAGE with SCRIPT for at most `steps` turns as events that timeline viewers
+/// read, with the task names of APP if it is given.
+#[derive(Clone, Copy)]
+pub struct TimelineJob<'a> {
+    pub image: &'a str,
+    pub script: &'a str,
+    pub steps: u32,
+    pub names: Option<&'a str>,
+}
+
+/// Carry out the lines of COMMANDS over the run of IMAGE with SCRIPT as they come.
+#[derive(Clone, Copy)]
+pub struct LiveJob<'a> {
+    pub image: &'a str,
+    pub script: &'a str,
+    pub commands: &'a str,
+}
+
+/// Draw the run of IMAGE with SCRIPT for at most `steps` turns as a picture in OUT, with the task
+/// names of APP if it is given.
+#[derive(Clone, Copy)]
+pub struct PictureJob<'a> {
+    pub image: &'a str,
+    pub script: &'a str,
+    pub out: &'a str,
+    pub steps: u32,
+    pub names: Option<&'a str>,
+}
+
+/// Write to OUT how often the run of APP with SCRIPT executes each line of its sources, in at most
+/// `steps` turns.
+#[derive(Clone, Copy)]
+pub struct LcovJob<'a> {
+    pub app: &'a str,
+    pub script: &'a str,
+    pub out: &'a str,
+    pub steps: u32,
+}
+
 /// What the program is asked to do. The names are those of files, and `steps` is at most
 /// 1,000,000,000.
 #[derive(Clone, Copy, Drop)]
 pub enum Job<'a> {
     /// Build APP, and put the image under OUT.
-    Build {
-        app: &'a str,
-        out: &'a str,
-    },
-    /// Run IMAGE with SCRIPT for at most `steps` turns.
-    Run {
-        image: &'a str,
-        script: &'a str,
-        steps: u32,
-        detail: Detail,
-    },
-    /// Build APP and run it as `Run` runs an image.
-    Go {
-        app: &'a str,
-        script: &'a str,
-        steps: u32,
-        detail: Detail,
-    },
+    Build { app: &'a str, out: &'a str },
+    Run(RunJob<'a>),
+    Go(GoJob<'a>),
     /// List the contents of IMAGE.
-    List {
-        image: &'a str,
-    },
+    List { image: &'a str },
     /// Run the sample of a seed for at most `steps` turns.
-    Sample {
-        seed: u32,
-        steps: u32,
-    },
+    Sample { seed: u32, steps: u32 },
     /// Write IMAGE, of either form, in the form in which images are built, and put it under OUT.
-    Migrate {
-        image: &'a str,
-        out: &'a str,
-    },
+    Migrate { image: &'a str, out: &'a str },
     /// Check whether TRACE can be the trace of a whole run.
-    Audit {
-        trace: &'a str,
-    },
-    /// Save the state of the run of IMAGE with SCRIPT after at most `steps` turns to OUT.
-    Save {
-        image: &'a str,
-        script: &'a str,
-        out: &'a str,
-        steps: u32,
-    },
-    /// Go on from the state in STATE, with IMAGE and SCRIPT, up to turn `steps`.
-    Resume {
-        image: &'a str,
-        script: &'a str,
-        state: &'a str,
-        steps: u32,
-        detail: Detail,
-    },
-    /// Carry out COMMANDS over the run of IMAGE with SCRIPT.
-    Debug {
-        image: &'a str,
-        script: &'a str,
-        commands: &'a str,
-    },
-    /// Count how often the run of IMAGE with SCRIPT executes each instruction, in at most `steps`
-    /// turns. With labels, IMAGE is the name of an application, which is built as by `Go`, and the
-    /// labels of its sources are shown.
-    Cover {
-        image: &'a str,
-        script: &'a str,
-        steps: u32,
-        labels: bool,
-    },
-    /// Say how the run of IMAGE with SCRIPT ends in at most `steps` turns if the events of ARRIVAL
-    /// come too, for each arrival time that is at least `from` and below `to`; `memory` says
-    /// whether with its memory.
-    Sweep {
-        image: &'a str,
-        script: &'a str,
-        arrival: &'a str,
-        from: u32,
-        to: u32,
-        steps: u32,
-        memory: bool,
-    },
-    /// Write the run of IMAGE with SCRIPT for at most `steps` turns as events that timeline viewers
-    /// read, with the task names of APP if it is given.
-    Timeline {
-        image: &'a str,
-        script: &'a str,
-        steps: u32,
-        names: Option<&'a str>,
-    },
-    /// Carry out the lines of COMMANDS over the run of IMAGE with SCRIPT as they come.
-    Live {
-        image: &'a str,
-        script: &'a str,
-        commands: &'a str,
-    },
-    /// Draw the run of IMAGE with SCRIPT for at most `steps` turns as a picture in OUT, with the
-    /// task names of APP if it is given.
-    Picture {
-        image: &'a str,
-        script: &'a str,
-        out: &'a str,
-        steps: u32,
-        names: Option<&'a str>,
-    },
-    /// Write to OUT how often the run of APP with SCRIPT executes each line of its sources, in at
-    /// most `steps` turns.
-    Lcov {
-        app: &'a str,
-        script: &'a str,
-        out: &'a str,
-        steps: u32,
-    },
+    Audit { trace: &'a str },
+    Save(SaveJob<'a>),
+    Resume(ResumeJob<'a>),
+    Debug(DebugJob<'a>),
+    Cover(CoverJob<'a>),
+    Sweep(SweepJob<'a>),
+    Timeline(TimelineJob<'a>),
+    Live(LiveJob<'a>),
+    Picture(PictureJob<'a>),
+    Lcov(LcovJob<'a>),
     /// Say what the commands are, or what one of them takes and answers.
-    Help {
-        about: Option<CommandName>,
-    },
+    Help { about: Option<CommandName> },
 }
 
 fn text_of<'a>(matches: &ArgMatches<'a>, id: &str) -> &'a str
@@ -244,12 +262,12 @@ fn run_by<'a>(matches: &ArgMatches<'a>) -> Job<'a>
         Some (asked result) ≡ run_form.asks (rows_of (found_of matches.now)) }
     ensures few { HasSteps (rows_of (found_of matches.now)) → steps_of result ≤ most_steps }
 {
-    Job::Run {
+    Job::Run(RunJob {
         image: text_of(matches, "image"),
         script: text_of(matches, "script"),
         steps: steps_in(matches),
         detail: detail_of(matches),
-    }
+    })
 }
 
 fn go_by<'a>(matches: &ArgMatches<'a>) -> Job<'a>
@@ -257,12 +275,12 @@ fn go_by<'a>(matches: &ArgMatches<'a>) -> Job<'a>
         Some (asked result) ≡ go_form.asks (rows_of (found_of matches.now)) }
     ensures few { HasSteps (rows_of (found_of matches.now)) → steps_of result ≤ most_steps }
 {
-    Job::Go {
+    Job::Go(GoJob {
         app: text_of(matches, "app"),
         script: text_of(matches, "script"),
         steps: steps_in(matches),
         detail: detail_of(matches),
-    }
+    })
 }
 
 fn list_by<'a>(matches: &ArgMatches<'a>) -> Job<'a>
@@ -310,12 +328,12 @@ fn save_by<'a>(matches: &ArgMatches<'a>) -> Job<'a>
         Some (asked result) ≡ save_form.asks (rows_of (found_of matches.now)) }
     ensures few { HasSteps (rows_of (found_of matches.now)) → steps_of result ≤ most_steps }
 {
-    Job::Save {
+    Job::Save(SaveJob {
         image: text_of(matches, "image"),
         script: text_of(matches, "script"),
         out: text_of(matches, "out"),
         steps: steps_in(matches),
-    }
+    })
 }
 
 fn resume_by<'a>(matches: &ArgMatches<'a>) -> Job<'a>
@@ -323,24 +341,24 @@ fn resume_by<'a>(matches: &ArgMatches<'a>) -> Job<'a>
         Some (asked result) ≡ resume_form.asks (rows_of (found_of matches.now)) }
     ensures few { HasSteps (rows_of (found_of matches.now)) → steps_of result ≤ most_steps }
 {
-    Job::Resume {
+    Job::Resume(ResumeJob {
         image: text_of(matches, "image"),
         script: text_of(matches, "script"),
         state: text_of(matches, "state"),
         steps: steps_in(matches),
         detail: detail_of(matches),
-    }
+    })
 }
 
 fn debug_by<'a>(matches: &ArgMatches<'a>) -> Job<'a>
     ensures job { Some (asked result) ≡ debug_form.asks (rows_of (found_of matches.now)) }
     ensures few { steps_of result ≡ 0 }
 {
-    Job::Debug {
+    Job::Debug(DebugJob {
         image: text_of(matches, "image"),
         script: text_of(matches, "script"),
         commands: text_of(matches, "commands"),
-    }
+    })
 }
 
 fn cover_by<'a>(matches: &ArgMatches<'a>) -> Job<'a>
@@ -348,12 +366,12 @@ fn cover_by<'a>(matches: &ArgMatches<'a>) -> Job<'a>
         Some (asked result) ≡ cover_form.asks (rows_of (found_of matches.now)) }
     ensures few { HasSteps (rows_of (found_of matches.now)) → steps_of result ≤ most_steps }
 {
-    Job::Cover {
+    Job::Cover(CoverJob {
         image: text_of(matches, "image"),
         script: text_of(matches, "script"),
         steps: steps_in(matches),
         labels: flag_of(matches, "labels"),
-    }
+    })
 }
 
 fn sweep_by<'a>(matches: &ArgMatches<'a>) -> Job<'a>
@@ -361,7 +379,7 @@ fn sweep_by<'a>(matches: &ArgMatches<'a>) -> Job<'a>
         Some (asked result) ≡ sweep_form.asks (rows_of (found_of matches.now)) }
     ensures few { AreTurns (rows_of (found_of matches.now)) → steps_of result ≤ most_steps }
 {
-    Job::Sweep {
+    Job::Sweep(SweepJob {
         image: text_of(matches, "image"),
         script: text_of(matches, "script"),
         arrival: text_of(matches, "arrival"),
@@ -369,7 +387,7 @@ fn sweep_by<'a>(matches: &ArgMatches<'a>) -> Job<'a>
         to: turns_in(matches, "to"),
         steps: steps_in(matches),
         memory: flag_of(matches, "mem"),
-    }
+    })
 }
 
 fn timeline_by<'a>(matches: &ArgMatches<'a>) -> Job<'a>
@@ -377,23 +395,23 @@ fn timeline_by<'a>(matches: &ArgMatches<'a>) -> Job<'a>
         Some (asked result) ≡ timeline_form.asks (rows_of (found_of matches.now)) }
     ensures few { HasSteps (rows_of (found_of matches.now)) → steps_of result ≤ most_steps }
 {
-    Job::Timeline {
+    Job::Timeline(TimelineJob {
         image: text_of(matches, "image"),
         script: text_of(matches, "script"),
         steps: steps_in(matches),
         names: option_of(matches, "names"),
-    }
+    })
 }
 
 fn live_by<'a>(matches: &ArgMatches<'a>) -> Job<'a>
     ensures job { Some (asked result) ≡ live_form.asks (rows_of (found_of matches.now)) }
     ensures few { steps_of result ≡ 0 }
 {
-    Job::Live {
+    Job::Live(LiveJob {
         image: text_of(matches, "image"),
         script: text_of(matches, "script"),
         commands: text_of(matches, "commands"),
-    }
+    })
 }
 
 fn picture_by<'a>(matches: &ArgMatches<'a>) -> Job<'a>
@@ -401,13 +419,13 @@ fn picture_by<'a>(matches: &ArgMatches<'a>) -> Job<'a>
         Some (asked result) ≡ picture_form.asks (rows_of (found_of matches.now)) }
     ensures few { HasSteps (rows_of (found_of matches.now)) → steps_of result ≤ most_steps }
 {
-    Job::Picture {
+    Job::Picture(PictureJob {
         image: text_of(matches, "image"),
         script: text_of(matches, "script"),
         out: text_of(matches, "out"),
         steps: steps_in(matches),
         names: option_of(matches, "names"),
-    }
+    })
 }
 
 fn lcov_by<'a>(matches: &ArgMatches<'a>) -> Job<'a>
@@ -415,12 +433,12 @@ fn lcov_by<'a>(matches: &ArgMatches<'a>) -> Job<'a>
         Some (asked result) ≡ lcov_form.asks (rows_of (found_of matches.now)) }
     ensures few { HasSteps (rows_of (found_of matches.now)) → steps_of result ≤ most_steps }
 {
-    Job::Lcov {
+    Job::Lcov(LcovJob {
         app: text_of(matches, "app"),
         script: text_of(matches, "script"),
         out: text_of(matches, "out"),
         steps: steps_in(matches),
-    }
+    })
 }
 
 fn help_by<'a>(matches: &ArgMatches<'a>) -> Option<Job<'a>>

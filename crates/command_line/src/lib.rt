@@ -7,6 +7,9 @@ mod job;
 mod laws;
 mod reading;
 
-pub use job::{CommandName, Detail, Job};
+pub use job::{
+    CommandName, CoverJob, DebugJob, Detail, GoJob, Job, LcovJob, LiveJob, PictureJob, ResumeJob,
+    RunJob, SaveJob, SweepJob, TimelineJob,
+};
 pub use laws::every_accepted_command_is_whole;
 pub use reading::{Refusal, read_words};

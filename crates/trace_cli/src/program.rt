@@ -57,107 +57,21 @@ fn answer<F: Files, S: Sink>(
 {
     match read_words(alloc, words) {
         Ok(Job::Build { app, out: name }) => build_file(alloc, app, name, files, out),
-        Ok(
-            Job::Run {
-                image,
-                script,
-                steps,
-                detail,
-            },
-        ) => run_files(alloc, image, script, steps, detail, files, out, devices),
-        Ok(
-            Job::Go {
-                app,
-                script,
-                steps,
-                detail,
-            },
-        ) => go_files(alloc, app, script, steps, detail, files, out, devices),
+        Ok(Job::Run(job)) => run_files(alloc, &job, files, out, devices),
+        Ok(Job::Go(job)) => go_files(alloc, &job, files, out, devices),
         Ok(Job::List { image }) => list_file(alloc, image, files, out),
         Ok(Job::Sample { seed, steps }) => run_sample(alloc, seed, steps, out),
         Ok(Job::Migrate { image, out: name }) => migrate_file(alloc, image, name, files, out),
         Ok(Job::Audit { trace }) => audit_file(alloc, trace, files, out),
-        Ok(
-            Job::Save {
-                image,
-                script,
-                out: name,
-                steps,
-            },
-        ) => save_file(alloc, image, script, name, steps, files, out, devices),
-        Ok(
-            Job::Resume {
-                image,
-                script,
-                state,
-                steps,
-                detail,
-            },
-        ) => resume_files(
-            alloc, image, script, state, steps, detail, files, out, devices,
-        ),
-        Ok(
-            Job::Debug {
-                image,
-                script,
-                commands,
-            },
-        ) => debug_files(alloc, image, script, commands, files, out, devices),
-        Ok(
-            Job::Cover {
-                image,
-                script,
-                steps,
-                labels,
-            },
-        ) => cover_files(alloc, image, script, steps, labels, files, out, devices),
-        Ok(
-            Job::Sweep {
-                image,
-                script,
-                arrival,
-                from,
-                to,
-                steps,
-                memory,
-            },
-        ) => sweep_files(
-            alloc, image, script, arrival, from, to, steps, memory, files, out, devices,
-        ),
-        Ok(
-            Job::Timeline {
-                image,
-                script,
-                steps,
-                names,
-            },
-        ) => timeline_files(alloc, image, script, steps, names, files, out, devices),
-        Ok(
-            Job::Live {
-                image,
-                script,
-                commands,
-            },
-        ) => live_files(alloc, image, script, commands, files, out, devices),
-        Ok(
-            Job::Picture {
-                image,
-                script,
-                out: name,
-                steps,
-                names,
-            },
-        ) => picture_files(
-            alloc, image, script, name, steps, names, files, out, devices,
-        ),
-        Ok(
-            Job::Lcov {
-                app,
-                script,
-                out: name,
-                steps,
-            },
-        ) => lcov_files(alloc, app, script, name, steps, files, out, devices),
+        Ok(Job::Save(job)) => save_file(alloc, &job, files, out, devices),
+        Ok(Job::Resume(job)) => resume_files(alloc, &job, files, out, devices),
+        Ok(Job::Debug(job)) => debug_files(alloc, &job, files, out, devices),
+        Ok(Job::Cover(job)) => cover_files(alloc, &job, files, out, devices),
+        Ok(Job::Sweep(job)) => sweep_files(alloc, &job, files, out, devices),
+        Ok(Job::Timeline(job)) => timeline_files(alloc, &job, files, out, devices),
+        Ok(Job::Live(job)) => live_files(alloc, &job, files, out, devices),
+        Ok(Job::Picture(job)) => picture_files(alloc, &job, files, out, devices),
+        Ok(Job::Lcov(job)) => lcov_files(alloc, &job, files, out, devices),
         Ok(Job::Help { about }) => help(about, out),
         Err(Refusal::NotAccepted) => tell_usage(out),
         Err(Refusal::Memory) => 5,

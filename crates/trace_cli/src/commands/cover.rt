@@ -4,6 +4,7 @@ ghost use Rattle.kernel_abi.specs.Devices.{AreFresh};
 ghost use Rattle.board_model.specs.Script.{Scenario, start_of};
 ghost use Rattle.board_core.specs.Data.{boxed};
 ghost use Rattle.board_core.specs.Stands.{Stands, StandsForSome, turns_of};
+ghost use Rattle.command_line.specs.Asking.{asked_cover};
 ghost use Rattle.command_line.specs.CommandLine.{cover as cover_job};
 ghost use Rattle.thumb_asm.specs.Listed.{labels_in};
 ghost use Rattle.outside_io.specs.Seen.{OnlyReads};
@@ -12,6 +13,7 @@ ghost use Rattle.trace_cli.specs.Answer.{AnswersJob};
 
 use board_core::Board;
 use command_files::{prepare_app, prepare_run, status_by, tell_named_fault};
+use command_line::CoverJob;
 use devices::Device;
 use outside_io::{Files, Sink};
 use run_cover::{Cover, write_cover};
@@ -45,24 +47,22 @@ fn cover_board<S: Sink>(
 // `cover IMAGE SCRIPT --steps N`.
 fn cover_image<F: Files, S: Sink>(
     alloc: Global,
-    image: &str,
-    script: &str,
-    steps: u32,
+    job: &CoverJob,
     files: &mut F,
     out: &mut S,
     devices: Vec<Box<dyn Device>>,
 ) -> u8
     requires fresh { AreFresh (map shown devices.items) }
-    requires few { steps ≤ 1000000000 }
+    requires few { job.now.steps ≤ 1000000000 }
     ensures answer { AnswersJob (map shown devices.items)
-        (cover_job image.now script.now steps false) (F.seen files.old) (F.seen files.new)
-        (S.seen out.old) (S.seen out.new) result }
+        (cover_job job.now.image.now job.now.script.now job.now.steps false) (F.seen files.old)
+        (F.seen files.new) (S.seen out.old) (S.seen out.new) result }
     ensures only_reads { OnlyReads (F.seen files.old) (F.seen files.new) }
 {
-    match prepare_run(alloc, files, image, script, devices) {
+    match prepare_run(alloc, files, job.image, job.script, devices) {
         Ok(board) => {
             let mut board = board;
-            cover_board(alloc, &mut board, steps, &[], out)
+            cover_board(alloc, &mut board, job.steps, &[], out)
         }
         Err(named_fault) => tell_named_fault(alloc, &named_fault, out),
     }
@@ -71,23 +71,22 @@ fn cover_image<F: Files, S: Sink>(
 // `cover APP SCRIPT --steps N --labels`.
 fn cover_app<F: Files, S: Sink>(
     alloc: Global,
-    app: &str,
-    script: &str,
-    steps: u32,
+    job: &CoverJob,
     files: &mut F,
     out: &mut S,
     devices: Vec<Box<dyn Device>>,
 ) -> u8
     requires fresh { AreFresh (map shown devices.items) }
-    requires few { steps ≤ 1000000000 }
-    ensures answer { AnswersJob (map shown devices.items) (cover_job app.now script.now steps true)
-        (F.seen files.old) (F.seen files.new) (S.seen out.old) (S.seen out.new) result }
+    requires few { job.now.steps ≤ 1000000000 }
+    ensures answer { AnswersJob (map shown devices.items)
+        (cover_job job.now.image.now job.now.script.now job.now.steps true) (F.seen files.old)
+        (F.seen files.new) (S.seen out.old) (S.seen out.new) result }
     ensures only_reads { OnlyReads (F.seen files.old) (F.seen files.new) }
 {
-    match prepare_app(alloc, files, app, script, true, devices) {
+    match prepare_app(alloc, files, job.image, job.script, true, devices) {
         Ok((board, built)) => {
             let mut board = board;
-            cover_board(alloc, &mut board, steps, &built.lines.labels, out)
+            cover_board(alloc, &mut board, job.steps, &built.lines.labels, out)
         }
         Err(named_fault) => tell_named_fault(alloc, &named_fault, out),
     }
@@ -97,24 +96,20 @@ fn cover_app<F: Files, S: Sink>(
 /// application.
 pub fn cover_files<F: Files, S: Sink>(
     alloc: Global,
-    image: &str,
-    script: &str,
-    steps: u32,
-    labels: bool,
+    job: &CoverJob,
     files: &mut F,
     out: &mut S,
     devices: Vec<Box<dyn Device>>,
 ) -> u8
     requires fresh { AreFresh (map shown devices.items) }
-    requires few { steps ≤ 1000000000 }
-    ensures answer { AnswersJob (map shown devices.items)
-        (cover_job image.now script.now steps labels) (F.seen files.old) (F.seen files.new)
-        (S.seen out.old) (S.seen out.new) result }
+    requires few { job.now.steps ≤ 1000000000 }
+    ensures answer { AnswersJob (map shown devices.items) (asked_cover job.now) (F.seen files.old)
+        (F.seen files.new) (S.seen out.old) (S.seen out.new) result }
     ensures only_reads { OnlyReads (F.seen files.old) (F.seen files.new) }
 {
-    if labels {
-        cover_app(alloc, image, script, steps, files, out, devices)
+    if job.labels {
+        cover_app(alloc, job, files, out, devices)
     } else {
-        cover_image(alloc, image, script, steps, files, out, devices)
+        cover_image(alloc, job, files, out, devices)
     }
 }

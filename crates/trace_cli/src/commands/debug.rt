@@ -6,7 +6,7 @@ ghost use Rattle.board_core.specs.Data.{boxed};
 ghost use Rattle.board_core.specs.Stands.{Stands};
 ghost use Rattle.debug_core.specs.Listed.{listed};
 ghost use Rattle.debug_core.specs.Reading.{commands_or_fault};
-ghost use Rattle.command_line.specs.CommandLine.{debug as debug_job};
+ghost use Rattle.command_line.specs.Asking.{asked_debug};
 ghost use Rattle.outside_io.specs.Seen.{OnlyReads};
 ghost use Rattle.command_files.specs.Contents.{file_limit};
 ghost use Rattle.trace_cli.specs.Contents.{commands_refusal};
@@ -23,6 +23,7 @@ use command_files::{
     FILE_LIMIT, FileFault, NamedFault, fault_named, read_contents, read_image, read_script,
     refused_at_number, tell_named_fault,
 };
+use command_line::DebugJob;
 use debug_core::{CommandFault, Commands, Debugger};
 use devices::Device;
 use outside_io::{Files, Sink};
@@ -62,35 +63,31 @@ fn read_commands<F: Files>(alloc: Global, files: &mut F, name: &str) -> Result<C
     }
 }
 
-// The board at the start of the run of the image and the script under these names, with devices,
-// and the commands under the third name.
+// The board at the start of the run of the job's image and script, with devices, and the job's
+// commands.
 fn prepare_debug<F: Files>(
     alloc: Global,
     files: &mut F,
-    image: &str,
-    script: &str,
-    commands: &str,
+    job: &DebugJob,
     devices: Vec<Box<dyn Device>>,
 ) -> Result<(Board, Commands), NamedFault>
     requires fresh { AreFresh (map shown devices.items) }
     ensures ready { IfOk result (λ p. IsDebugReady shown (map shown devices.items)
-        (debug_job image.now script.now commands.now) (F.seen files.old).contents (listed p.1)
-        p.0) }
+        (asked_debug job.now) (F.seen files.old).contents (listed p.1) p.0) }
     ensures named_fault { IfErr result
-        (IsNamedFaultIn (files_of (map shown devices.items)
-        (debug_job image.now script.now commands.now))
+        (IsNamedFaultIn (files_of (map shown devices.items) (asked_debug job.now))
         (F.seen files.old) (F.seen files.new)) }
     ensures only_reads { OnlyReads (F.seen files.old) (F.seen files.new) }
 {
-    let image_data = match read_image(alloc, files, image) {
+    let image_data = match read_image(alloc, files, job.image) {
         Ok(image_data) => image_data,
         Err(named_fault) => return Err(named_fault),
     };
-    let events = match read_script(alloc, files, script) {
+    let events = match read_script(alloc, files, job.script) {
         Ok(events) => events,
         Err(named_fault) => return Err(named_fault),
     };
-    let commands = match read_commands(alloc, files, commands) {
+    let commands = match read_commands(alloc, files, job.commands) {
         Ok(commands) => commands,
         Err(named_fault) => return Err(named_fault),
     };
@@ -119,20 +116,17 @@ fn carry_out<S: Sink>(alloc: Global, board: Board, commands: &Commands, out: &mu
 /// `debug IMAGE SCRIPT COMMANDS`.
 pub fn debug_files<F: Files, S: Sink>(
     alloc: Global,
-    image: &str,
-    script: &str,
-    commands: &str,
+    job: &DebugJob,
     files: &mut F,
     out: &mut S,
     devices: Vec<Box<dyn Device>>,
 ) -> u8
     requires fresh { AreFresh (map shown devices.items) }
-    ensures answer { AnswersJob (map shown devices.items)
-        (debug_job image.now script.now commands.now) (F.seen files.old) (F.seen files.new)
-        (S.seen out.old) (S.seen out.new) result }
+    ensures answer { AnswersJob (map shown devices.items) (asked_debug job.now) (F.seen files.old)
+        (F.seen files.new) (S.seen out.old) (S.seen out.new) result }
     ensures only_reads { OnlyReads (F.seen files.old) (F.seen files.new) }
 {
-    match prepare_debug(alloc, files, image, script, commands, devices) {
+    match prepare_debug(alloc, files, job, devices) {
         Ok((board, commands)) => carry_out(alloc, board, &commands, out),
         Err(named_fault) => tell_named_fault(alloc, &named_fault, out),
     }

@@ -5,7 +5,7 @@ ghost use Rattle.app_toml.specs.Held.{app_of};
 ghost use Rattle.board_model.specs.Script.{Scenario, start_of};
 ghost use Rattle.board_core.specs.Data.{boxed};
 ghost use Rattle.board_core.specs.Stands.{Stands, StandsForSome, turns_of};
-ghost use Rattle.command_line.specs.CommandLine.{lcov as lcov_job};
+ghost use Rattle.command_line.specs.Asking.{asked_lcov};
 ghost use Rattle.run_cover.specs.Tracefile.{section_of};
 ghost use Rattle.trace_cli.specs.Answer.{AnswersJob};
 ghost use Rattle.command_files.specs.Answer.{Tells};
@@ -16,6 +16,7 @@ ghost use Rattle.trace_cli.specs.Verdict.{traced};
 use app_toml::App;
 use board_core::Board;
 use command_files::{SourceLines, line_of_traced, prepare_app, put_told, tell_named_fault};
+use command_line::LcovJob;
 use devices::Device;
 use outside_io::{Files, Sink};
 use run_cover::{PlaceCounts, Source, write_tracefile};
@@ -58,17 +59,16 @@ fn trace_board<F: Files, S: Sink>(
     alloc: Global,
     board: &mut Board,
     sources: &[Source<'_>],
-    name: &str,
-    steps: u32,
+    job: &LcovJob,
     files: &mut F,
     out: &mut S,
 ) -> u8
     requires stood { StandsForSome (boxed shown) board.old }
     requires fresh { turns_of board.old ≡ 0 }
-    requires few { steps ≤ 1000000000 }
+    requires few { job.now.steps ≤ 1000000000 }
     ensures tells { (x : Scenario) → Stands (boxed shown) x board.old (start_of x)
         → Tells (F.seen files.old) (F.seen files.new) (S.seen out.old) (S.seen out.new)
-        (traced name.now steps (map section_of sources.now) x) result }
+        (traced job.now.out.now job.now.steps (map section_of sources.now) x) result }
     ensures reads { (F.seen files.new).read_faults ≡ (F.seen files.old).read_faults }
     ensures puts { (F.seen files.old).put_faults ≤ (F.seen files.new).put_faults }
 {
@@ -76,7 +76,7 @@ fn trace_board<F: Files, S: Sink>(
         Ok(counts) => counts,
         Err(_) => return 5,
     };
-    let text = match write_tracefile(alloc, board, steps, &mut counts, sources) {
+    let text = match write_tracefile(alloc, board, job.steps, &mut counts, sources) {
         Ok((text, _)) => text,
         Err(_) => return 5,
     };
@@ -85,7 +85,7 @@ fn trace_board<F: Files, S: Sink>(
         Ok(line) => line,
         Err(_) => return 5,
     };
-    put_told(bytes, name, line.as_bytes(), files, out)
+    put_told(bytes, job.out, line.as_bytes(), files, out)
 }
 
 // The same for an application whose lines are known.
@@ -94,22 +94,22 @@ fn trace_app<F: Files, S: Sink>(
     board: &mut Board,
     app: &App,
     lines: &SourceLines,
-    name: &str,
-    steps: u32,
+    job: &LcovJob,
     files: &mut F,
     out: &mut S,
 ) -> u8
     requires stood { StandsForSome (boxed shown) board.old }
     requires fresh { turns_of board.old ≡ 0 }
-    requires few { steps ≤ 1000000000 }
+    requires few { job.now.steps ≤ 1000000000 }
     ensures tells { (x : Scenario) → Stands (boxed shown) x board.old (start_of x) →
         Tells (F.seen files.old) (F.seen files.new) (S.seen out.old) (S.seen out.new)
-        (traced name.now steps (sections_by (app_of app.now) (kept_lines lines.now)) x) result }
+        (traced job.now.out.now job.now.steps
+        (sections_by (app_of app.now) (kept_lines lines.now)) x) result }
     ensures reads { (F.seen files.new).read_faults ≡ (F.seen files.old).read_faults }
     ensures puts { (F.seen files.old).put_faults ≤ (F.seen files.new).put_faults }
 {
     match sources_of(alloc, app, lines) {
-        Ok(sources) => trace_board(alloc, board, &sources, name, steps, files, out),
+        Ok(sources) => trace_board(alloc, board, &sources, job, files, out),
         Err(_) => 5,
     }
 }
@@ -117,35 +117,22 @@ fn trace_app<F: Files, S: Sink>(
 /// `lcov APP SCRIPT OUT --steps N`.
 pub fn lcov_files<F: Files, S: Sink>(
     alloc: Global,
-    app: &str,
-    script: &str,
-    name: &str,
-    steps: u32,
+    job: &LcovJob,
     files: &mut F,
     out: &mut S,
     devices: Vec<Box<dyn Device>>,
 ) -> u8
     requires fresh { AreFresh (map shown devices.items) }
-    requires few { steps ≤ 1000000000 }
-    ensures answer { AnswersJob (map shown devices.items)
-        (lcov_job app.now script.now name.now steps) (F.seen files.old) (F.seen files.new)
-        (S.seen out.old) (S.seen out.new) result }
+    requires few { job.now.steps ≤ 1000000000 }
+    ensures answer { AnswersJob (map shown devices.items) (asked_lcov job.now) (F.seen files.old)
+        (F.seen files.new) (S.seen out.old) (S.seen out.new) result }
     ensures later { (F.seen files.old).read_faults ≤ (F.seen files.new).read_faults }
     ensures puts { (F.seen files.old).put_faults ≤ (F.seen files.new).put_faults }
 {
-    match prepare_app(alloc, files, app, script, true, devices) {
+    match prepare_app(alloc, files, job.app, job.script, true, devices) {
         Ok((board, built)) => {
             let mut board = board;
-            trace_app(
-                alloc,
-                &mut board,
-                &built.app,
-                &built.lines,
-                name,
-                steps,
-                files,
-                out,
-            )
+            trace_app(alloc, &mut board, &built.app, &built.lines, job, files, out)
         }
         Err(named_fault) => tell_named_fault(alloc, &named_fault, out),
     }

@@ -4,13 +4,14 @@ ghost use Rattle.kernel_abi.specs.Devices.{AreFresh};
 ghost use Rattle.board_model.specs.Script.{Scenario, start_of};
 ghost use Rattle.board_core.specs.Data.{boxed};
 ghost use Rattle.board_core.specs.Stands.{Stands};
-ghost use Rattle.command_line.specs.CommandLine.{live as live_job};
+ghost use Rattle.command_line.specs.Asking.{asked_live};
 ghost use Rattle.outside_io.specs.Seen.{OnlyReads};
 ghost use Rattle.trace_cli.specs.Pushed.{SaysLive};
 ghost use Rattle.trace_cli.specs.Answer.{AnswersJob};
 
 use board_core::Board;
 use command_files::{line_of_unread, prepare_run, tell, tell_named_fault};
+use command_line::LiveJob;
 use debug_core::{Debugger, LiveFault};
 use devices::Device;
 use outside_io::{Files, Sink};
@@ -50,21 +51,18 @@ fn carry_out<F: Files, S: Sink>(
 /// `live IMAGE SCRIPT COMMANDS`.
 pub fn live_files<F: Files, S: Sink>(
     alloc: Global,
-    image: &str,
-    script: &str,
-    commands: &str,
+    job: &LiveJob,
     files: &mut F,
     out: &mut S,
     devices: Vec<Box<dyn Device>>,
 ) -> u8
     requires fresh { AreFresh (map shown devices.items) }
-    ensures answer { AnswersJob (map shown devices.items)
-        (live_job image.now script.now commands.now) (F.seen files.old) (F.seen files.new)
-        (S.seen out.old) (S.seen out.new) result }
+    ensures answer { AnswersJob (map shown devices.items) (asked_live job.now) (F.seen files.old)
+        (F.seen files.new) (S.seen out.old) (S.seen out.new) result }
     ensures only_reads { OnlyReads (F.seen files.old) (F.seen files.new) }
 {
-    match prepare_run(alloc, files, image, script, devices) {
-        Ok(board) => carry_out(alloc, board, files, commands, out),
+    match prepare_run(alloc, files, job.image, job.script, devices) {
+        Ok(board) => carry_out(alloc, board, files, job.commands, out),
         Err(named_fault) => tell_named_fault(alloc, &named_fault, out),
     }
 }

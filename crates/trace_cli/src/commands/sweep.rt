@@ -1,12 +1,12 @@
 //! A sweep: from its files to its lines.
-ghost use Rattle.std.specs.Prelude.{◌≡◌, ◌≤◌, ℕ, Bool, List, None, IfOk, IfErr, length, map};
+ghost use Rattle.std.specs.Prelude.{◌≡◌, ◌≤◌, List, None, IfOk, IfErr, length, map};
 ghost use Rattle.kernel_abi.specs.Devices.{AreFresh};
 ghost use Rattle.run_script.specs.Events.{script_data};
 ghost use Rattle.run_script.specs.Scripts.{Listed};
 ghost use Rattle.board_model.specs.Script.{Scenario};
 ghost use Rattle.board_core.specs.Data.{boxed};
 ghost use Rattle.sweep_core.specs.Sweeping.{IsReady as IsReadyToSweep, asked};
-ghost use Rattle.command_line.specs.CommandLine.{sweep as sweep_job};
+ghost use Rattle.command_line.specs.Asking.{asked_sweep};
 ghost use Rattle.outside_io.specs.Seen.{OnlyReads};
 ghost use Rattle.command_files.specs.Contents.{file_limit, script_of};
 ghost use Rattle.trace_cli.specs.Contents.{arrival_refusal};
@@ -23,6 +23,7 @@ use command_files::{
     FILE_LIMIT, FileFault, NamedFault, fault_named, read_contents, read_image, read_script,
     refused_at_number, script_in, tell_named_fault,
 };
+use command_line::SweepJob;
 use devices::Device;
 use outside_io::{Files, Sink};
 use run_script::Script;
@@ -70,36 +71,31 @@ fn read_arrival<F: Files>(alloc: Global, files: &mut F, name: &str) -> Result<Sc
     }
 }
 
-// The sweeper at the start of the run of the image and the script under these names, with devices,
-// and the arrival under the third name.
+// The sweeper at the start of the run of the job's image and script, with devices and the job's
+// arrival.
 fn prepare_sweep<F: Files>(
     alloc: Global,
     files: &mut F,
-    image: &str,
-    script: &str,
-    arrival: &str,
+    job: &SweepJob,
     devices: Vec<Box<dyn Device>>,
 ) -> Result<Sweeper, NamedFault>
     requires fresh { AreFresh (map shown devices.items) }
-    ensures ready { (from to limit : ℕ) (mem : Bool)
-        → IfOk result (IsSweepReady shown (map shown devices.items)
-        (sweep_job image.now script.now arrival.now from to limit mem) (F.seen files.old).contents
-        from to limit mem) }
-    ensures named_fault { (from to limit : ℕ) (mem : Bool) →
-        IfErr result (IsNamedFaultIn (files_of (map shown devices.items)
-        (sweep_job image.now script.now arrival.now from to limit mem)) (F.seen files.old)
-        (F.seen files.new)) }
+    ensures ready { IfOk result (IsSweepReady shown (map shown devices.items) (asked_sweep job.now)
+        (F.seen files.old).contents job.now.from job.now.to job.now.steps job.now.memory) }
+    ensures named_fault { IfErr result
+        (IsNamedFaultIn (files_of (map shown devices.items) (asked_sweep job.now))
+        (F.seen files.old) (F.seen files.new)) }
     ensures only_reads { OnlyReads (F.seen files.old) (F.seen files.new) }
 {
-    let image_data = match read_image(alloc, files, image) {
+    let image_data = match read_image(alloc, files, job.image) {
         Ok(image_data) => image_data,
         Err(named_fault) => return Err(named_fault),
     };
-    let events = match read_script(alloc, files, script) {
+    let events = match read_script(alloc, files, job.script) {
         Ok(events) => events,
         Err(named_fault) => return Err(named_fault),
     };
-    let arrival = match read_arrival(alloc, files, arrival) {
+    let arrival = match read_arrival(alloc, files, job.arrival) {
         Ok(arrival) => arrival,
         Err(named_fault) => return Err(named_fault),
     };
@@ -114,24 +110,17 @@ fn prepare_sweep<F: Files>(
 }
 
 // Writes the sweep, from a sweeper at its start.
-fn tell_sweep<S: Sink>(
-    sweeper: &mut Sweeper,
-    from: u32,
-    to: u32,
-    steps: u32,
-    memory: bool,
-    out: &mut S,
-) -> u8
+fn tell_sweep<S: Sink>(sweeper: &mut Sweeper, job: &SweepJob, out: &mut S) -> u8
     requires ready { (x : Scenario) × (arrival : List Listed)
         × IsReadyToSweep (boxed shown) x arrival sweeper.old }
-    requires range { to ≤ 1000000000 }
-    requires few { steps ≤ 1000000000 }
+    requires range { job.now.to ≤ 1000000000 }
+    requires few { job.now.steps ≤ 1000000000 }
     ensures { (x : Scenario) (arrival : List Listed) →
-        IsReadyToSweep (boxed shown) x arrival sweeper.old
-        → Pushed (S.seen out.old) (S.seen out.new) (swept x (asked arrival from to steps memory))
-        result }
+        IsReadyToSweep (boxed shown) x arrival sweeper.old → Pushed (S.seen out.old)
+        (S.seen out.new)
+        (swept x (asked arrival job.now.from job.now.to job.now.steps job.now.memory)) result }
 {
-    match sweeper.sweep(from, to, steps, memory, out) {
+    match sweeper.sweep(job.from, job.to, job.steps, job.memory, out) {
         Ok(true) => 8,
         Ok(false) => 0,
         Err(_) => 4,
@@ -141,29 +130,22 @@ fn tell_sweep<S: Sink>(
 /// `sweep IMAGE SCRIPT ARRIVAL FROM TO --steps N [--mem]`.
 pub fn sweep_files<F: Files, S: Sink>(
     alloc: Global,
-    image: &str,
-    script: &str,
-    arrival: &str,
-    from: u32,
-    to: u32,
-    steps: u32,
-    memory: bool,
+    job: &SweepJob,
     files: &mut F,
     out: &mut S,
     devices: Vec<Box<dyn Device>>,
 ) -> u8
     requires fresh { AreFresh (map shown devices.items) }
-    requires range { to ≤ 1000000000 }
-    requires few { steps ≤ 1000000000 }
-    ensures answer { AnswersJob (map shown devices.items)
-        (sweep_job image.now script.now arrival.now from to steps memory) (F.seen files.old)
+    requires range { job.now.to ≤ 1000000000 }
+    requires few { job.now.steps ≤ 1000000000 }
+    ensures answer { AnswersJob (map shown devices.items) (asked_sweep job.now) (F.seen files.old)
         (F.seen files.new) (S.seen out.old) (S.seen out.new) result }
     ensures only_reads { OnlyReads (F.seen files.old) (F.seen files.new) }
 {
-    match prepare_sweep(alloc, files, image, script, arrival, devices) {
+    match prepare_sweep(alloc, files, job, devices) {
         Ok(sweeper) => {
             let mut sweeper = sweeper;
-            tell_sweep(&mut sweeper, from, to, steps, memory, out)
+            tell_sweep(&mut sweeper, job, out)
         }
         Err(named_fault) => tell_named_fault(alloc, &named_fault, out),
     }

@@ -1,10 +1,10 @@
 //! A run, written as a timeline.
-ghost use Rattle.std.specs.Prelude.{◌≡◌, ◌≤◌, length, map, option_map, string_bytes};
+ghost use Rattle.std.specs.Prelude.{◌≡◌, ◌≤◌, length, map, string_bytes};
 ghost use Rattle.kernel_abi.specs.Devices.{AreFresh};
 ghost use Rattle.board_model.specs.Script.{Scenario, start_of};
 ghost use Rattle.board_core.specs.Data.{boxed};
 ghost use Rattle.board_core.specs.Stands.{Stands, StandsForSome, count_of, turns_of};
-ghost use Rattle.command_line.specs.CommandLine.{timeline as timeline_job};
+ghost use Rattle.command_line.specs.Asking.{asked_timeline};
 ghost use Rattle.outside_io.specs.Seen.{OnlyReads};
 ghost use Rattle.command_files.specs.Pushed.{Says};
 ghost use Rattle.trace_cli.specs.Verdict.{timed};
@@ -12,6 +12,7 @@ ghost use Rattle.trace_cli.specs.Answer.{AnswersJob};
 
 use board_core::Board;
 use command_files::{prepare_named, status_by, tell_named_fault};
+use command_line::TimelineJob;
 use devices::Device;
 use outside_io::{Files, Sink};
 use run_lanes::{TimelineFault, write_timeline};
@@ -42,25 +43,21 @@ fn time_board<S: Sink>(
 /// `timeline IMAGE SCRIPT --steps N [--names APP]`.
 pub fn timeline_files<F: Files, S: Sink>(
     alloc: Global,
-    image: &str,
-    script: &str,
-    steps: u32,
-    names: Option<&str>,
+    job: &TimelineJob,
     files: &mut F,
     out: &mut S,
     devices: Vec<Box<dyn Device>>,
 ) -> u8
     requires fresh { AreFresh (map shown devices.items) }
-    requires few { steps ≤ 1000000000 }
-    ensures answer { AnswersJob (map shown devices.items)
-        (timeline_job image.now script.now steps (option_map (λ n. n.now) names.entry))
+    requires few { job.now.steps ≤ 1000000000 }
+    ensures answer { AnswersJob (map shown devices.items) (asked_timeline job.now)
         (F.seen files.old) (F.seen files.new) (S.seen out.old) (S.seen out.new) result }
     ensures only_reads { OnlyReads (F.seen files.old) (F.seen files.new) }
 {
-    match prepare_named(alloc, files, image, script, names, devices) {
+    match prepare_named(alloc, files, job.image, job.script, job.names, devices) {
         Ok((board, names)) => {
             let mut board = board;
-            time_board(alloc, &mut board, &names, steps, out)
+            time_board(alloc, &mut board, &names, job.steps, out)
         }
         Err(named_fault) => tell_named_fault(alloc, &named_fault, out),
     }

@@ -174,10 +174,10 @@ timeline_files-requires g c = record { fresh = c.requires.fresh; few = rw c.in-O
 
 pub sweep_files-requires : goal.sweep_files-requires
 sweep_files-requires g c =
-    let most : max (max c.in-Ok-Sweep.from c.in-Ok-Sweep.to) c.in-Ok-Sweep.steps ≤ 1000000000 = rw c.in-Ok-Sweep.field-0-is at c.in-Ok-Sweep.ensures.few in
-    let range = le-max_left (max c.in-Ok-Sweep.from c.in-Ok-Sweep.to) c.in-Ok-Sweep.steps in
-    let to = le-max_right c.in-Ok-Sweep.from c.in-Ok-Sweep.to in
-    let steps = le-max_right (max c.in-Ok-Sweep.from c.in-Ok-Sweep.to) c.in-Ok-Sweep.steps in
+    let most : max (max c.in-Ok-Sweep.job.from c.in-Ok-Sweep.job.to) c.in-Ok-Sweep.job.steps ≤ 1000000000 = rw c.in-Ok-Sweep.field-0-is at c.in-Ok-Sweep.ensures.few in
+    let range = le-max_left (max c.in-Ok-Sweep.job.from c.in-Ok-Sweep.job.to) c.in-Ok-Sweep.job.steps in
+    let to = le-max_right c.in-Ok-Sweep.job.from c.in-Ok-Sweep.job.to in
+    let steps = le-max_right (max c.in-Ok-Sweep.job.from c.in-Ok-Sweep.job.to) c.in-Ok-Sweep.job.steps in
     record { fresh = c.requires.fresh; range = omega (arith, most, range, to); few = omega (arith, most, steps) }
 
 pub run_sample-requires : goal.run_sample-requires

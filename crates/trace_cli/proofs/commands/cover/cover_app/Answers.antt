@@ -10,7 +10,7 @@ use Rattle.trace_cli.proofs.commands.cover.cover_app.Goals as goal
 
 pub cover_board-requires : goal.cover_board-requires
 cover_board-requires g c =
-    record { stood = app_stood c.args.app.now c.args.script.now (g.F.Files.seen c.args.files.now).contents c.in-Ok.board _ _ _ c.in-Ok.ensures.set; fresh = c.in-Ok.ensures.set.set.turns; few = c.requires.few }
+    record { stood = app_stood c.args.job.now.image.now c.args.job.now.script.now (g.F.Files.seen c.args.files.now).contents c.in-Ok.board _ _ _ c.in-Ok.ensures.set; fresh = c.in-Ok.ensures.set.set.turns; few = c.requires.few }
 
 pub returns-in-Ok-clause-answer : goal.returns-in-Ok-clause-answer
 returns-in-Ok-clause-answer g c =
@@ -18,7 +18,7 @@ returns-in-Ok-clause-answer g c =
     let b = g.F.Files.seen c.prepare_app.new.files in
     let w = g.S.Sink.seen c.args.out.now in
     let w' = g.S.Sink.seen c.cover_board.new.out in
-    answers_labelled c.args.app.now c.args.script.now a b w w' c.args.steps c.in-Ok.board (app_of c.in-Ok.built.app) c.in-Ok.built.lines c.cover_board.result c.in-Ok.ensures.only_reads.contents c.in-Ok.ensures.set
+    answers_labelled c.args.job.now.image.now c.args.job.now.script.now a b w w' c.args.job.now.steps c.in-Ok.board (app_of c.in-Ok.built.app) c.in-Ok.built.lines c.cover_board.result c.in-Ok.ensures.only_reads.contents c.in-Ok.ensures.set
     (labels_in c.deref.result.now) (ap (λ (ls : List Label). labels_in ls) c.deref.ensures.value) c.cover_board.ensures
 
 pub returns-in-Err-clause-answer : goal.returns-in-Err-clause-answer
@@ -27,5 +27,5 @@ returns-in-Err-clause-answer g c =
     let b = g.F.Files.seen c.prepare_app.new.files in
     let w = g.S.Sink.seen c.args.out.now in
     let w' = g.S.Sink.seen c.tell_named_fault.new.out in
-    answers_named_fault (cover c.args.app.now c.args.script.now c.args.steps true) a b w w' c.in-Err.named_fault c.tell_named_fault.result (λ v. tt) c.in-Err.ensures.only_reads.contents
-    (c.in-Err.ensures.named_fault _ (labels_cover c.requires.fresh c.args.app.now c.args.script.now c.args.steps)) c.tell_named_fault.ensures
+    answers_named_fault (cover c.args.job.now.image.now c.args.job.now.script.now c.args.job.now.steps true) a b w w' c.in-Err.named_fault c.tell_named_fault.result (λ v. tt) c.in-Err.ensures.only_reads.contents
+    (c.in-Err.ensures.named_fault _ (labels_cover c.requires.fresh c.args.job.now.image.now c.args.job.now.script.now c.args.job.now.steps)) c.tell_named_fault.ensures

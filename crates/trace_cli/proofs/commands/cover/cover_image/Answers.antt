@@ -7,7 +7,7 @@ use Rattle.trace_cli.proofs.commands.cover.cover_image.Goals as goal
 
 pub cover_board-requires : goal.cover_board-requires
 cover_board-requires g c =
-    record { stood = set_stood c.args.image.now c.args.script.now (g.F.Files.seen c.args.files.now).contents c.in-Ok.board c.in-Ok.ensures.set; fresh = c.in-Ok.ensures.set.set.turns; few = c.requires.few }
+    record { stood = set_stood c.args.job.now.image.now c.args.job.now.script.now (g.F.Files.seen c.args.files.now).contents c.in-Ok.board c.in-Ok.ensures.set; fresh = c.in-Ok.ensures.set.set.turns; few = c.requires.few }
 
 pub returns-in-Ok-clause-answer : goal.returns-in-Ok-clause-answer
 returns-in-Ok-clause-answer g c =
@@ -15,7 +15,7 @@ returns-in-Ok-clause-answer g c =
     let b = g.F.Files.seen c.prepare_run.new.files in
     let w = g.S.Sink.seen c.args.out.now in
     let w' = g.S.Sink.seen c.cover_board.new.out in
-    answers_covered c.args.image.now c.args.script.now a b w w' c.args.steps c.in-Ok.board c.cover_board.result c.in-Ok.ensures.only_reads.contents c.in-Ok.ensures.set c.cover_board.ensures
+    answers_covered c.args.job.now.image.now c.args.job.now.script.now a b w w' c.args.job.now.steps c.in-Ok.board c.cover_board.result c.in-Ok.ensures.only_reads.contents c.in-Ok.ensures.set c.cover_board.ensures
 
 pub returns-in-Err-clause-answer : goal.returns-in-Err-clause-answer
 returns-in-Err-clause-answer g c =
@@ -23,5 +23,5 @@ returns-in-Err-clause-answer g c =
     let b = g.F.Files.seen c.prepare_run.new.files in
     let w = g.S.Sink.seen c.args.out.now in
     let w' = g.S.Sink.seen c.tell_named_fault.new.out in
-    answers_named_fault (cover c.args.image.now c.args.script.now c.args.steps false) a b w w' c.in-Err.named_fault c.tell_named_fault.result (λ v. tt) c.in-Err.ensures.only_reads.contents
-    (c.in-Err.ensures.named_fault _ (covers c.requires.fresh c.args.image.now c.args.script.now c.args.steps)) c.tell_named_fault.ensures
+    answers_named_fault (cover c.args.job.now.image.now c.args.job.now.script.now c.args.job.now.steps false) a b w w' c.in-Err.named_fault c.tell_named_fault.result (λ v. tt) c.in-Err.ensures.only_reads.contents
+    (c.in-Err.ensures.named_fault _ (covers c.requires.fresh c.args.job.now.image.now c.args.job.now.script.now c.args.job.now.steps)) c.tell_named_fault.ensures

@@ -8,43 +8,43 @@ use Rattle.outside_io.proofs.OnlyReading.{reads_more}
 use Rattle.trace_cli.proofs.commands.sweep.prepare_sweep.Goals as goal
 
 pub returns-in-Err-clause-named_fault : goal.returns-in-Err-clause-named_fault
-returns-in-Err-clause-named_fault g c = λ from to limit mem.
+returns-in-Err-clause-named_fault g c =
     let a = g.F.Files.seen c.args.files.now in
     let b = g.F.Files.seen c.read_image.new.files in
-    sweep_image_faults c.requires.fresh a b c.args.image.now c.args.script.now c.args.arrival.now from to limit mem c.in-Err.named_fault c.in-Err.ensures.named_fault
+    sweep_image_faults c.requires.fresh a b c.args.job.now.image.now c.args.job.now.script.now c.args.job.now.arrival.now c.args.job.now.from c.args.job.now.to c.args.job.now.steps c.args.job.now.memory c.in-Err.named_fault c.in-Err.ensures.named_fault
 
 pub returns-in-Err-read_script-clause-named_fault : goal.returns-in-Err-read_script-clause-named_fault
-returns-in-Err-read_script-clause-named_fault g c = λ from to limit mem.
+returns-in-Err-read_script-clause-named_fault g c =
     let a = g.F.Files.seen c.args.files.now in
     let b = g.F.Files.seen c.read_image.new.files in
     let d = g.F.Files.seen c.read_script.new.files in
-    sweep_script_faults c.requires.fresh a b d c.args.image.now c.args.script.now c.args.arrival.now from to limit mem (image_data c.in-Ok.image_data) c.in-Err-read_script.named_fault c.in-Ok.ensures.image c.in-Ok.ensures.only_reads.contents c.in-Ok.ensures.only_reads.later c.in-Err-read_script.ensures.named_fault
+    sweep_script_faults c.requires.fresh a b d c.args.job.now.image.now c.args.job.now.script.now c.args.job.now.arrival.now c.args.job.now.from c.args.job.now.to c.args.job.now.steps c.args.job.now.memory (image_data c.in-Ok.image_data) c.in-Err-read_script.named_fault c.in-Ok.ensures.image c.in-Ok.ensures.only_reads.contents c.in-Ok.ensures.only_reads.later c.in-Err-read_script.ensures.named_fault
 
 pub returns-in-Err-read_arrival-clause-named_fault : goal.returns-in-Err-read_arrival-clause-named_fault
-returns-in-Err-read_arrival-clause-named_fault g c = λ from to limit mem.
+returns-in-Err-read_arrival-clause-named_fault g c =
     let a = g.F.Files.seen c.args.files.now in
     let b = g.F.Files.seen c.read_script.new.files in
     let d = g.F.Files.seen c.read_arrival.new.files in
-    sweep_arrival_faults c.requires.fresh a b d c.args.image.now c.args.script.now c.args.arrival.now from to limit mem (image_data c.in-Ok.image_data) (script_data c.in-Ok-read_script.events) c.in-Err-read_arrival.named_fault c.in-Ok.ensures.image
+    sweep_arrival_faults c.requires.fresh a b d c.args.job.now.image.now c.args.job.now.script.now c.args.job.now.arrival.now c.args.job.now.from c.args.job.now.to c.args.job.now.steps c.args.job.now.memory (image_data c.in-Ok.image_data) (script_data c.in-Ok-read_script.events) c.in-Err-read_arrival.named_fault c.in-Ok.ensures.image
     (script_there c.in-Ok.ensures.only_reads.contents c.in-Ok-read_script.ensures.script) (c.in-Ok-read_script.ensures.only_reads.contents ∙ c.in-Ok.ensures.only_reads.contents) (omega (arith, c.in-Ok.ensures.only_reads.later, c.in-Ok-read_script.ensures.only_reads.later)) c.in-Err-read_arrival.ensures.named_fault
 
 pub returns-in-Err-open-clause-named_fault : goal.returns-in-Err-open-clause-named_fault
-returns-in-Err-open-clause-named_fault g c = λ from to limit mem.
+returns-in-Err-open-clause-named_fault g c =
     let a = g.F.Files.seen c.args.files.now in
     let d = g.F.Files.seen c.read_arrival.new.files in
-    sweep_image_faults c.requires.fresh a d c.args.image.now c.args.script.now c.args.arrival.now from to limit mem named_faults.Memory tt
+    sweep_image_faults c.requires.fresh a d c.args.job.now.image.now c.args.job.now.script.now c.args.job.now.arrival.now c.args.job.now.from c.args.job.now.to c.args.job.now.steps c.args.job.now.memory named_faults.Memory tt
 
 pub returns-in-Ok-open-2-clause-ready : goal.returns-in-Ok-open-2-clause-ready
-returns-in-Ok-open-2-clause-ready g c = λ from to limit mem.
+returns-in-Ok-open-2-clause-ready g c =
     let same = c.in-Ok-read_script.ensures.only_reads.contents ∙ c.in-Ok.ensures.only_reads.contents in
-    sweep_ready (g.F.Files.seen c.args.files.now).contents c.args.image.now c.args.script.now c.args.arrival.now from to limit mem (image_data c.in-Ok.image_data) (script_data c.in-Ok-read_script.events) (script_data c.in-Ok-read_arrival.arrival) c.in-Ok-open-2.sweeper c.in-Ok.ensures.image
+    sweep_ready (g.F.Files.seen c.args.files.now).contents c.args.job.now.image.now c.args.job.now.script.now c.args.job.now.arrival.now c.args.job.now.from c.args.job.now.to c.args.job.now.steps c.args.job.now.memory (image_data c.in-Ok.image_data) (script_data c.in-Ok-read_script.events) (script_data c.in-Ok-read_arrival.arrival) c.in-Ok-open-2.sweeper c.in-Ok.ensures.image
     (script_there c.in-Ok.ensures.only_reads.contents c.in-Ok-read_script.ensures.script) (arrival_there same c.in-Ok-read_arrival.ensures.arrival) (c.in-Ok-open-2.ensures _ c.in-Ok-open.ensures.stands refl)
 
 pub returns-clause-named_fault : goal.returns-clause-named_fault
-returns-clause-named_fault g c = λ from to limit mem.
+returns-clause-named_fault g c =
     let a = g.F.Files.seen c.args.files.now in
     let d = g.F.Files.seen c.read_arrival.new.files in
-    sweep_image_faults c.requires.fresh a d c.args.image.now c.args.script.now c.args.arrival.now from to limit mem named_faults.Memory tt
+    sweep_image_faults c.requires.fresh a d c.args.job.now.image.now c.args.job.now.script.now c.args.job.now.arrival.now c.args.job.now.from c.args.job.now.to c.args.job.now.steps c.args.job.now.memory named_faults.Memory tt
 
 pub returns-in-Err-read_script-clause-only_reads : goal.returns-in-Err-read_script-clause-only_reads
 returns-in-Err-read_script-clause-only_reads g c = reads_more c.in-Ok.ensures.only_reads c.in-Err-read_script.ensures.only_reads
