@@ -199,7 +199,8 @@ impl Columns {
     {
         let mut left = turns;
         'columns: while left > 0 {
-            left -= self.add_some(left, activities);
+            let added = self.add_some(left, activities);
+            left -= added;
         }
     }
 

@@ -1,4 +1,4 @@
-use Rattle.std.proofs.Common.{◌≡◌, ◌≤◌, ◌+◌, ◌-◌, ◌∙◌, ◌++◌, ℕ, List, append_assoc, length, length-append, ap, subst, sym, refl, arith}
+use Rattle.std.proofs.Common.{◌≡◌, ◌≤◌, ◌+◌, ◌-◌, ◌∙◌, ◌++◌, ℕ, List, [], append_assoc, length, length-append, ap, subst, sym, refl, arith}
 use Rattle.std.proofs.lemmas.List.{append-nil}
 use Rattle.run_lanes.specs.declared.activity.Activity.{Activity}
 use Rattle.run_lanes.specs.declared.columns.Columns.{Columns}
@@ -39,12 +39,12 @@ columns-init c = record {
 pub columns-preserved : goal.columns-preserved
 columns-preserved c =
     let i = c.columns.invariant in
-    let within = c.add_some.ensures.within in
+    let within = c.add_some-added.ensures.within in
     record {
       left = omega (arith, i.left);
-      tasks = c.add_some.ensures.tasks ∙ i.tasks;
+      tasks = c.add_some-added.ensures.tasks ∙ i.tasks;
       added = λ turn front few h.
-          more_added c.columns.self c.add_some.new.self (c.args.turns - c.columns.left) c.add_some.result _ turn front c.args.activities.now (omega (arith, i.left, within)) (omega (arith, few, i.left)) (i.added turn front few h) c.add_some.ensures.added;
+          more_added c.columns.self c.add_some-added.new.self (c.args.turns - c.columns.left) c.add_some-added.result _ turn front c.args.activities.now (omega (arith, i.left, within)) (omega (arith, few, i.left)) (i.added turn front few h) c.add_some-added.ensures.added;
     }
 
 pub returns-clause-added : goal.returns-clause-added
