@@ -49,7 +49,7 @@ setup = record {
       record { priority = 4; entry = 134225409; stack = 536878656; start = true; regions = record { base = 134225408; size = 256; rights = record { read = true; write = false; execute = true; device = false } } ∷ record { base = 536878592; size = 256; rights = record { read = true; write = true; execute = false; device = false } } ∷ [] } ∷
       record { priority = 2; entry = 134225665; stack = 536878912; start = true; regions = record { base = 134225664; size = 256; rights = record { read = true; write = false; execute = true; device = false } } ∷ record { base = 536878848; size = 256; rights = record { read = true; write = true; execute = false; device = false } } ∷ [] } ∷
       [];
-  lines = record { line = 0; owner = 1; bits = 1 } ∷ record { line = 1; owner = 2; bits = 1 } ∷ record { line = 2; owner = 3; bits = 1 } ∷ record { line = 3; owner = 4; bits = 1 } ∷ record { line = 4; owner = 5; bits = 1 } ∷ record { line = 5; owner = 6; bits = 1 } ∷ record { line = 6; owner = 7; bits = 1 } ∷ [];
+  lines = record { line = 0; owner = 1; bits = 1; device = 0 } ∷ record { line = 1; owner = 2; bits = 1; device = 0 } ∷ record { line = 2; owner = 3; bits = 1; device = 0 } ∷ record { line = 3; owner = 4; bits = 1; device = 0 } ∷ record { line = 4; owner = 5; bits = 1; device = 0 } ∷ record { line = 5; owner = 6; bits = 1; device = 0 } ∷ record { line = 6; owner = 7; bits = 1; device = 0 } ∷ [];
   fault_bits = 1;
   ram = 8192;
   line_count = 32;
