@@ -107,7 +107,8 @@ pub fn cover_files<F: Files, S: Sink>(
         (F.seen files.new) (S.seen out.old) (S.seen out.new) result }
     ensures only_reads { OnlyReads (F.seen files.old) (F.seen files.new) }
 {
-    if job.labels {
+    let labels = job.labels;
+    if labels {
         cover_app(alloc, job, files, out, devices)
     } else {
         cover_image(alloc, job, files, out, devices)
