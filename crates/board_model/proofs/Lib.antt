@@ -58,3 +58,4 @@ pub mod Answered
 pub mod Enabling
 pub mod AskingLess
 pub mod AnsweredTurns
+pub mod Arrivals

@@ -21,6 +21,8 @@ use Rattle.snapshot.specs.Loaded.{sites}
 use Rattle.snapshot.specs.Saved.{SpellsState, expected_of}
 use Rattle.snapshot.specs.Waits.{state_fault}
 use Rattle.snapshot.proofs.Fixed.{fixed_run}
+use Rattle.snapshot.proofs.Returned.{kinds_in}
+use Rattle.snapshot.proofs.Runs.{counted_reduced, turn_reduced}
 use Rattle.snapshot.proofs.StandsForSome.{as_long}
 use Rattle.board_model.proofs.SameTurn.{first_turn, same_turn}
 use Rattle.debug_core.specs.declared.replay.Checkpoint.{Checkpoint}
@@ -31,18 +33,6 @@ use Rattle.debug_core.proofs.Ahead.{Follows, ahead, ends_at, run_on, sane_at, st
 use Rattle.snapshot.proofs.Few.{few_tasks}
 use Rattle.debug_core.proofs.Bytes.{no_byte}
 use Rattle.debug_core.proofs.Latest.{some_same}
-
-counted_reduced : (s : State) → IsCounted s → IsCounted (reduced s)
-unfolding seen
-counted_reduced s h = record { some = h.some; calls = h.calls; now = h.now }
-
-turn_kept : (s : State) → (reduced s).turn ≡ s.turn
-unfolding seen
-turn_kept s = refl
-
-kinds_in : (ds : List DeviceData) → map (λ (d : DeviceData). d.kind) ds ≡ map (λ (p : Kind × ℕ). p.0) (sites ds)
-kinds_in [] = refl
-kinds_in (d ∷ ds) = ap (λ (ks : List Kind). d.kind ∷ ks) (kinds_in ds)
 
 module _ {X : Type 0} {H : X → Type 0} (shown : Shows X H) (x : Scenario) where
   -- ---- where it stands
@@ -174,7 +164,7 @@ module _ {X : Type 0} {H : X → Type 0} (shown : Shows X H) (x : Scenario) wher
       let u = h.state.0 in
       let s = reduced (state_at x from) in
       let few = few_tasks shown x t.board u h.state.1 in
-      let none = accepted x.setup s bytes (sane-reduced x.setup (state_at x from) (sane_at x h.start from)) saved.counted (omega (arith, turn_kept (state_at x from), saved.reached, saved.most)) (omega arith) saved.spelled in
+      let none = accepted x.setup s bytes (sane-reduced x.setup (state_at x from) (sane_at x h.start from)) saved.counted (omega (arith, turn_reduced (state_at x from), saved.reached, saved.most)) (omega arith) saved.spelled in
       let kinds = ap (λ (ps : List (Kind × ℕ)). map (λ (p : Kind × ℕ). p.0) ps) (sites_from h.start from turn u h.state.2) in
       subst (λ (ks : List Kind). state_fault record (expected_of x.setup s.devices) { kinds = ks } bytes ≡ None) (kinds_in s.devices ∙ kinds ∙ sym (kinds_in u.devices)) none
 

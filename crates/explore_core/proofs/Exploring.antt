@@ -12,14 +12,14 @@ use Rattle.board_model.specs.declared.outcomes.End.{End}
 use Rattle.board_model.specs.declared.outcomes.Level.TheVariants.{Calls}
 use Rattle.board_model.specs.Laid.{with_script}
 use Rattle.board_model.specs.Run.{ending, state_after}
-use Rattle.board_model.specs.SameScripts.{AgreeFor}
+use Rattle.board_model.specs.SameScripts.{AgreeFor, AreEquivalent}
 use Rattle.board_model.specs.Script.{Scenario}
 use Rattle.run_question.specs.declared.asked.Property.{Property}
 use Rattle.explore_core.specs.declared.verdict.Verdict.{Verdict}
 use Rattle.explore_core.specs.declared.verdict.Verdict.TheVariants.{Open, Broken}
 use Rattle.explore_core.specs.Answers.{Asking}
 use Rattle.explore_core.specs.Clean.{AreClean, IsClean}
-use Rattle.explore_core.specs.Exploring.{Ascends, Fork, GoesOnTo, IsAsBefore, IsAsGood, IsCleanSlot, IsBack, IsDecided, IsDecidedBy, IsFork, IsOverBefore, IsSeen, decided, first_onward, onward, pending, pending_of, ways_in, with_onward}
+use Rattle.explore_core.specs.Exploring.{Ascends, Fork, GoesOnTo, IsAsBefore, IsCleanSlot, IsBack, IsDecided, IsDecidedBy, IsFork, IsOverBefore, IsSeen, decided, first_onward, onward, pending, pending_of, ways_in, with_onward}
 use Rattle.explore_core.specs.Playing.{IsKept, after_turns, stepped_after}
 use Rattle.explore_core.specs.declared.seen.Seen.{Seen}
 use Rattle.explore_core.specs.declared.seen.Slot.{Slot}
@@ -48,7 +48,7 @@ module _ (a : Asking) where
 
   -- ## the script of the board has what each schedule has, up to where something may come
 
-  pub board_agrees : (f : Fork) (turn from n : ℕ) (board : ScriptData) (more : Course) → IsFork a f → IsAsGood board (scheduled a.scenario (ways_in a f)).script → IsTaken turn (pending f) more → from + n ≤ turn →
+  pub board_agrees : (f : Fork) (turn from n : ℕ) (board : ScriptData) (more : Course) → IsFork a f → AreEquivalent board (scheduled a.scenario (ways_in a f)).script → IsTaken turn (pending f) more → from + n ≤ turn →
       AgreeFor board (scheduled a.scenario (with_onward a f more)).script from n
   board_agrees f turn from n board more fork good taken le =
       let same = same_before turn (placed a.question.arrivals 0) f.came more (pending f) fork.offered taken in
@@ -95,7 +95,7 @@ module _ (a : Asking) where
     goes_on_same = then_to ∙ sym first_to
 
   pub played_on : (came : Course) (ps : List Placed) (s : State) (to n : ℕ) (board : ScriptData) (old new : List Judged) → Sane a.scenario.setup s → IsFork a record { came = came; passed = ps; rest = [] } →
-      IsAsGood board (scheduled a.scenario (ways_in a record { came = came; passed = ps; rest = [] })).script → 0 < n → (state_after Calls (with_script a.scenario board) n s).turn ≤ to → to ≤ a.limit → NoneBetween (s.turn + 1) to ps →
+      AreEquivalent board (scheduled a.scenario (ways_in a record { came = came; passed = ps; rest = [] })).script → 0 < n → (state_after Calls (with_script a.scenario board) n s).turn ≤ to → to ≤ a.limit → NoneBetween (s.turn + 1) to ps →
       ((k : ℕ) → k < n → ending (with_script a.scenario board) 1 (state_after Calls (with_script a.scenario board) k s) ≡ None) → new ≡ map (after_turns (with_script a.scenario board) n s) old →
       GoesOnTo a record { came = came; passed = ps; rest = [] } record { came = came; passed = []; rest = ps } s (state_after Calls (with_script a.scenario board) n s) old new
   played_on came ps s to n board old new sane fork good some within le none goes is =
@@ -158,7 +158,7 @@ module _ (a : Asking) where
 
   -- ## a run that ends: with each schedule that goes on it ends so
 
-  pub ends_too : (f : Fork) (s : State) (left : ℕ) (board : ScriptData) (more : Course) (e : End) → IsFork a f → IsAsGood board (scheduled a.scenario (ways_in a f)).script → Contains (onward a s.turn f) more →
+  pub ends_too : (f : Fork) (s : State) (left : ℕ) (board : ScriptData) (more : Course) (e : End) → IsFork a f → AreEquivalent board (scheduled a.scenario (ways_in a f)).script → Contains (onward a s.turn f) more →
       ending (with_script a.scenario board) left s ≡ Some e → ending (scheduled a.scenario (with_onward a f more)) left s ≡ Some e
   ends_too f s left board more e fork good has is =
       let taken = All-contains (IsTaken s.turn (pending f)) (onward a s.turn f) more (in_turn_taken end s.turn 0 f.passed f.rest fork.order) has in
@@ -166,7 +166,7 @@ module _ (a : Asking) where
       let last = lasts_too a.scenario (ways_in a f) (with_onward a f more) s.turn same in
       same_end (with_script a.scenario board) (scheduled a.scenario (with_onward a f more)).script left s (last ∙ sym (good.last s.turn)) ∙ is
 
-  pub decided_at_end : (f : Fork) (s : State) (board : ScriptData) (w : Judged) (more : Course) (e : End) → IsFork a f → IsAsGood board (scheduled a.scenario (ways_in a f)).script → Contains (onward a s.turn f) more →
+  pub decided_at_end : (f : Fork) (s : State) (board : ScriptData) (w : Judged) (more : Course) (e : End) → IsFork a f → AreEquivalent board (scheduled a.scenario (ways_in a f)).script → Contains (onward a s.turn f) more →
       ending (with_script a.scenario board) (a.limit - s.turn) s ≡ Some e → decided a w s (with_onward a f more) ≡ ended w.0 w.1 e s
   decided_at_end f s board w more e fork good has is =
       ends w.0 (scheduled a.scenario (with_onward a f more)) (a.limit - s.turn) w.1 s e (ends_too f s (a.limit - s.turn) board more e fork good has is)

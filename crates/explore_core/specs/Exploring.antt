@@ -4,9 +4,9 @@ use Rattle.std.specs.Prelude.{ℕ, ◌≡◌, ◌<◌, ◌≤◌, ◌+◌, ◌-�
 use Rattle.std.specs.Option.{option_map, option_or}
 use Rattle.std.specs.List.{All, AllZip}
 use Rattle.run_script.specs.Events.{script_data}
-use Rattle.run_script.specs.Scripts.{ScriptData, events_of, lasts}
 use Rattle.task_table.specs.model.State.{State}
 use Rattle.board_model.specs.Laid.{is_script, with_script}
+use Rattle.board_model.specs.SameScripts.{AreEquivalent}
 use Rattle.board_core.specs.declared.board.Board.{Board}
 use Rattle.board_core.specs.Data.{Shows}
 use Rattle.board_core.specs.Stands.{Stands, script_of}
@@ -79,11 +79,6 @@ way_by came coming p = option_or (comes_at p.0 came) (option_map (λ q. latest q
 abbrev pub ways_in : Asking → Fork → Schedule
 ways_in a f = map (way_by f.came (pending f)) (placed a.question.arrivals 0)
 
--- the same happens in each turn of both scripts, and both last as long
-pub record IsAsGood (other script : ScriptData) : Type 0 where
-  pub events : (turn : ℕ) → events_of other turn ≡ events_of script turn
-  pub last : (turn : ℕ) → lasts other turn ≡ lasts script turn
-
 -- each schedule is a script
 abbrev pub AreScripts : Asking → Type 0
 AreScripts a = (schedule : Schedule) → Contains (schedules a.question.arrivals) schedule → is_script (scheduled a.scenario schedule).script.events ≡ true
@@ -95,7 +90,7 @@ pub record IsOnWay {X : Type 0} {H : X → Type 0} (shown : Shows X H) (a : Aski
   pub fork : IsFork a f
   pub stands : Stands shown (with_script a.scenario (script_data (script_of b))) b s
   pub sites : sites s.devices ≡ sites a.scenario.devices
-  pub script : IsAsGood (script_data (script_of b)) (scheduled a.scenario (ways_in a f)).script
+  pub script : AreEquivalent (script_data (script_of b)) (scheduled a.scenario (ways_in a f)).script
 
 -- what is known of a property at u decides each schedule that goes on from s, as what was known of it there does
 pub record IsAsBefore (a : Asking) (f : Fork) (s u : State) (old new : Judged) : Type 0 where

@@ -23,3 +23,4 @@ pub mod Few
 mod Written
 pub mod Fixed
 pub mod Runs
+pub mod Returned

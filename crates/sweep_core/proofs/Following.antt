@@ -26,6 +26,7 @@ use Rattle.board_core.specs.Stands.{Stands, turns_of}
 use Rattle.snapshot.specs.Loaded.{IsSpelledBy, sites}
 use Rattle.snapshot.specs.Saved.{SpellsState}
 use Rattle.snapshot.proofs.Fixed.{fixed_run}
+use Rattle.snapshot.proofs.Returned.{same_ram}
 use Rattle.snapshot.proofs.Runs.{counted_reduced, turn_reduced}
 use Rattle.snapshot.proofs.SpelledAlike.{stands_spelled}
 use Rattle.snapshot.proofs.StandsForSome.{as_long}
@@ -37,7 +38,7 @@ use Rattle.sweep_core.specs.Leading.{GoesOnAs, HasMet, HasPassed, IsLedBy, IsMee
 use Rattle.sweep_core.specs.Outcomes.{front_words, heard, memory_word}
 use Rattle.sweep_core.specs.Swept.{is_supervisors}
 use Rattle.sweep_core.specs.Told.{IsToldAt, IsToldFrom}
-use Rattle.sweep_core.proofs.Going.{heard_parts, same_ram, silent, stays}
+use Rattle.sweep_core.proofs.Going.{heard_parts, silent, stays}
 use Rattle.sweep_core.proofs.Letters.{letters_alike}
 
 -- ---- what is told of a run is told of one of which as much is heard, with the same end

@@ -24,10 +24,6 @@ use Rattle.sweep_core.specs.Outcomes.{heard, heard_note, nothing_heard}
 use Rattle.sweep_core.specs.Sweeping.{IsAsGood}
 use Rattle.board_run.proofs.Going.{kept_last}
 
-pub same_ram : (s u : State) → reduced s ≡ reduced u → s.memory.ram ≡ u.memory.ram
-unfolding seen
-same_ram s u e = ap (λ (v : State). v.memory.ram) e
-
 -- notes that are heard in two parts
 pub heard_parts : (t : Tally) (a b : List (ℕ × Note)) → heard t (a ++ b) ≡ heard (heard t a) b
 heard_parts t a b = fold-append (λ (u : Tally) (n : ℕ × Note). heard_note u n.1) t a b

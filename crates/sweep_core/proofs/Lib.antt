@@ -1,5 +1,4 @@
 pub mod Letters
-pub mod Arrivals
 pub mod Differences
 pub mod Lined
 pub mod Going

@@ -26,41 +26,20 @@ use Rattle.snapshot.specs.Saved.{SpellsState, expected_of, spelling}
 use Rattle.snapshot.specs.Waits.{state_fault}
 use Rattle.snapshot.proofs.Fixed.{fixed_run}
 use Rattle.snapshot.proofs.Runs.{counted_reduced, turn_reduced}
-use Rattle.snapshot.proofs.StandsForSome.{as_long, spelling_long}
+use Rattle.snapshot.proofs.Returned.{as_long_as_first, same_ram, with_own}
+use Rattle.snapshot.proofs.StandsForSome.{as_long}
 use Rattle.sweep_core.specs.declared.leader.Leader.{Leader}
 use Rattle.sweep_core.specs.declared.sweeper.Sweeper.{Sweeper}
 use Rattle.sweep_core.specs.declared.tally.Tally.{Tally}
 use Rattle.sweep_core.specs.declared.told.Told.{Told}
-use Rattle.sweep_core.specs.Laying.{IsLaid}
+use Rattle.board_model.specs.SameScripts.{IsLaid}
 use Rattle.sweep_core.specs.Leading.{GoesOnAs, IsUnderWay}
 use Rattle.sweep_core.specs.Outcomes.{heard, nothing_heard}
 use Rattle.sweep_core.specs.Sweeping.{Fork, HasComeTo, HasScripts, HasTold, IsAsGood, IsAt, IsAtFork, IsBefore, IsReady, IsSweeping, own_script, run_of}
 use Rattle.sweep_core.specs.Told.{IsTold, IsToldFrom}
 use Rattle.snapshot.proofs.Few.{few_tasks}
 use Rattle.sweep_core.proofs.Following.{goes_as_itself, told_alike}
-use Rattle.sweep_core.proofs.Going.{as_good_run, come_within, goes_on, good_itself, heard_on, one_before, same_ram, silent, stays}
-
--- ---- what is kept of a state
-
-kinds_in : (ds : List DeviceData) → map (λ (d : DeviceData). d.kind) ds ≡ map (λ (p : Kind × ℕ). p.0) (sites ds)
-kinds_in [] = refl
-kinds_in (d ∷ ds) = ap (λ (ks : List Kind). d.kind ∷ ks) (kinds_in ds)
-
-many_sites : (ds : List DeviceData) → length (sites ds) ≡ length ds
-many_sites ds = length-map ds (λ (d : DeviceData). (d.kind, d.base))
-
--- a state that is as one of the run is spelled as long as the first one
-pub as_long_as_first : (x : Scenario) (script : ScriptData) (m : ℕ) (u : State) → Sane x.setup (start_of x) → Sane x.setup u → reduced u ≡ reduced (cut_at Calls (with_script x script) m (start_of x)) →
-    length (spelling (reduced u)) ≡ length (spelling (reduced (start_of x)))
-as_long_as_first x script m u sane hu same =
-    let s = start_of x in
-    let c = cut_at Calls (with_script x script) m s in
-    let fixed = fixed_run Calls (with_script x script) m s sane in
-    let tasks : length u.tasks ≡ length s.tasks = hu.steady.as_many ∙ sym sane.steady.as_many in
-    let places : sites u.devices ≡ sites s.devices = ap sites (sym (as_long u).devices) ∙ ap (λ (v : State). sites v.devices) same ∙ ap sites (as_long c).devices ∙ fixed.sites in
-    let devices : length u.devices ≡ length s.devices = sym (many_sites u.devices) ∙ ap (λ (l : List (Kind × ℕ)). length l) places ∙ many_sites s.devices in
-    let ram : length u.memory.ram ≡ length s.memory.ram = ap (λ (l : List ℕ). length l) (same_ram u c same) ∙ fixed.ram in
-    spelling_long x.setup u hu ∙ (λ i. total (tasks i) (devices i) (ram i)) ∙ sym (spelling_long x.setup s sane)
+use Rattle.sweep_core.proofs.Going.{as_good_run, come_within, goes_on, good_itself, heard_on, one_before, silent, stays}
 
 -- ---- what is told of the rest of a run is told of the whole
 
@@ -78,29 +57,6 @@ abbrev pub first_fork : Scenario → List Listed → Fork
 first_fork x arrival = record { arrival = arrival; script = x.script; turn = 0 }
 
 module _ {X : Type 0} {H : X → Type 0} (shown : Shows X H) (x : Scenario) where
-  -- ---- saved and loaded
-
-  -- it stands in the run with its own script
-  pub with_own : (script : ScriptData) (b : Board X H) (u : State) → Stands shown (with_script x script) b u → Stands shown (with_script x (script_data (script_of b))) b u
-  with_own script b u st = subst (λ (s : ScriptData). Stands shown (with_script x s) b u) (sym st.holds.script) st
-
-  -- no cause is found in what was saved, at the end of the run from there
-  pub loadable : ((g : Setup) (s : State) (bytes : List ℕ) → Sane g s → IsCounted s → s.turn ≤ 1000000000 → length g.tasks ≤ 1024 → SpellsState g s bytes → state_fault (expected_of g s.devices) bytes ≡ None) →
-      (b : Board X H) (u : State) (n : ℕ) (bytes : List ℕ) → Stands shown x b u → u.turn ≤ 1000000000 → SpellsState x.setup (reduced u) bytes → state_fault (expected_of x.setup (run Calls x n u).last.devices) bytes ≡ None
-  loadable accepted b u n bytes st few spelled =
-      let s = reduced u in
-      let v = (run Calls x n u).last in
-      let tasks = few_tasks shown x b u st in
-      let none = accepted x.setup s bytes (sane-reduced x.setup u st.sane) (counted_reduced u st.counted) (omega (arith, turn_reduced u, few)) (omega (arith, tasks)) spelled in
-      let kinds = ap (λ (ps : List (Kind × ℕ)). map (λ (p : Kind × ℕ). p.0) ps) (ap sites (as_long u).devices ∙ sym (fixed_run Calls x n u st.sane).sites) in
-      subst (λ (ks : List Kind). state_fault record (expected_of x.setup s.devices) { kinds = ks } bytes ≡ None) (kinds_in s.devices ∙ kinds ∙ sym (kinds_in v.devices)) none
-
-  -- and once that was loaded the board stands there again, with births modulo 64
-  pub back : (b b' : Board X H) (u : State) (n : ℕ) (bytes : List ℕ) → Sane x.setup u → IsCounted u → Stands shown x b (run Calls x n u).last → SpellsState x.setup (reduced u) bytes →
-      ((v s : State) → Stands shown x b v → SpellsState x.setup s bytes → Sane x.setup s → IsCounted s → sites s.devices ≡ sites v.devices → Stands shown x b' s) → Stands shown x b' (reduced u)
-  back b b' u n bytes sane counted st spelled each =
-      each (run Calls x n u).last (reduced u) st spelled (sane-reduced x.setup u sane) (counted_reduced u counted) (ap sites (as_long u).devices ∙ sym (fixed_run Calls x n u sane).sites)
-
   module _ (arrival : List Listed) where
     -- the turn at which it stands
     pub turns_within : (script : ScriptData) (w : Sweeper X H) (m : ℕ) → Sane x.setup (start_of x) → (h : HasComeTo shown x script w m) → turns_of w.board ≤ m
@@ -118,7 +74,7 @@ module _ {X : Type 0} {H : X → Type 0} (shown : Shows X H) (x : Scenario) wher
     at_again script w m b saved leader h st small long = record {
       scripts = record { start = h.scripts.start; script = h.scripts.script; arriving = h.scripts.arriving; spare = h.scripts.spare; saved = long ∙ h.scripts.saved };
       good = subst (λ (s : ScriptData). IsAsGood s script) (sym st.holds.script) h.good;
-      come = record { state = reduced h.come.state; stands = with_own (own_script w) b (reduced h.come.state) st; same = small ∙ h.come.same; front = h.come.front };
+      come = record { state = reduced h.come.state; stands = with_own shown x (own_script w) b (reduced h.come.state) st; same = small ∙ h.come.same; front = h.come.front };
     }
 
     -- the run from where it stands may meet one that leads, from where its script is as good as the scenario's own
@@ -170,7 +126,7 @@ module _ {X : Type 0} {H : X → Type 0} (shown : Shows X H) (x : Scenario) wher
           good = subst (λ (s : ScriptData). IsAsGood s script) (sym st.holds.script) good;
           come = record {
             state = r.last;
-            stands = with_own (script_data d) b r.last st;
+            stands = with_own shown x (script_data d) b r.last st;
             same = rest.last ∙ ap (λ k. reduced (cut_at Calls (with_script x script) k (start_of x))) least;
             front = told ∙ heard_on x script sane h.turn n w.front r heard_there rest ∙ ap (λ k. heard nothing_heard (run Calls (with_script x script) k (start_of x)).notes) least;
           };
@@ -225,7 +181,7 @@ module _ {X : Type 0} {H : X → Type 0} (shown : Shows X H) (x : Scenario) wher
       good = good_itself x.script (own_script w) h.stands.holds.script;
       come = record {
         state = start_of x;
-        stands = with_own x.script w.board (start_of x) h.stands;
+        stands = with_own shown x x.script w.board (start_of x) h.stands;
         same = ap reduced (sym (stays x (start_of x)));
         front = h.front ∙ ap (λ l. heard nothing_heard l) (sym (silent x (start_of x)));
       };
@@ -257,7 +213,7 @@ module _ {X : Type 0} {H : X → Type 0} (shown : Shows X H) (x : Scenario) wher
           few = omega arith;
           come = record {
             state = h.come.state;
-            stands = with_own (script_data w.script) b h.come.state st;
+            stands = with_own shown x (script_data w.script) b h.come.state st;
             same = h.come.same ∙ ap reduced (stays x s ∙ sym (stays y s));
             front = h.come.front ∙ ap (λ l. heard nothing_heard l) (silent x s ∙ sym (silent y s));
           };

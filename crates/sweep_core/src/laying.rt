@@ -4,7 +4,7 @@ ghost use Rattle.std.specs.List.{All};
 ghost use Rattle.run_script.specs.Events.{script_data};
 ghost use Rattle.run_script.specs.Laying.{HasRoom};
 ghost use Rattle.board_model.specs.Laid.{may_be_laid};
-ghost use Rattle.sweep_core.specs.Laying.{IsLaid};
+ghost use Rattle.board_model.specs.SameScripts.{IsLaid};
 ghost use Rattle.sweep_core.specs.Swept.{is_late};
 
 use run_script::Script;

@@ -3,7 +3,7 @@ use Rattle.std.proofs.lemmas.Bool.{not-false, not-true}
 use Rattle.std.proofs.lemmas.Option.{none-some, slice_get-get_or}
 use Rattle.run_script.specs.declared.events.Event.TheVariants.{Tick}
 use Rattle.run_script.specs.Events.{script_data}
-use Rattle.sweep_core.proofs.Arrivals.{all_laid, no_place_for, none_so_far, one_more_laid}
+use Rattle.board_model.proofs.Arrivals.{all_laid, no_place_for, none_so_far, one_more_laid}
 use Rattle.sweep_core.proofs.laying.lay.Goals as goal
 
 pub loop-place-init : goal.loop-place-init

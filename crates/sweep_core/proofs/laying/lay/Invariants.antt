@@ -1,7 +1,7 @@
 use Rattle.std.proofs.Common.{ℕ}
 use Rattle.run_script.specs.Events.{script_data}
 use Rattle.run_script.specs.Laying.{HasRoom}
-use Rattle.sweep_core.proofs.Arrivals.{IsLaidSoFar}
+use Rattle.board_model.proofs.Arrivals.{IsLaidSoFar}
 use Rattle.sweep_core.proofs.laying.lay.Given as goal
 
 abbrev pub invariant-loop-place : goal.invariant-loop-place

@@ -7,7 +7,8 @@ use Rattle.snapshot.specs.Saved.{SpellsState}
 use Rattle.board_core.specs.Data.{boxed}
 use Rattle.sweep_core.specs.Sweeping.{own_script}
 use Rattle.sweep_core.proofs.Going.{come_within}
-use Rattle.sweep_core.proofs.Sweeps.{at_again, back, loadable, saved_long, told_whole, turns_within, under_way}
+use Rattle.snapshot.proofs.Returned.{back, loadable}
+use Rattle.sweep_core.proofs.Sweeps.{at_again, saved_long, told_whole, turns_within, under_way}
 use Rattle.sweep_core.proofs.sweeper.Sweeper.tell.Goals as goal
 
 pub save_over-requires : goal.save_over-requires

@@ -17,7 +17,7 @@ use Rattle.run_script.specs.Facts.{Facts, IsListed}
 use Rattle.run_script.specs.Laying.{has_no_place}
 use Rattle.run_script.specs.Scripts.{Listed, ScriptData, events_of, is_of, lasts, listed_of, ticks_of}
 use Rattle.board_model.specs.Laid.{is_free, is_script, laid, may_be_laid, postponed}
-use Rattle.sweep_core.specs.Laying.{IsLaid}
+use Rattle.board_model.specs.SameScripts.{IsLaid}
 use Rattle.run_script.proofs.Adding.{more_of}
 
 -- ## what happens in each turn tells how many events are listed of it
