@@ -15,6 +15,7 @@ use Rattle.std.proofs.lemmas.List.{append-nil, map-append, map-id}
 use Rattle.std.proofs.lemmas.List.Concat.{flat_map-append}
 use Rattle.std.proofs.lemmas.List.Folds.{flat_map-map}
 use Rattle.std.proofs.lemmas.List.Sorted.{IsPermutation-refl, IsPermutation-sym, IsPermutation-trans, IsPermutation-append_comm, IsPermutation-append_left, IsPermutation-append_right}
+use Rattle.explore_core.specs.Exploring.{Ascends}
 use Rattle.explore_core.specs.Schedules.{Arrival, Coming, Schedule, comings, all_comings, ways, schedules}
 use Rattle.explore_core.specs.Walked.{Placed, Course, may_come_in, comings_in, begun_by, courses_in, courses, placed, parties, end_of, courses_of, comes_at, schedule_of}
 
@@ -62,7 +63,7 @@ map_flat : {X Y Z : Type 0} (f : Y → Z) (h : X → List Y) (xs : List X) → m
 map_flat f h [] = refl
 map_flat f h (x ∷ xs) = map-append f (h x) (flat_map h xs) ∙ ap (λ l. map f (h x) ++ l) (map_flat f h xs)
 
-map_twice : {X Y Z : Type 0} (f : Y → Z) (g : X → Y) (xs : List X) → map f (map g xs) ≡ map (λ x. f (g x)) xs
+pub map_twice : {X Y Z : Type 0} (f : Y → Z) (g : X → Y) (xs : List X) → map f (map g xs) ≡ map (λ x. f (g x)) xs
 map_twice f g [] = refl
 map_twice f g (x ∷ xs) = ap (λ l. f (g x) ∷ l) (map_twice f g xs)
 
@@ -138,17 +139,12 @@ parted f h front place some more back apart =
 
 -- ## turn by turn
 
--- places in ascending order, none below a number
-Ascends : ℕ → List Placed → Type 0
-Ascends low [] = ⊤
-Ascends low (p ∷ ps) = (low ≤ p.0) × Ascends (p.0 + 1) ps
-
-lower : (low high : ℕ) (ps : List Placed) → low ≤ high → Ascends high ps → Ascends low ps
+pub lower : (low high : ℕ) (ps : List Placed) → low ≤ high → Ascends high ps → Ascends low ps
 unfolding Ascends
 lower low high [] le h = h
 lower low high (p ∷ ps) le h = (omega (arith, le, h.0), h.1)
 
-without : (low : ℕ) (front : List Placed) (p : Placed) (back : List Placed) → Ascends low (front ++ p ∷ back) → Ascends low (front ++ back)
+pub without : (low : ℕ) (front : List Placed) (p : Placed) (back : List Placed) → Ascends low (front ++ p ∷ back) → Ascends low (front ++ back)
 unfolding Ascends
 without low [] p back h = lower low (p.0 + 1) back (omega (arith, h.0)) h.1
 without low (q ∷ front) p back h = (h.0, without (q.0 + 1) front p back h.1)
@@ -157,7 +153,7 @@ without low (q ∷ front) p back h = (h.0, without (q.0 + 1) front p back h.1)
 abbrev within : ℕ → ℕ → Placed → Offered
 within n turn p = (p.0, flat_map (comings_in p.1) (range_with_len turn n))
 
-not_below : (low : ℕ) (front : List Placed) (p : Placed) (back : List Placed) → Ascends low (front ++ p ∷ back) → low ≤ p.0
+pub not_below : (low : ℕ) (front : List Placed) (p : Placed) (back : List Placed) → Ascends low (front ++ p ∷ back) → low ≤ p.0
 unfolding Ascends
 not_below low [] p back h = h.0
 not_below low (q ∷ front) p back h =
@@ -217,28 +213,28 @@ by_turns (suc n) turn X f by low (p ∷ ps) order = in_turn (courses n (turn + 1
 -- ## which come
 
 -- of each set of arrivals that has those that may not fail
-subsets : {X : Type 0} → (List Placed → List X) → List Placed → List X
+unfoldable pub subsets : {X : Type 0} → (List Placed → List X) → List Placed → List X
 subsets g [] = g []
 subsets g (p ∷ rest) = cond p.1.may_fail (subsets g rest) [] ++ subsets (λ ps. g (p ∷ ps)) rest
 
 -- of those in which fewer than n of those come that may fail
-sized : {X : Type 0} → (List Placed → List X) → ℕ → List Placed → List X
+unfoldable pub sized : {X : Type 0} → (List Placed → List X) → ℕ → List Placed → List X
 sized g n ps = flat_map (λ some. flat_map g (parties some ps)) (range_with_len 0 n)
 
 shifted : {A : Type 0} (h : ℕ → List A) (from n : ℕ) → flat_map h (range_with_len (from + 1) n) ≡ flat_map (λ k. h (suc k)) (range_with_len from n)
 shifted h from zero = refl
 shifted h from (suc n) = ap (λ k. h k ++ flat_map h (range_with_len (from + 1 + 1) n)) (add-one from) ∙ ap (λ l. h (suc from) ++ l) (shifted h (from + 1) n)
 
-sure : (p : Placed) (rest : List Placed) → p.1.may_fail ≡ false → (some : ℕ) → parties some (p ∷ rest) ≡ map (λ more. p ∷ more) (parties some rest)
+pub sure : (p : Placed) (rest : List Placed) → p.1.may_fail ≡ false → (some : ℕ) → parties some (p ∷ rest) ≡ map (λ more. p ∷ more) (parties some rest)
 unfolding parties
 sure p rest e zero = rw e refl
 sure p rest e (suc some) = rw e refl
 
-none_fails : (p : Placed) (rest : List Placed) → p.1.may_fail ≡ true → parties zero (p ∷ rest) ≡ parties zero rest
+pub none_fails : (p : Placed) (rest : List Placed) → p.1.may_fail ≡ true → parties zero (p ∷ rest) ≡ parties zero rest
 unfolding parties
 none_fails p rest e = rw e refl
 
-some_fail : (p : Placed) (rest : List Placed) → p.1.may_fail ≡ true → (some : ℕ) → parties (suc some) (p ∷ rest) ≡ map (λ more. p ∷ more) (parties some rest) ++ parties (suc some) rest
+pub some_fail : (p : Placed) (rest : List Placed) → p.1.may_fail ≡ true → (some : ℕ) → parties (suc some) (p ∷ rest) ≡ map (λ more. p ∷ more) (parties some rest) ++ parties (suc some) rest
 unfolding parties
 some_fail p rest e some = rw e refl
 
@@ -253,7 +249,7 @@ none_come X g n =
     let rest = nothing_more g n 0 in
     ap (λ l. (g [] ++ []) ++ l) rest ∙ append-nil (g [] ++ []) ∙ append-nil (g [])
 
-by_size : (ps : List Placed) (n : ℕ) → length ps < n → (X : Type 0) (g : List Placed → List X) → IsPermutation (sized g n ps) (subsets g ps)
+pub by_size : (ps : List Placed) (n : ℕ) → length ps < n → (X : Type 0) (g : List Placed → List X) → IsPermutation (sized g n ps) (subsets g ps)
 unfolding sized subsets
 by_size [] zero lt X g = let no : ⊥ = omega (arith, lt) in elim no [ ]
 by_size [] (suc n) lt X g = same_list _ _ (none_come X g n)
@@ -366,7 +362,7 @@ all_by_turns n turn low X f by (q ∷ qs) h = both _ _ _ _ (by_turns n turn X f 
 
 -- ## the turns of a range
 
-cut : (from m n : ℕ) → range_with_len from (m + n) ≡ range_with_len from m ++ range_with_len (from + m) n
+pub cut : (from m n : ℕ) → range_with_len from (m + n) ≡ range_with_len from m ++ range_with_len (from + m) n
 cut from zero n =
     let one : 0 + n ≡ n = omega arith in
     let two : from ≡ from + 0 = omega arith in
@@ -443,7 +439,7 @@ chosen_same comes (p ∷ rest) low order X f g h =
     let come = λ (c : Coming). chosen_same comes rest low less X (after p.0 c f) (after p.0 c g) (λ course from. h ((p.0, c) ∷ course) (order.0, from)) in
     λ i. cond p.1.may_fail (skip i) [] ++ flat_map (λ c. come c i) (comes p)
 
-placed_ascend : (arrivals : List Arrival) (place : ℕ) → Ascends place (placed arrivals place)
+pub placed_ascend : (arrivals : List Arrival) (place : ℕ) → Ascends place (placed arrivals place)
 unfolding Ascends
 placed_ascend [] place = tt
 placed_ascend (a ∷ rest) place = (omega arith, placed_ascend rest (place + 1))
@@ -498,7 +494,7 @@ product n (a ∷ rest) place le X g =
     ways_apart true by cs = (λ i. by None ++ flat_map-map by (λ c. Some c) cs i)
     ways_apart false by cs = flat_map-map by (λ c. Some c) cs
 
-length_placed : (arrivals : List Arrival) (place : ℕ) → length (placed arrivals place) ≡ length arrivals
+pub length_placed : (arrivals : List Arrival) (place : ℕ) → length (placed arrivals place) ≡ length arrivals
 length_placed [] place = refl
 length_placed (a ∷ rest) place = ap suc (length_placed rest (place + 1))
 

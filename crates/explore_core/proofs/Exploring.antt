@@ -1,10 +1,9 @@
 -- The way through all schedules, from fork to fork.
-use Rattle.std.proofs.Common.{◌≡◌, ◌∙◌, ℕ, zero, suc, ◌+◌, ◌-◌, ◌<◌, ◌≤◌, Bool, true, false, get_or, List, [], ◌∷◌, ◌++◌, map, Option, Some, None, refl, sym, ap, subst, append_assoc, append-nil, arith}
-use Rattle.std.specs.Prelude.{Contains, find, is_some, option_map, slice_get, slice_index, unwrap_or}
+use Rattle.std.proofs.Common.{◌≡◌, ◌∙◌, ℕ, zero, suc, ◌+◌, ◌-◌, ◌<◌, ◌≤◌, Bool, false, get_or, List, [], ◌∷◌, ◌++◌, map, Option, Some, None, refl, sym, ap, subst, append-nil, arith}
+use Rattle.std.specs.Prelude.{Contains, find, is_some, slice_index}
 use Rattle.std.specs.Option.{option_or}
 use Rattle.std.specs.List.{All, AllZip}
-use Rattle.std.proofs.lemmas.List.Elements.{All-contains, All-nil, All-set, All-weaker, Contains-append_right, Contains-get_or}
-use Rattle.std.proofs.lemmas.Option.{none-some, slice_get-map}
+use Rattle.std.proofs.lemmas.List.Elements.{All-contains, All-nil, Contains-get_or}
 use Rattle.run_script.specs.Scripts.{ScriptData}
 use Rattle.task_table.specs.model.State.{State}
 use Rattle.task_table.specs.model.Sane.{Sane}
@@ -15,19 +14,15 @@ use Rattle.board_model.specs.Run.{ending, state_after}
 use Rattle.board_model.specs.SameScripts.{AgreeFor, AreEquivalent}
 use Rattle.board_model.specs.Script.{Scenario}
 use Rattle.run_question.specs.declared.asked.Property.{Property}
-use Rattle.explore_core.specs.declared.verdict.Verdict.{Verdict}
 use Rattle.explore_core.specs.declared.verdict.Verdict.TheVariants.{Open, Broken}
 use Rattle.explore_core.specs.Answers.{Asking}
-use Rattle.explore_core.specs.Clean.{AreClean, IsClean}
-use Rattle.explore_core.specs.Exploring.{Ascends, Fork, GoesOnTo, IsAsBefore, IsCleanSlot, IsBack, IsDecided, IsDecidedBy, IsFork, IsOverBefore, IsSeen, decided, first_onward, onward, pending, pending_of, ways_in, with_onward}
-use Rattle.explore_core.specs.Playing.{IsKept, after_turns, stepped_after}
-use Rattle.explore_core.specs.declared.seen.Seen.{Seen}
-use Rattle.explore_core.specs.declared.seen.Slot.{Slot}
-use Rattle.explore_core.specs.Seen.{HasSame, IsWithSlot}
+use Rattle.explore_core.specs.Clean.{IsClean}
+use Rattle.explore_core.specs.Exploring.{Ascends, Fork, GoesOnTo, IsAsBefore, IsFork, IsOverBefore, decided, first_onward, onward, pending, ways_in, with_onward}
+use Rattle.explore_core.specs.Playing.{after_turns, stepped_after}
 use Rattle.explore_core.specs.Schedules.{Coming, Schedule, scheduled}
 use Rattle.explore_core.specs.Verdicts.{ended, stepped}
 use Rattle.explore_core.specs.Walked.{Course, Placed, begun_by, comings_in, courses, courses_in, end_of, may_come_in, placed, schedule_of}
-use Rattle.explore_core.specs.Watching.{Judged, is_open}
+use Rattle.explore_core.specs.Watching.{Judged}
 use Rattle.explore_core.proofs.Ahead.{agree, lasts_too}
 use Rattle.explore_core.proofs.Onward.{IsTaken, begun_whole, first_alike, first_at_fork, first_begun, from_turn, in_turn, in_turn_taken, none_first, none_passes, one_on, passed_one, same_before, same_from, some_on}
 use Rattle.explore_core.proofs.OneTurn.{ends}
@@ -212,67 +207,3 @@ module _ (a : Asking) where
       nothing : (o : Option ℕ) → is_some o ≡ false → o ≡ None
       nothing None e = refl
       nothing (Some k) e = absurd (let no : ⊥ = cc in no)
-
--- ## the table
-
-module _ (a : Asking) where
-  -- where fewer are looked for, it stays as clean
-  fewer_clean : (live less : List (ℕ × Property)) (ps : List Placed) (numbers bytes : List ℕ) → ((q : ℕ × Property) → Contains less q → Contains live q) → AreClean a live ps numbers bytes → AreClean a less ps numbers bytes
-  fewer_clean live less ps numbers bytes among clean = λ s spelled more from q looked. clean s spelled more from q (among q looked)
-
-  pub seen_fewer : (live less : List (ℕ × Property)) (seen : Seen) → ((q : ℕ × Property) → Contains less q → Contains live q) → IsSeen a live seen → IsSeen a less seen
-  seen_fewer live less seen among h =
-      All-weaker (IsCleanSlot a live) (IsCleanSlot a less) (λ slot clean used. fewer_clean live less (pending_of a slot.pending) slot.kept slot.state.items among (clean used)) seen.slots.items h
-
-  -- what is found there is clean
-  pub seen_here : (live : List (ℕ × Property)) (coming : ℕ) (numbers bytes : List ℕ) (seen : Seen) → IsSeen a live seen → HasSame coming numbers bytes seen → AreClean a live (pending_of a coming) numbers bytes
-  seen_here live coming numbers bytes seen h has =
-      let clean = subst (λ (slot : Slot). IsCleanSlot a live slot) (has.at has.slot) (h has.place has.slot has.inside) in
-      let same = has.same in
-      subst (λ (b : List ℕ). AreClean a live (pending_of a coming) numbers b) same.state
-      (subst (λ (k : List ℕ). AreClean a live (pending_of a coming) k has.slot.state.items) same.kept
-      (subst (λ (n : ℕ). AreClean a live (pending_of a n) has.slot.kept has.slot.state.items) same.pending (clean same.used)))
-
-  -- and one more is kept that is
-  pub seen_more : (live : List (ℕ × Property)) (coming : ℕ) (numbers bytes : List ℕ) (old new : Seen) → IsSeen a live old → AreClean a live (pending_of a coming) numbers bytes → IsWithSlot coming numbers bytes old new →
-      IsSeen a live new
-  seen_more live coming numbers bytes old new h clean one =
-      let same = one.same in
-      let here : IsCleanSlot a live one.slot = λ used.
-      subst (λ (n : ℕ). AreClean a live (pending_of a n) one.slot.kept one.slot.state.items) (sym same.pending)
-      (subst (λ (k : List ℕ). AreClean a live (pending_of a coming) k one.slot.state.items) (sym same.kept)
-      (subst (λ (b : List ℕ). AreClean a live (pending_of a coming) numbers b) (sym same.state) clean)) in
-      subst (λ (l : List Slot). All (IsCleanSlot a live) l) (sym one.slots) (All-set (IsCleanSlot a live) old.slots.items one.place one.slot here h)
-
--- ## some schedules after others
-
-decided_then : (a : Asking) (s : State) (old new : Judged) (before between after first second : Option Schedule) → (mid back : Judged) → IsDecided a s old mid before between first → IsBack old mid back → IsDecided a s back new between after second →
-    is_open old.1 ≡ true → IsDecidedBy a s old new before after (option_or first second)
-decided_then a s old new before between after None second mid back h b k e =
-    let one = h.looked e in
-    let same = b.looked one.0 in
-    let open_too = ap (λ (w : Judged). is_open w.1) same ∙ e in
-    let now = subst (λ (w : Judged). IsDecidedBy a s w new between after second) same (k.looked open_too) in
-    subst (λ (o : Option Schedule). IsDecidedBy a s old new o after second) one.1 now
-decided_then a s old new before between after (Some schedule) second mid back h b k e =
-    let one = h.looked e in
-    let turn = one.1.0 in
-    let same = b.broken turn one.1.1 in
-    let stays = k.broken turn (ap (λ (w : Judged). w.1) same ∙ one.1.1) in
-    (stays.1 ∙ one.0, (turn, stays.0, one.1.2))
-
-pub decided_on : (a : Asking) (s : State) (old new : Judged) (before between after first second : Option Schedule) (mid back : Judged) → IsDecided a s old mid before between first → IsBack old mid back → IsDecided a s back new between after second →
-    IsDecided a s old new before after (option_or first second)
-decided_on a s old new before between after first second mid back h b k = record {
-  property = k.property ∙ back_property mid.1 refl ∙ h.property;
-  broken = λ turn is.
-      let one = h.broken turn is in
-      let same = b.broken turn one.0 in
-      let two = k.broken turn (ap (λ (w : Judged). w.1) same ∙ one.0) in
-      (two.0, two.1 ∙ one.1);
-  looked = decided_then a s old new before between after first second mid back h b k;
-}
-  where
-    back_property : (v : Verdict) → mid.1 ≡ v → back.0 ≡ mid.0
-    back_property (Open kept) is = ap (λ (w : Judged). w.0) (b.looked (ap is_open is)) ∙ sym h.property
-    back_property (Broken turn) is = ap (λ (w : Judged). w.0) (b.broken turn is)

@@ -10,9 +10,9 @@ use Rattle.std.proofs.lemmas.List.{get_or-map, length-map, map-append}
 use Rattle.std.proofs.lemmas.Simd.{map-map}
 use Rattle.run_script.specs.declared.events.Event.{Event}
 use Rattle.run_script.specs.Scripts.{Listed}
-use Rattle.explore_core.specs.Ahead.{AreSameBefore, is_to_come}
+use Rattle.explore_core.specs.Ahead.{is_to_come}
 use Rattle.explore_core.specs.Exploring.{Ascends, at_place, latest, way_by}
-use Rattle.explore_core.specs.Over.{AreSameFrom, IsOver}
+use Rattle.explore_core.specs.Over.{IsOver}
 use Rattle.explore_core.specs.Schedules.{Arrival, Coming, Offer, choices, comings}
 use Rattle.explore_core.specs.Walked.{Course, Placed, begun_by, comes_at, comings_in, courses, courses_in, may_come_in}
 
@@ -141,7 +141,7 @@ not_below low (q ∷ front) p back h =
     omega (arith, more, first)
 
 -- those before an arrival have other places
-apart_at : (low : ℕ) (front : List Placed) (p : Placed) (back : List Placed) → Ascends low (front ++ p ∷ back) → at_place p.0 front ≡ None
+pub apart_at : (low : ℕ) (front : List Placed) (p : Placed) (back : List Placed) → Ascends low (front ++ p ∷ back) → at_place p.0 front ≡ None
 unfolding Ascends
 apart_at low [] p back h = refl
 apart_at low (q ∷ front) p back h =
@@ -154,7 +154,7 @@ unfolding Ascends
 lower low high [] le h = h
 lower low high (p ∷ ps) le h = (omega (arith, le, h.0), h.1)
 
-without : (low : ℕ) (front : List Placed) (p : Placed) (back : List Placed) → Ascends low (front ++ p ∷ back) → Ascends low (front ++ back)
+pub without : (low : ℕ) (front : List Placed) (p : Placed) (back : List Placed) → Ascends low (front ++ p ∷ back) → Ascends low (front ++ back)
 unfolding Ascends
 without low [] p back h = lower low (p.0 + 1) back (omega (arith, h.0)) h.1
 without low (q ∷ front) p back h = (h.0, without (q.0 + 1) front p back h.1)
@@ -270,7 +270,7 @@ latest_to_come turn a c some le below has = one_to_come turn a (latest a) some (
 abbrev pub AreOffered : List Placed → Type 0
 AreOffered ps = All (λ (p : Placed). 0 < length p.1.offers) ps
 
-find_all : {A : Type 0} (P : A → Type 0) (q : A → Bool) (xs : List A) (x : A) → All P xs → find q xs ≡ Some x → P x
+pub find_all : {A : Type 0} (P : A → Type 0) (q : A → Bool) (xs : List A) (x : A) → All P xs → find q xs ≡ Some x → P x
 find_all P q [] x all e = absurd (none-some x e)
 find_all P q (y ∷ ys) x all e = go (q y) e (find_all P q ys x (All-tail P y ys all))
   where
@@ -278,7 +278,7 @@ find_all P q (y ∷ ys) x all e = go (q y) e (find_all P q ys x (All-tail P y ys
     go true e more = subst P (let h : y ≡ x = cc in h) (All-head P y ys all)
     go false e more = more e
 
-comes_append : (place : ℕ) (xs ys : Course) → comes_at place (xs ++ ys) ≡ option_or (comes_at place xs) (comes_at place ys)
+pub comes_append : (place : ℕ) (xs ys : Course) → comes_at place (xs ++ ys) ≡ option_or (comes_at place xs) (comes_at place ys)
 comes_append place xs ys = ap (λ o. option_map (λ (c : ℕ × Coming). c.1) o) (find_append (λ (c : ℕ × Coming). c.0 == place) xs ys) ∙ both (find (λ (c : ℕ × Coming). c.0 == place) xs) (find (λ (c : ℕ × Coming). c.0 == place) ys)
   where
     both : (o p : Option (ℕ × Coming)) → option_map (λ (c : ℕ × Coming). c.1) (option_or o p) ≡ option_or (option_map (λ (c : ℕ × Coming). c.1) o) (option_map (λ (c : ℕ × Coming). c.1) p)
@@ -325,7 +325,7 @@ not_taken turn None None e h = refl
 not_taken turn None (Some c) e h = absurd h
 not_taken turn (Some p) c e h = absurd (let k : ⊥ = none-some p (sym e) in k)
 
-find_is : (place : ℕ) (xs : Course) (x : ℕ × Coming) → find (λ (c : ℕ × Coming). c.0 == place) xs ≡ Some x → x.0 ≡ place
+pub find_is : (place : ℕ) (xs : Course) (x : ℕ × Coming) → find (λ (c : ℕ × Coming). c.0 == place) xs ≡ Some x → x.0 ≡ place
 find_is place [] x e = absurd (none-some x e)
 find_is place (y ∷ ys) x e = go (y.0 == place) refl e (find_is place ys x)
   where
@@ -399,14 +399,14 @@ module _ {A : Type 0} (q : A → Bool) where
 pub begun_whole : {A : Type 0} (h : Course → A) (came : Course) (x : ℕ × Coming) → ◌≡◌ {A = Course → A} (λ course. h (came ++ x ∷ course)) (λ course. h ((came ++ x ∷ []) ++ course))
 begun_whole h came x = λ i course. h (sym (append_assoc came (x ∷ []) course) i)
 
-Contains-cons_cases : {A : Type 0} (y : A) (ys : List A) (x : A) → Contains (y ∷ ys) x → (y ≡ x) ⊎ Contains ys x
+pub Contains-cons_cases : {A : Type 0} (y : A) (ys : List A) (x : A) → Contains (y ∷ ys) x → (y ≡ x) ⊎ Contains ys x
 Contains-cons_cases y ys x h = at h.0 h.1 h.2
   where
     at : (k : ℕ) → k < length (y ∷ ys) → slice_index_or (y ∷ ys) k x ≡ x → (y ≡ x) ⊎ Contains ys x
     at zero lt e = inl e
     at (suc k) lt e = inr (k, omega (arith, lt), e)
 
-Contains-map : {A B : Type 0} (f : A → B) (xs : List A) (x : A) → Contains xs x → Contains (map f xs) (f x)
+pub Contains-map : {A B : Type 0} (f : A → B) (xs : List A) (x : A) → Contains xs x → Contains (map f xs) (f x)
 Contains-map f xs x h =
     let long = length-map xs f in
     (h.0, omega (arith, long, h.1), get_or-map f xs h.0 x (f x) h.1 ∙ ap f h.2)

@@ -1,5 +1,5 @@
 -- What is made of a property, turn by turn, is what the run decides, with each script in which the same happens.
-use Rattle.std.proofs.Common.{◌≡◌, ◌∙◌, ℕ, zero, suc, ◌+◌, ◌-◌, ◌<◌, ◌≤◌, ◌⊎◌, inl, inr, Bool, true, false, List, [], ◌∷◌, map, Option, Some, None, refl, sym, ap, subst, arith}
+use Rattle.std.proofs.Common.{◌≡◌, ◌∙◌, ℕ, zero, suc, ◌+◌, ◌-◌, ◌<◌, ◌≤◌, ◌⊎◌, inl, inr, Bool, true, false, List, [], ◌∷◌, map, Some, None, refl, sym, ap, subst, arith}
 use Rattle.std.specs.Prelude.{◌==◌, ◌&&◌, fold, not, cond, is_none}
 use Rattle.std.specs.List.{AllZip}
 use Rattle.std.proofs.lemmas.List.Elements.{All-map, All-weaker}
@@ -11,12 +11,11 @@ use Rattle.task_table.specs.model.Reading.{chosen}
 use Rattle.task_table.specs.model.Start.{begun as begun_turn}
 use Rattle.task_table.specs.model.Sane.{Sane}
 use Rattle.mem_banks.specs.Memory.{byte_at}
-use Rattle.board_model.specs.declared.outcomes.End.{End}
 use Rattle.board_model.specs.declared.outcomes.End.TheVariants.{Bound}
 use Rattle.board_model.specs.declared.outcomes.Level.TheVariants.{Calls}
 use Rattle.board_model.specs.declared.outcomes.Turned.{Turned}
 use Rattle.board_model.specs.Laid.{with_script}
-use Rattle.board_model.specs.Run.{end_by, ending, is_down, is_still, state_after, turn_after}
+use Rattle.board_model.specs.Run.{end_by, ending, is_down, is_still, state_after}
 use Rattle.board_model.specs.SameScripts.{AgreeFor}
 use Rattle.board_model.specs.Script.{Scenario}
 use Rattle.board_model.specs.Turn.{after_events, happened, turn, turned, turned_of}
@@ -24,7 +23,6 @@ use Rattle.board_model.proofs.Counts.{turn_more}
 use Rattle.board_model.proofs.Further.{last_turn}
 use Rattle.board_model.proofs.RunKeeps.{sane_turns}
 use Rattle.board_model.proofs.SameScripts.{same_turn}
-use Rattle.board_model.proofs.TurnChains.{sane-after}
 use Rattle.board_core.specs.declared.board.Board.{Board}
 use Rattle.board_core.specs.Data.{Shows}
 use Rattle.board_core.specs.Stands.{Stands, turns_of}
@@ -34,7 +32,7 @@ use Rattle.run_question.specs.declared.asked.Property.TheVariants as property
 use Rattle.explore_core.specs.declared.verdict.Verdict.{Verdict}
 use Rattle.explore_core.specs.declared.verdict.Verdict.TheVariants as verdict
 use Rattle.explore_core.specs.Asked.{is_some_other}
-use Rattle.explore_core.specs.Kept.{broken_from, broken_if, by_turn, from_standing, on_state, owed_on, tells_such, unless_ended}
+use Rattle.explore_core.specs.Kept.{broken_if, by_turn, on_state, owed_on, tells_such}
 use Rattle.explore_core.specs.Playing.{HasKept, HasPlayed, IsKept, IsPlaying, IsThrough, after_turns, stepped_after}
 use Rattle.explore_core.specs.There.{AreThere}
 use Rattle.explore_core.specs.Verdicts.{broken_by, stepped, unless_broken}

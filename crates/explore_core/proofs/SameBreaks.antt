@@ -1,8 +1,8 @@
 -- A run breaks a property in the same turn with each script in which the same happens from there on.
-use Rattle.std.proofs.Common.{◌≡◌, ◌∙◌, ℕ, zero, suc, ◌+◌, ◌≤◌, Bool, true, false, Option, Some, None, refl, sym, ap, arith}
+use Rattle.std.proofs.Common.{◌≡◌, ◌∙◌, ℕ, zero, suc, ◌≤◌, Bool, true, false, Option, None, refl, ap, arith}
 use Rattle.std.specs.Prelude.{◌&&◌, not, is_none}
-use Rattle.run_script.specs.Scripts.{ScriptData, events_of, lasts}
-use Rattle.task_table.specs.model.State.{State, Turn}
+use Rattle.run_script.specs.Scripts.{ScriptData, lasts}
+use Rattle.task_table.specs.model.State.{State}
 use Rattle.task_table.specs.model.Reading.{chosen}
 use Rattle.task_table.specs.model.Sane.{Sane}
 use Rattle.board_model.specs.declared.outcomes.End.{End}

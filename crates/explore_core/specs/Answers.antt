@@ -3,8 +3,9 @@ use Rattle.std.specs.Prelude.{ℕ, ◌≡◌, ◌==◌, Bool, nat_le, nat_lt, if
 use Rattle.std.specs.List.{flat_map, list_any}
 use Rattle.std.specs.Option.{option_or}
 use Rattle.run_script.specs.declared.events.Event.{Event}
-use Rattle.run_script.specs.declared.events.Event.TheVariants.{Tick, Irq, Feed}
+use Rattle.run_script.specs.declared.events.Event.TheVariants.{Feed}
 use Rattle.run_script.specs.Scripts.{Listed, ScriptData}
+use Rattle.run_script.specs.Texts.{script_text}
 pub use Rattle.run_question.specs.Questions.{Question, Stated}
 use Rattle.board_model.specs.Script.{Scenario}
 use Rattle.run_question.specs.declared.asked.Property.{Property}
@@ -76,22 +77,6 @@ answer_to a p None = kept_line (is_asked a p.property) p.words
 answer_to a p (Some schedule) = broken_line p.words (turn_or_none (breaks_in a p.property schedule)) (schedule_words a.question.arrivals schedule)
 
 -- ## the script of a schedule
-
-abbrev pub event_words : Event → List ℕ
-event_words Tick = codes " tick"
-event_words (Irq line) = codes " irq " ++ decimal line
-event_words (Feed device byte) = codes " in " ++ decimal device ++ codes " " ++ decimal byte
-
-unfoldable pub event_line : Listed → List ℕ
-event_line d = codes "at " ++ decimal d.0 ++ event_words d.1 ++ codes "\n"
-
-abbrev pub every_line : Option ℕ → List ℕ
-every_line None = []
-every_line (Some period) = codes "every " ++ decimal period ++ codes " tick\n"
-
--- the events by their turns
-unfoldable pub script_text : ScriptData → List ℕ
-script_text script = every_line script.every ++ flat_map event_line script.events
 
 -- a script with one event more, behind those of its turn and of the turns before, as its text lists them
 abbrev pub listed_in : List Listed → Listed → List Listed

@@ -1,6 +1,6 @@
 -- Where an exploration is: on the way through all schedules, with a board before a turn, and with states from which nothing is broken that is still
 -- looked for.
-use Rattle.std.specs.Prelude.{ℕ, ◌≡◌, ◌<◌, ◌≤◌, ◌+◌, ◌-◌, ◌/◌, ◌%◌, ◌^◌, ◌==◌, ⊤, true, List, [], ◌∷◌, ◌++◌, length, map, filter, find, slice_index_or, Contains, Option, Some, None, is_some}
+use Rattle.std.specs.Prelude.{ℕ, ◌≡◌, ◌<◌, ◌≤◌, ◌+◌, ◌-◌, ◌==◌, ⊤, true, List, [], ◌∷◌, ◌++◌, length, map, find, slice_index_or, Contains, Option, Some, None, is_some}
 use Rattle.std.specs.Option.{option_map, option_or}
 use Rattle.std.specs.List.{All, AllZip}
 use Rattle.run_script.specs.Events.{script_data}
@@ -11,12 +11,8 @@ use Rattle.board_core.specs.declared.board.Board.{Board}
 use Rattle.board_core.specs.Data.{Shows}
 use Rattle.board_core.specs.Stands.{Stands, script_of}
 use Rattle.snapshot.specs.Loaded.{sites}
-use Rattle.run_question.specs.declared.asked.Property.{Property}
-use Rattle.explore_core.specs.declared.seen.Seen.{Seen}
-use Rattle.explore_core.specs.declared.seen.Slot.{Slot}
 use Rattle.explore_core.specs.declared.verdict.Verdict.TheVariants.{Broken}
 use Rattle.explore_core.specs.Answers.{Asking}
-use Rattle.explore_core.specs.Clean.{AreClean}
 use Rattle.explore_core.specs.Over.{IsOver}
 use Rattle.explore_core.specs.Schedules.{Arrival, Coming, Schedule, choices, scheduled, schedules}
 use Rattle.explore_core.specs.Walked.{Course, Placed, comes_at, courses, courses_in, end_of, placed, schedule_of}
@@ -108,31 +104,7 @@ pub record GoesOnTo (a : Asking) (f g : Fork) (s u : State) (old new : List Judg
 abbrev pub IsOverBefore : ℕ → Course → Type 0
 IsOverBefore turn came = All (λ c. IsOver turn (Some c.1)) came
 
--- ## states that were seen
-
--- the arrivals of which a number has a bit, the lowest one for the first
-abbrev pub pending_of : Asking → ℕ → List Placed
-pending_of a bits = filter (λ p. bits / 2 ^ p.0 % 2 == 1) (placed a.question.arrivals 0)
-
--- nothing that is looked for is broken from a state that a slot has
-abbrev pub IsCleanSlot : Asking → List (ℕ × Property) → Slot → Type 0
-IsCleanSlot a looked_for slot = slot.used ≡ true → AreClean a looked_for (pending_of a slot.pending) slot.kept slot.state.items
-
-abbrev pub IsSeen : Asking → List (ℕ × Property) → Seen → Type 0
-IsSeen a looked_for seen = All (IsCleanSlot a looked_for) seen.slots.items
-
--- ## what is found of a property
-
--- with no schedule that breaks it, it is still looked for; with a first one, that is written down, and the turn in which it does
-abbrev pub IsDecidedBy : Asking → State → Judged → Judged → Option Schedule → Option Schedule → Option Schedule → Type 0
-IsDecidedBy a s old new before after None = (is_open new.1 ≡ true) × (after ≡ before)
-IsDecidedBy a s old new before after (Some schedule) = (after ≡ Some schedule) × ((turn : ℕ) × (new.1 ≡ Broken turn) × (decided a old s schedule ≡ Some turn))
-
--- some schedules were gone through from s, of which this is the first that breaks the property. What was broken before stays so
-pub record IsDecided (a : Asking) (s : State) (old new : Judged) (before after first : Option Schedule) : Type 0 where
-  pub property : new.0 ≡ old.0
-  pub broken : (turn : ℕ) → old.1 ≡ Broken turn → (new.1 ≡ Broken turn) × (after ≡ before)
-  pub looked : is_open old.1 ≡ true → IsDecidedBy a s old new before after first
+-- ## back at a fork
 
 -- the board is back at a fork: of what is still looked for as much is kept again
 pub record IsBack (old now back : Judged) : Type 0 where

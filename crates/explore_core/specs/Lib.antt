@@ -14,3 +14,10 @@ pub mod Verdicts
 pub mod Watching
 pub mod Playing
 pub mod Exploring
+pub mod Fine
+pub mod Ways
+pub mod Parties
+pub mod Found
+pub mod Searching
+pub mod Refusals
+pub mod Telling

@@ -1,5 +1,5 @@
 -- A board that goes on while properties are watched.
-use Rattle.std.specs.Prelude.{ℕ, zero, suc, ◌≡◌, ◌-◌, ◌<◌, ◌≤◌, ◌⊎◌, true, false, List, map, Option, None, IsSome}
+use Rattle.std.specs.Prelude.{ℕ, zero, suc, ◌≡◌, ◌-◌, ◌<◌, ◌≤◌, ◌⊎◌, true, false, List, map, None, IsSome}
 use Rattle.std.specs.List.{AllZip}
 use Rattle.task_table.specs.model.State.{State}
 use Rattle.run_script.specs.Scripts.{ScriptData}

@@ -1,7 +1,6 @@
 -- What may come from outside besides a script, and the schedules of it (docs/EXPLORE.md, Question).
-use Rattle.std.specs.Prelude.{ℕ, ◌-◌, ◌*◌, Bool, if◌then◌else◌, List, [], ◌∷◌, ◌++◌, length, map, Option, Some, None}
+use Rattle.std.specs.Prelude.{ℕ, ◌-◌, ◌*◌, if◌then◌else◌, List, [], ◌∷◌, ◌++◌, length, map, Option, Some, None}
 use Rattle.std.specs.List.{flat_map, range_with_len}
-use Rattle.run_script.specs.declared.events.Event.{Event}
 use Rattle.run_script.specs.Scripts.{Listed}
 pub use Rattle.run_question.specs.Questions.{Arrival, Offer}
 use Rattle.board_model.specs.Laid.{postponed, with_script}

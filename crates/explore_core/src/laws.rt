@@ -1,5 +1,5 @@
 //! Laws of schedules and of what is asked of them. Nothing runs here.
-ghost use Rattle.std.specs.Prelude.{◌≡◌, ◌≤◌, ◌+◌, ℕ, List, [], ◌∷◌, length};
+ghost use Rattle.std.specs.Prelude.{◌≡◌, ◌≤◌, ◌+◌, ℕ, List, [], ◌∷◌, length, Ok};
 ghost use Rattle.std.specs.List.Sorted.{IsPermutation};
 ghost use Rattle.task_table.specs.model.State.{State};
 ghost use Rattle.task_table.specs.model.Sane.{Sane, IsCounted};
@@ -12,12 +12,21 @@ ghost use Rattle.explore_core.specs.Answers.{Asking, in_order};
 ghost use Rattle.snapshot.specs.Loaded.{sites};
 ghost use Rattle.snapshot.specs.Saved.{SpellsState};
 ghost use Rattle.run_question.specs.declared.asked.Property.{Property as Asked};
+ghost use Rattle.run_question.specs.Questions.{Question};
+ghost use Rattle.run_question.specs.Reading.{question_or_fault};
 ghost use Rattle.explore_core.specs.Asked.{broken_in};
 ghost use Rattle.explore_core.specs.Clean.{AreClean, IsClean};
+ghost use Rattle.explore_core.specs.Fine.{IsFine};
 ghost use Rattle.explore_core.specs.Kept.{broken_from, broken_kept};
 ghost use Rattle.explore_core.specs.Over.{AreSameFrom};
 ghost use Rattle.explore_core.specs.Schedules.{Arrival, Schedule, how_many, scheduled, schedules};
 ghost use Rattle.explore_core.specs.Walked.{Placed};
+
+/// A question that is read has an event in each offer and an offer in each arrival, ranges that
+/// are not empty, and few enough of all; and its events are ones that a board takes.
+pub fn questions_that_are_read_are_fine()
+    ensures { (bytes : List ℕ) (q : Question) → question_or_fault bytes ≡ Ok q → IsFine q }
+{}
 
 /// There are as many schedules as the ways of each arrival multiplied make.
 #[tactic(auto, using(crate::proofs::Counting::schedules_counted))]

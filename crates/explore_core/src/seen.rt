@@ -5,12 +5,13 @@ ghost use Rattle.std.specs.Prelude.{◌<◌, vec_len};
 /// How many properties are looked for at most.
 pub(crate) const MOST: usize = 16;
 
-/// A state in bytes, which arrivals are still to come from there, one bit each, and what was kept
-/// of the run for each property.
+/// A state in bytes, of a run before a turn, which arrivals are still to come from there, and what
+/// was kept of the run for each property.
 #[derive(Drop)]
 pub(crate) struct Slot {
     pub(crate) used: bool,
-    pub(crate) pending: u8,
+    pub(crate) turn: u32,
+    pub(crate) pending: [bool; 8],
     pub(crate) kept: [u32; 16],
     pub(crate) state: Vec<u8>,
 }

@@ -1,4 +1,4 @@
-use Rattle.std.proofs.Common.{◌∙◌, ◌≡◌, ℕ, ◌<◌, ◌≤◌, List, length, length-set, get_or, Option, Some, None, inl, inr, ◌⊎◌, refl, sym, ap, subst, below_more, arith, vec_len}
+use Rattle.std.proofs.Common.{◌∙◌, ◌≡◌, ◌<◌, length, length-set, Option, Some, None, inl, inr, refl, sym, ap, below_more, arith}
 use Rattle.std.specs.Prelude.{option_map, slice_get, slice_index}
 use Rattle.std.proofs.lemmas.Bool.{cases_lt}
 use Rattle.explore_core.specs.declared.watch.Watched.{Watched}

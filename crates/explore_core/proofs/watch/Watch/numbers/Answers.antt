@@ -1,8 +1,6 @@
-use Rattle.std.proofs.Common.{◌∙◌, ◌≡◌, ℕ, ◌<◌, List, length, length-set, map, get_or, get_or-set_other, get_or-set_same, inl, inr, ◌⊎◌, refl, sym, ap, subst, below_more, arith}
-use Rattle.std.specs.Prelude.{slice_index}
+use Rattle.std.proofs.Common.{◌∙◌, ◌<◌, List, length, length-set, get_or-set_other, get_or-set_same, inl, inr, refl, ap, below_more, arith}
 use Rattle.std.proofs.lemmas.Bool.{cases_lt}
 use Rattle.explore_core.specs.declared.watch.Watched.{Watched}
-use Rattle.explore_core.specs.Watching.{judged, number_at, watched_of}
 use Rattle.explore_core.proofs.Watched.{all_zero, none_there, number_in_same}
 use Rattle.explore_core.proofs.watch.Watch.numbers.Goals as goal
 

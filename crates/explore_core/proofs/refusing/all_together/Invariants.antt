@@ -1,0 +1,7 @@
+use Rattle.std.proofs.Common.{◌≡◌, ◌+◌, length, map, sum_by, take}
+use Rattle.run_script.specs.Events.{script_data}
+use Rattle.run_question.specs.Questions.{Arrival, arrival_data}
+use Rattle.explore_core.proofs.refusing.all_together.Given as goal
+
+abbrev pub invariant-loop-arrival : goal.invariant-loop-arrival
+invariant-loop-arrival l = l.count ≡ length (script_data l.script).events + sum_by (λ (a : Arrival). length a.offers) (take l.arrival-index (map arrival_data l.arrivals))
